@@ -1,0 +1,5 @@
+pub mod Lexical
+pub mod Form
+pub mod Reading
+pub mod View
+pub mod Walk

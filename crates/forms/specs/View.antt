@@ -1,0 +1,16 @@
+-- The tokens of the code as tokens of a grammar.
+use Rattle.std.specs.Prelude.{◌≡◌, ◌-◌, ℕ, List, ◌++◌, map, take, drop}
+use Rattle.forms.specs.declared.Token.{Token}
+use Rattle.forms.specs.Form.{Lexeme}
+
+-- a token of a text: its kind, and the bytes from its start to its end
+abbrev pub lexeme_in : List ℕ → Token → Lexeme
+lexeme_in text t = record { kind = t.kind; text = take (t.end - t.start) (drop t.start text) }
+
+abbrev pub lexemes : List ℕ → List Token → List Lexeme
+lexemes text ts = map (lexeme_in text) ts
+
+-- a list of which another is a front
+pub record Extends {A : Type 0} (front whole : List A) : Type 0 where
+  pub more : List A
+  pub parts : whole ≡ front ++ more
