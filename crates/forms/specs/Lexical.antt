@@ -126,15 +126,15 @@ next_line [] = []
 next_line (c ∷ cs) = if (c == 10) || (c == 13) then cs else next_line cs
 
 -- from left to right, the tokens of a text up to a rest of it
-pub data Reads : List ℕ → List Lexeme → List ℕ → Type 0 where
-  here : {text : List ℕ} → Reads text [] text
-  space : (c : ℕ) {cs rest : List ℕ} {ts : List Lexeme} → is_space c ≡ true → Reads cs ts rest → Reads (c ∷ cs) ts rest
-  comment : (c : ℕ) {cs rest : List ℕ} {ts : List Lexeme} → c ≡ 59 → Reads (next_line cs) ts rest → Reads (c ∷ cs) ts rest
-  token : {text : List ℕ} (kind : TokenKind) (word : List ℕ) {behind rest : List ℕ} {ts : List Lexeme} → Longest text kind word behind → Reads behind ts rest → Reads text (record { kind = kind; text = word } ∷ ts) rest
+pub data LexesTo : List ℕ → List Lexeme → List ℕ → Type 0 where
+  here : {text : List ℕ} → LexesTo text [] text
+  space : (c : ℕ) {cs rest : List ℕ} {ts : List Lexeme} → is_space c ≡ true → LexesTo cs ts rest → LexesTo (c ∷ cs) ts rest
+  comment : (c : ℕ) {cs rest : List ℕ} {ts : List Lexeme} → c ≡ 59 → LexesTo (next_line cs) ts rest → LexesTo (c ∷ cs) ts rest
+  token : {text : List ℕ} (kind : TokenKind) (word : List ℕ) {behind rest : List ℕ} {ts : List Lexeme} → Longest text kind word behind → LexesTo behind ts rest → LexesTo text (record { kind = kind; text = word } ∷ ts) rest
 
 -- the tokens of a text
 abbrev pub Lexes : List ℕ → List Lexeme → Type 0
-Lexes text ts = Reads text ts []
+Lexes text ts = LexesTo text ts []
 
 -- the same with the places of the tokens, in a text of this size
 pub data Places (size : ℕ) : List ℕ → List Token → List ℕ → Type 0 where
@@ -151,7 +151,7 @@ is_blank (c ∷ cs) = is_space c || (c == 59)
 -- the text is read up to this place, where no token begins
 pub record StopsAt (text : List ℕ) (place : ℕ) : Type 0 where
   pub before : List Lexeme
-  pub reads : Reads text before (drop place text)
+  pub reads : LexesTo text before (drop place text)
   pub within : place < length text
   pub filled : is_blank (drop place text) ≡ false
   pub none : NoToken (drop place text)
