@@ -1,8 +1,8 @@
 -- Reading a form from left to right, with one token ahead.
-use Rattle.std.specs.Prelude.{◌≡◌, ℕ, zero, suc, Bool, true, false, not, ◌&&◌, ◌||◌, List, [], ◌∷◌, ◌++◌, length, Option, Some, None, ◌==◌, if◌then◌else◌}
+use Rattle.std.specs.Prelude.{ℕ, zero, suc, Bool, true, false, not, ◌&&◌, ◌||◌, List, [], ◌∷◌, ◌++◌, length, Option, Some, None, ◌==◌, if◌then◌else◌}
 use Rattle.forms.specs.declared.TokenKind.{TokenKind}
 use Rattle.forms.specs.declared.TokenKind.TheVariants.{Word, Equal}
-use Rattle.forms.specs.Form.{kind_code, is_closer, is_empty, step, has_kind, Stops, stops_at, Lexeme, Form, exactly, one, one_but, ahead, enclosed, up_to, pair, greedy, either, mapped, made, optional, many, by_word, same_text, is_one_of, entry}
+use Rattle.forms.specs.Form.{kind_code, is_closer, is_empty, step, has_kind, Stops, stops_at, Lexeme, Form, exactly, one, one_but, ahead, enclosed, up_to, pair, either, mapped, made, optional, many, by_word, same_text, is_one_of, entry}
 
 infixl 10 ◌>>=◌
 abbrev pub ◌>>=◌ : {A B : Type 0} → Option A → (A → Option B) → Option B
@@ -44,7 +44,6 @@ nullable (ahead k f) = false
 nullable (enclosed o c) = false
 nullable (up_to st) = true
 nullable (pair f g) = nullable f && nullable g
-nullable (greedy f g) = nullable f && nullable g
 nullable (either f g) = nullable f || nullable g
 nullable (mapped h f) = nullable f
 nullable (made h f) = nullable f
@@ -81,7 +80,6 @@ first (up_to st) = going_on (at_once st) ∷ []
 first (one_but k ws) = any_but k ws ∷ []
 first (ahead k f) = if nullable f then any_of k ∷ [] else marks_then k (first f)
 first (pair f g) = first f ++ (if nullable f then first g else [])
-first (greedy f g) = first f ++ (if nullable f then first g else [])
 first (either f g) = first f ++ first g
 first (mapped h f) = first f
 first (made h f) = first f
@@ -98,7 +96,6 @@ after (up_to st) = going_on st ∷ []
 after (one_but k ws) = []
 after (ahead k f) = after f
 after (pair f g) = after g ++ (if nullable g then after f else [])
-after (greedy f g) = after g
 after (either f g) = after f ++ after g
 after (mapped h f) = after f
 after (made h f) = after f
@@ -153,7 +150,6 @@ read (up_to st) ts = read_up_to st [] ts
 read (one_but k ws) ts = read_one_but k ws ts
 read (ahead k f) ts = read_pair (read_one k) (read f) ts
 read (pair f g) ts = read_pair (read f) (read g) ts
-read (greedy f g) ts = read_pair (read f) (read g) ts
 read (either f g) ts = if opens f ts then read f ts else read g ts
 read (mapped h f) ts = read f ts >>= λ x. Some (h x.0, x.1)
 read (made h f) ts = read f ts >>= λ x. h x.0 >>= λ b. Some (b, x.1)
