@@ -3,3 +3,4 @@ pub mod Form
 pub mod Reading
 pub mod View
 pub mod Walk
+pub mod Gives

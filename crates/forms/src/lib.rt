@@ -1,6 +1,10 @@
 //! Tokens as data, and a grammar of them as data.
 #![tactic(auto)]
 
+mod cursor;
+
+pub use cursor::{Cursor, SyntaxFault};
+
 /// What a token is: one variant a row of the table of tokens, and one a punctuation mark.
 #[derive(Clone, Copy, Debug, PartialEq, Eq)]
 pub enum TokenKind {

@@ -1,0 +1,3 @@
+pub mod SameNames
+pub mod NameAt
+pub mod Decides

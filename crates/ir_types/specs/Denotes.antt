@@ -1,0 +1,42 @@
+-- Which tree a module denotes: each position replaced by what it names.
+use Rattle.std.specs.Prelude.{◌≡◌, ℕ, List, map, Option}
+use Rattle.std.specs.Option.{option_map}
+use Rattle.std.specs.List.{AllByRecursion}
+use Rattle.ir_types.specs.declared.name.Name.{Name}
+use Rattle.ir_types.specs.declared.name.ValueId.{ValueId}
+use Rattle.ir_types.specs.declared.inst.Operand.{Operand}
+use Rattle.ir_types.specs.declared.inst.Operand.TheVariants.{Local, Int}
+use Rattle.ir_types.specs.declared.inst.Inst.{Inst}
+use Rattle.ir_types.specs.declared.module.Block.{Block}
+use Rattle.ir_types.specs.declared.module.Param.{Param}
+use Rattle.ir_types.specs.declared.module.Function.{Function}
+use Rattle.ir_types.specs.declared.module.Module.{Module}
+use Rattle.ir_types.specs.Names.{name_at, IsTable}
+use Rattle.ir_types.specs.Tree.{OperandTree, local, number, InstTree, BlockTree, ParamTree, FunctionTree, ModuleTree}
+
+abbrev pub name_in : List Name → ValueId → Name
+name_in ns i = name_at ns i.0
+
+abbrev pub operand_in : List Name → Operand → OperandTree
+operand_in ns (Local i) = local (name_in ns i)
+operand_in ns (Int n) = number n
+
+abbrev pub inst_in : List Name → Inst → InstTree
+inst_in ns i = record { kind = i.kind; ty = i.ty; args = map (operand_in ns) i.args; labels = map (name_in ns) i.labels; result = option_map (name_in ns) i.result }
+
+abbrev pub block_in : List Name → Block → BlockTree
+block_in ns b = record { name = name_in ns b.name; insts = map (inst_in ns) b.insts }
+
+abbrev pub param_in : List Name → Param → ParamTree
+param_in ns p = record { ty = p.ty; name = name_in ns p.name }
+
+abbrev pub tree_of_function : Function → FunctionTree
+tree_of_function f = record { name = f.name; ret = f.ret; params = map (param_in f.names) f.params; body = map (block_in f.names) f.body }
+
+abbrev pub tree_of : Module → ModuleTree
+tree_of m = record { functions = map tree_of_function m.functions }
+
+-- the module says what the tree says, and no list of names has a name twice
+pub record Denotes (m : Module) (tree : ModuleTree) : Type 0 where
+  pub says : tree_of m ≡ tree
+  pub tables : AllByRecursion (λ f. IsTable f.names) m.functions

@@ -1,0 +1,230 @@
+-- The grammar of modules.
+use Rattle.std.specs.Prelude.{ℕ, List, [], ◌∷◌, ◌++◌, map, codes, Option, Some, None}
+use Rattle.forms.specs.declared.TokenKind.{TokenKind}
+use Rattle.forms.specs.declared.TokenKind.TheVariants.{Local, Global, Label, Word, Number, Equal, Comma, LeftParen, RightParen, LeftBracket, RightBracket, LeftBrace, RightBrace}
+use Rattle.forms.specs.Form.{Form, exactly, one, ahead, pair, either, mapped, made, optional, many, by_word}
+use Rattle.forms.specs.Reading.{◌>>=◌}
+use Rattle.forms.specs.Gives.{mark}
+use Rattle.ir_types.specs.declared.name.Name.{Name}
+use Rattle.ir_types.specs.declared.inst.Ty.{Ty}
+use Rattle.ir_types.specs.declared.inst.Ty.TheVariants.{Int, Void}
+use Rattle.ir_types.specs.declared.inst.BinOp.{BinOp}
+use Rattle.ir_types.specs.declared.inst.BinOp.TheVariants.{Add}
+use Rattle.ir_types.specs.declared.inst.Pred.{Pred}
+use Rattle.ir_types.specs.declared.inst.Pred.TheVariants.{Eq, Ne, Ugt, Uge, Ult, Ule, Sgt, Sge, Slt, Sle}
+use Rattle.ir_types.specs.declared.inst.InstKind.TheVariants as kinds
+use Rattle.ir_types.specs.declared.opcode.Operation.{Operation}
+use Rattle.ir_types.specs.declared.opcode.Operation.TheVariants as operations
+use Rattle.ir_types.specs.declared.opcode.Terminator.{Terminator}
+use Rattle.ir_types.specs.declared.opcode.Terminator.TheVariants as terminators
+use Rattle.ir_types.specs.Written.{number_at, name_behind, name_before}
+use Rattle.ir_types.specs.Tree.{OperandTree, local, number, InstTree, WrittenParam, WrittenBlock, WrittenFunction, WrittenModule}
+
+-- ---- forms that are used in many places
+
+-- a word that stands for a value
+abbrev pub word : {A : Type 0} → List ℕ → A → Form A
+word w a = mapped (λ _. a) (exactly Word w)
+
+-- a form behind a word
+abbrev pub behind : {A : Type 0} → List ℕ → Form A → Form A
+behind w f = mapped (λ x. x.1) (pair (exactly Word w) f)
+
+-- a form behind a mark
+abbrev pub after_mark : {A : Type 0} → TokenKind → Form A → Form A
+after_mark k f = mapped (λ x. x.1) (pair (mark k) f)
+
+-- a form between two marks
+abbrev pub between : {A : Type 0} → TokenKind → TokenKind → Form A → Form A
+between o c f = mapped (λ x. x.1.0) (pair (mark o) (pair f (mark c)))
+
+-- a form behind a mark, which is read only where the form's beginning stands behind the mark
+abbrev pub marked : {A : Type 0} → TokenKind → Form A → Form A
+marked k f = mapped (λ x. x.1) (ahead k f)
+
+-- at least one
+abbrev pub some : {A : Type 0} → Form A → Form (List A)
+some f = mapped (λ x. x.0 ∷ x.1) (pair f (many f))
+
+-- at least one, parted by commas behind each of which another stands
+abbrev pub commas : {A : Type 0} → Form A → Form (List A)
+commas f = mapped (λ x. x.0 ∷ x.1) (pair f (many (marked Comma f)))
+
+abbrev pub or_none : {A : Type 0} → Option (List A) → List A
+or_none None = []
+or_none (Some xs) = xs
+
+-- parted by commas, or none
+abbrev pub list : {A : Type 0} → Form A → Form (List A)
+list f = mapped or_none (optional (commas f))
+
+-- ---- names, types and values
+
+-- a local name: `%` and a name, a string or digits
+unfoldable pub local_name : Form Name
+local_name = made name_behind (one Local)
+
+-- a global name: `@` and a name, a string or digits
+unfoldable pub global_name : Form Name
+global_name = made name_behind (one Global)
+
+-- a label: a name, a string or digits, and a colon
+unfoldable pub label : Form Name
+label = made name_before (one Label)
+
+-- T := i1 | i32
+unfoldable pub int_type : Form Ty
+int_type = either (word (codes "i1") (Int 1)) (word (codes "i32") (Int 32))
+
+-- a value as it is written
+pub data WrittenValue : Type 0 where
+  named : Name → WrittenValue
+  digits : List ℕ → WrittenValue
+  yes : WrittenValue
+  no : WrittenValue
+
+-- V := %name | number | true | false
+unfoldable pub value : Form WrittenValue
+value =
+    either (mapped named local_name)
+    (either (mapped digits (one Number))
+    (either (word (codes "true") yes) (word (codes "false") no)))
+
+-- the bits of a type's numbers; where there is no width, 64
+abbrev pub width_of : Ty → ℕ
+width_of (Int w) = w
+width_of Void = 64
+
+-- a written value at a type: a number is held modulo 2^w
+abbrev pub operand_at : Ty → WrittenValue → OperandTree
+operand_at t (named n) = local n
+operand_at t (digits s) = number (number_at (width_of t) s)
+operand_at t yes = number 1
+operand_at t no = number 0
+
+-- ---- instructions, without the name of the result
+
+-- V, V
+abbrev pub two_values : Form (WrittenValue × WrittenValue)
+two_values = pair value (after_mark Comma value)
+
+abbrev pub binary_tree : BinOp → Ty × (WrittenValue × WrittenValue) → InstTree
+binary_tree op x = record { kind = kinds.Binary op; ty = x.0; args = operand_at x.0 x.1.0 ∷ operand_at x.0 x.1.1 ∷ []; labels = []; result = None }
+
+-- T V, V
+unfoldable pub binary : BinOp → Form InstTree
+binary op = mapped (binary_tree op) (pair int_type two_values)
+
+-- the ten predicates
+unfoldable pub predicates : List (List ℕ × Pred)
+predicates =
+    (codes "eq", Eq) ∷
+    (codes "ne", Ne) ∷
+    (codes "ugt", Ugt) ∷
+    (codes "uge", Uge) ∷
+    (codes "ult", Ult) ∷
+    (codes "ule", Ule) ∷
+    (codes "sgt", Sgt) ∷
+    (codes "sge", Sge) ∷
+    (codes "slt", Slt) ∷
+    (codes "sle", Sle) ∷
+    []
+
+abbrev pub compare_tree : Pred → Ty × (WrittenValue × WrittenValue) → InstTree
+compare_tree p x = record { kind = kinds.Compare p x.0; ty = Int 1; args = operand_at x.0 x.1.0 ∷ operand_at x.0 x.1.1 ∷ []; labels = []; result = None }
+
+-- T V, V behind the predicate
+unfoldable pub compared : Pred → Form InstTree
+compared p = mapped (compare_tree p) (pair int_type two_values)
+
+-- pred T V, V
+unfoldable pub compare : Form InstTree
+compare = by_word predicates compared
+
+-- [ V, %name ]
+unfoldable pub entry_of_phi : Form (WrittenValue × Name)
+entry_of_phi = between LeftBracket RightBracket (pair value (after_mark Comma local_name))
+
+abbrev pub phi_tree : Ty × List (WrittenValue × Name) → InstTree
+phi_tree x = record { kind = kinds.Phi; ty = x.0; args = map (λ e. operand_at x.0 e.0) x.1; labels = map (λ e. e.1) x.1; result = None }
+
+-- T [ V, %name ], ..
+unfoldable pub phi : Form InstTree
+phi = mapped phi_tree (pair int_type (commas entry_of_phi))
+
+-- label %name
+unfoldable pub target : Form Name
+target = behind (codes "label") local_name
+
+abbrev pub jump_tree : Name → InstTree
+jump_tree l = record { kind = kinds.Jump; ty = Void; args = []; labels = l ∷ []; result = None }
+
+abbrev pub branch_tree : WrittenValue × (Name × Name) → InstTree
+branch_tree x = record { kind = kinds.Branch; ty = Void; args = operand_at (Int 1) x.0 ∷ []; labels = x.1.0 ∷ x.1.1 ∷ []; result = None }
+
+-- label %name | i1 V, label %name, label %name
+unfoldable pub branch : Form InstTree
+branch = either (mapped jump_tree target) (mapped branch_tree (behind (codes "i1") (pair value (pair (after_mark Comma target) (after_mark Comma target)))))
+
+abbrev pub return_tree : Ty × WrittenValue → InstTree
+return_tree x = record { kind = kinds.Return x.0; ty = Void; args = operand_at x.0 x.1 ∷ []; labels = []; result = None }
+
+-- T V
+unfoldable pub return : Form InstTree
+return = mapped return_tree (pair int_type value)
+
+-- the words with which an instruction begins that doesn't end a block
+unfoldable pub operation_words : List (List ℕ × Operation)
+operation_words = (codes "add", operations.Add) ∷ (codes "icmp", operations.Icmp) ∷ (codes "phi", operations.Phi) ∷ []
+
+-- what is behind such a word
+abbrev pub operation_behind : Operation → Form InstTree
+operation_behind operations.Add = binary Add
+operation_behind operations.Icmp = compare
+operation_behind operations.Phi = phi
+
+unfoldable pub operation : Form InstTree
+operation = by_word operation_words operation_behind
+
+-- the words with which a terminator begins
+unfoldable pub terminator_words : List (List ℕ × Terminator)
+terminator_words = (codes "br", terminators.Br) ∷ (codes "ret", terminators.Ret) ∷ []
+
+abbrev pub terminator_behind : Terminator → Form InstTree
+terminator_behind terminators.Br = branch
+terminator_behind terminators.Ret = return
+
+unfoldable pub terminator : Form InstTree
+terminator = by_word terminator_words terminator_behind
+
+-- ---- blocks, functions and modules
+
+abbrev pub with_result : List ℕ × (List ℕ × InstTree) → Option InstTree
+with_result x = name_behind x.0 >>= λ n. Some (record { kind = x.1.1.kind; ty = x.1.1.ty; args = x.1.1.args; labels = x.1.1.labels; result = Some n })
+
+-- [%name =] and the instruction
+abbrev pub line : Form InstTree → Form InstTree
+line f = either (made with_result (ahead Local (ahead Equal f))) f
+
+abbrev pub block_tree : Option Name × (List InstTree × InstTree) → WrittenBlock
+block_tree x = record { label = x.0; insts = x.1.0 ++ x.1.1 ∷ [] }
+
+-- [label] line .., the last one a terminator's and no other
+unfoldable pub block : Form WrittenBlock
+block = mapped block_tree (pair (optional label) (pair (many (line operation)) (line terminator)))
+
+-- T [%name]
+unfoldable pub parameter : Form WrittenParam
+parameter = mapped (λ x. record { ty = x.0; name = x.1 }) (pair int_type (optional local_name))
+
+abbrev pub function_tree : Ty × (Name × (List WrittenParam × List WrittenBlock)) → WrittenFunction
+function_tree x = record { name = x.1.0; ret = x.0; params = x.1.1.0; body = x.1.1.1 }
+
+-- define T @name ( [T [%name], ..] ) { block.. }
+unfoldable pub function : Form WrittenFunction
+function =
+    mapped function_tree (behind (codes "define") (pair int_type (pair global_name (pair (between LeftParen RightParen (list parameter)) (between LeftBrace RightBrace (some block))))))
+
+-- item ..
+unfoldable pub module_form : Form WrittenModule
+module_form = mapped (λ fs. record { functions = fs }) (many function)

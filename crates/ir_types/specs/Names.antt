@@ -1,0 +1,20 @@
+-- What a table of names is, and what adding a name does to it.
+use Rattle.std.specs.Prelude.{ℕ, zero, suc, ◌≡◌, ◌≢◌, ◌^◌, ◌<◌, ◌⊎◌, List, [], ◌∷◌, ◌++◌, length, Contains, AllPairs}
+use Rattle.ir_types.specs.declared.name.Name.{Name}
+use Rattle.ir_types.specs.declared.name.Name.TheVariants.{Number}
+
+-- no name stands twice, and each place fits 32 bits
+pub record IsTable (names : List Name) : Type 0 where
+  pub distinct : AllPairs (λ x y. x ≢ y) names
+  pub small : length names < 2 ^ 32
+
+-- the table stays where it has the name, and has it at its end where it lacked it
+abbrev pub Adds : List Name → Name → List Name → Type 0
+Adds old name new =
+    (Contains old name × (new ≡ old)) ⊎ ((¬ Contains old name) × (new ≡ old ++ name ∷ []))
+
+-- the name at a place; where there is none, a number that no name has
+abbrev pub name_at : List Name → ℕ → Name
+name_at [] i = Number (2 ^ 32)
+name_at (n ∷ ns) zero = n
+name_at (n ∷ ns) (suc i) = name_at ns i

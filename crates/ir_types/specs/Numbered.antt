@@ -1,0 +1,46 @@
+-- Things without a name take numbers: parameters first, then the blocks in the text's order, each before its results.
+use Rattle.std.specs.Prelude.{ℕ, ◌+◌, ◌^◌, max, nat_lt, List, Option, Some, None, if◌then◌else◌}
+use Rattle.forms.specs.Reading.{◌>>=◌}
+use Rattle.forms.specs.Walk.{walk}
+use Rattle.ir_types.specs.declared.name.Name.{Name}
+use Rattle.ir_types.specs.declared.name.Name.TheVariants.{Text, Number}
+use Rattle.ir_types.specs.declared.inst.Ty.{Ty}
+use Rattle.ir_types.specs.declared.inst.Ty.TheVariants.{Int, Void}
+use Rattle.ir_types.specs.Tree.{InstTree, BlockTree, ParamTree, FunctionTree, ModuleTree, WrittenParam, WrittenBlock, WrittenFunction, WrittenModule}
+
+-- the number for the next thing without a name, behind a name: one more than the greatest number so far, and 0 at first
+abbrev pub next_after : ℕ → Name → ℕ
+next_after next (Text s) = next
+next_after next (Number n) = max next (n + 1)
+
+-- the name of a thing, which without one takes the next number, where that has 32 bits; and the next number behind it
+abbrev pub named : ℕ → Option Name → Option (Name × ℕ)
+named next (Some n) = Some (n, next_after next n)
+named next None = if nat_lt next (2 ^ 32) then Some (Number next, next + 1) else None
+
+-- an instruction without a result takes no number
+abbrev pub named_result : ℕ → Ty → Option Name → Option (Option Name × ℕ)
+named_result next Void None = Some (None, next)
+named_result next (Int w) None = named next None >>= λ x. Some (Some x.0, x.1)
+named_result next t (Some n) = named next (Some n) >>= λ x. Some (Some x.0, x.1)
+
+abbrev pub numbered_inst : ℕ → InstTree → Option (InstTree × ℕ)
+numbered_inst next i = named_result next i.ty i.result >>= λ x. Some (record { kind = i.kind; ty = i.ty; args = i.args; labels = i.labels; result = x.0 }, x.1)
+
+abbrev pub numbered_block : ℕ → WrittenBlock → Option (BlockTree × ℕ)
+numbered_block next b = named next b.label >>= λ x. walk numbered_inst x.1 b.insts >>= λ y. Some (record { name = x.0; insts = y.0 }, y.1)
+
+abbrev pub numbered_param : ℕ → WrittenParam → Option (ParamTree × ℕ)
+numbered_param next p = named next p.name >>= λ x. Some (record { ty = p.ty; name = x.0 }, x.1)
+
+-- each function counts from 0
+abbrev pub numbered_function : Unit {0} → WrittenFunction → Option (FunctionTree × Unit {0})
+numbered_function u f =
+    walk numbered_param 0 f.params >>= λ x. walk numbered_block x.1 f.body >>= λ y. Some (record { name = f.name; ret = f.ret; params = x.0; body = y.0 }, u)
+
+abbrev pub numbered_module : WrittenModule → Option ModuleTree
+numbered_module m = walk numbered_function tt m.functions >>= λ x. Some (record { functions = x.0 })
+
+-- what is left to be computed of a numbered module: nothing yet
+abbrev pub resolved_module : ModuleTree → Option ModuleTree
+resolved_module m = Some m

@@ -1,0 +1,31 @@
+-- Which module a text reads as.
+use Rattle.std.specs.Prelude.{◌≡◌, ℕ, List, Option, Some}
+use Rattle.forms.specs.Form.{Lexeme, Spells}
+use Rattle.forms.specs.Lexical.{Lexes}
+use Rattle.ir_types.specs.declared.module.Module.{Module}
+use Rattle.ir_types.specs.Tree.{WrittenModule, ModuleTree}
+use Rattle.ir_types.specs.Grammar.{module_form}
+use Rattle.ir_types.specs.Numbered.{numbered_module, resolved_module}
+use Rattle.ir_types.specs.Denotes.{Denotes}
+
+-- the text's tokens spell a module as it is written, things without a name take their numbers, and the module denotes that
+pub record Reads (text : List ℕ) (m : Module) : Type 0 where
+  pub tokens : List Lexeme
+  pub written : WrittenModule
+  pub numbered : ModuleTree
+  pub resolved : ModuleTree
+  pub lexes : Lexes text tokens
+  pub spelled : Spells module_form written tokens
+  pub numbers : numbered_module written ≡ Some numbered
+  pub resolves : resolved_module numbered ≡ Some resolved
+  pub denotes : Denotes m resolved
+
+-- two modules are the same where they denote one tree
+pub record SameModule (m n : Module) : Type 0 where
+  pub tree : ModuleTree
+  pub first : Denotes m tree
+  pub second : Denotes n tree
+
+-- a module that some text reads as
+abbrev pub IsReadable : Module → Type 0
+IsReadable m = (text : List ℕ) × Reads text m

@@ -1,0 +1,74 @@
+-- What the bytes of names and numbers stand for.
+use Rattle.std.specs.Prelude.{ℕ, zero, suc, ◌+◌, ◌*◌, ◌-◌, ◌%◌, ◌^◌, Bool, true, false, ◌&&◌, ◌==◌, nat_lt, List, [], ◌∷◌, Option, Some, None, if◌then◌else◌}
+use Rattle.ir_types.specs.declared.name.Name.{Name}
+use Rattle.ir_types.specs.declared.name.Name.TheVariants.{Text, Number}
+use Rattle.forms.specs.Lexical.{is_digit, is_hex}
+
+-- ---- numbers
+
+-- the number that further digits make of one
+abbrev pub number_from : ℕ → List ℕ → ℕ
+number_from n [] = n
+number_from n (d ∷ ds) = number_from (n * 10 + (d - 48)) ds
+
+-- the number that decimal digits stand for
+abbrev pub number_of : List ℕ → ℕ
+number_of ds = number_from 0 ds
+
+-- minus n, modulo 2^w
+abbrev pub negated : ℕ → ℕ → ℕ
+negated w n = (2 ^ w - n % 2 ^ w) % 2 ^ w
+
+-- the number that a token of a number stands for, `-` and digits too, modulo 2^w
+abbrev pub number_at : ℕ → List ℕ → ℕ
+number_at w [] = 0
+number_at w (c ∷ ds) = if c == 45 then negated w (number_of ds) else number_of (c ∷ ds) % 2 ^ w
+
+-- ---- names
+
+-- the value of a hexadecimal digit
+abbrev pub hex_value : ℕ → ℕ
+hex_value c = if is_digit c then c - 48 else (if nat_lt c 97 then c - 55 else c - 87)
+
+-- what stands behind a backslash: the byte that both stand for, and how many further bytes belong to it
+abbrev pub escape : List ℕ → ℕ × ℕ
+escape [] = (92, 0)
+escape (b ∷ []) = if b == 92 then (92, 1) else (92, 0)
+escape (b ∷ c ∷ cs) = if b == 92 then (92, 1) else (if is_hex b && is_hex c then (16 * hex_value b + hex_value c, 2) else (92, 0))
+
+-- the byte that the front of a string stands for, and how many further bytes belong to it
+abbrev pub byte_at : ℕ → List ℕ → ℕ × ℕ
+byte_at c cs = if c == 92 then escape cs else (c, 0)
+
+-- behind so many bytes that belong to an escape
+abbrev pub unescaped_behind : ℕ → List ℕ → List ℕ
+unescaped_behind n [] = []
+unescaped_behind zero (c ∷ cs) = (byte_at c cs).0 ∷ unescaped_behind (byte_at c cs).1 cs
+unescaped_behind (suc n) (c ∷ cs) = unescaped_behind n cs
+
+-- the bytes that a string stands for: `\\` is a backslash, a backslash and two hexadecimal digits are that byte
+abbrev pub unescaped : List ℕ → List ℕ
+unescaped s = unescaped_behind 0 s
+
+abbrev pub without_last : List ℕ → List ℕ
+without_last [] = []
+without_last (c ∷ []) = []
+without_last (c ∷ d ∷ cs) = c ∷ without_last (d ∷ cs)
+
+-- a number as a name has 32 bits
+abbrev pub numbered_name : ℕ → Option Name
+numbered_name n = if nat_lt n (2 ^ 32) then Some (Number n) else None
+
+-- the name that is written so: a string with its quotes, digits, or the name itself
+abbrev pub name_of : List ℕ → Option Name
+name_of [] = None
+name_of (c ∷ cs) = if c == 34 then Some (Text (unescaped (without_last cs))) else (if is_digit c then numbered_name (number_of (c ∷ cs)) else Some (Text (c ∷ cs)))
+
+-- the name behind a `%` or `@`
+abbrev pub name_behind : List ℕ → Option Name
+name_behind [] = None
+name_behind (c ∷ cs) = name_of cs
+
+-- the name before the colon of a label
+abbrev pub name_before : List ℕ → Option Name
+name_before cs = name_of (without_last cs)

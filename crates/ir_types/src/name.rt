@@ -1,0 +1,106 @@
+// The names of values, and the table that numbers them.
+ghost use Rattle.std.specs.Prelude.{◌≡◌, ◌<◌, ◌^◌, ◌==◌, [], IfOk, OnOk, OnErr, length, slice_get};
+
+use indexmap::IndexSet;
+use lists::Text;
+use std::alloc::{AllocError, Global};
+use std::marker::Model;
+
+/// The name of a value: a text, or a number where the program gave none.
+#[derive(PartialEq, Eq, Hash, Debug, Drop)]
+pub enum Name {
+    Text(Text),
+    Number(u32),
+}
+
+/// The place of a name in its table of names.
+#[derive(Clone, Copy, PartialEq, Eq, Debug)]
+pub struct ValueId(pub u32);
+
+/// A table of names in the order in which they were added, no two of them equal.
+#[derive(Drop, Debug)]
+pub struct Names {
+    set: IndexSet<Name>,
+}
+
+impl Model for Names {
+    ghost use Rattle.std.specs.Prelude.{List};
+    ghost use Rattle.ir_types.specs.declared.name.Name.{Name};
+
+    ghost Value = { List Name };
+
+    ghost use Rattle.ir_types.specs.Names.{IsTable};
+
+    ghost view = { λ s. s.set.keys };
+
+    ghost invariant = { λ s. IsTable s.set.keys };
+}
+
+impl Names {
+    ghost use Rattle.std.specs.Prelude.{List, IfOk, OnOk, OnErr, length, ◌≡◌, ◌<◌, []};
+    ghost use Rattle.forms.specs.View.{Extends};
+    ghost use Rattle.ir_types.specs.declared.name.Name.{Name};
+    ghost use Rattle.ir_types.specs.Names.{IsTable, Adds, name_at};
+
+    /// A table with no name.
+    pub fn new(alloc: Global) -> Names
+        ensures { result ≡ [] }
+    {
+        Names {
+            set: IndexSet::new(alloc),
+        }
+    }
+
+    /// The number of names.
+    pub fn len(&self) -> usize
+        ensures value { result ≡ length self.now }
+        ensures table { IsTable self.now }
+    {
+        self.set.len()
+    }
+
+    /// The name with a number.
+    pub fn get(&self, id: ValueId) -> &Name
+        requires { id.0 < length self.now }
+        ensures { name_at self.now id.0 ≡ result.now }
+    {
+        &self.set[id.0 as usize]
+    }
+
+    /// The number of a name, which is added at the end where the table has no equal one. A table whose numbers are used up is
+    /// out of memory.
+    pub fn add(&mut self, name: Name) -> Result<ValueId, AllocError>
+        ensures grows { Extends self.old self.new }
+        ensures place { IfOk result (λ id. name_at self.new id.0 ≡ name) }
+        ensures stays { IfOk result (λ id. (later : List Name) → Extends self.new later → name_at later id.0 ≡ name) }
+        ensures ok { OnOk result (Adds self.old name self.new) }
+        ensures err { OnErr result (self.new ≡ self.old) }
+        ensures table { IsTable self.new }
+    {
+        if self.set.len() >= u32::MAX as usize {
+            return Err(AllocError);
+        }
+        let (place, _) = self.set.insert_full(name)?;
+        Ok(ValueId(place as u32))
+    }
+}
+
+#[cfg(test)]
+mod tests {
+    use super::*;
+    use std::test::Fail;
+
+    #[test]
+    fn equal_names_have_one_number(rt: HostRuntime) -> Result<(), Fail> {
+        let mut names = Names::new(rt.alloc());
+        let first = names.add(Name::Text(Text::from_slice(rt.alloc(), b"x")?))?;
+        let second = names.add(Name::Number(7))?;
+        let again = names.add(Name::Text(Text::from_slice(rt.alloc(), b"x")?))?;
+        assert_eq!(rt; first, ValueId(0));
+        assert_eq!(rt; second, ValueId(1));
+        assert_eq!(rt; again, ValueId(0));
+        assert_eq!(rt; names.len(), 2);
+        assert_eq!(rt; names.get(ValueId(1)), &Name::Number(7));
+        Ok(())
+    }
+}
