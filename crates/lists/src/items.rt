@@ -1,6 +1,8 @@
 //! `Items`: a vector that contracts see as a list.
 ghost use Rattle.std.specs.Prelude.{◌≡◌, ◌<◌, ◌==◌, List, length, slice_get};
 
+use crate::Copies;
+use std::alloc::AllocError;
 use std::marker::Model;
 
 /// A list of items.
@@ -58,5 +60,15 @@ impl<T> Items<T> {
         ensures { result.now ≡ self.now }
     {
         self.items.as_slice()
+    }
+}
+
+impl<T: Copies + Drop> Copies for Items<T> {
+    fn copy(&self) -> Result<Self, AllocError> {
+        let mut items = Vec::with_capacity(*self.items.allocator(), self.items.len())?;
+        for item in &self.items {
+            items.push(item.copy()?)?;
+        }
+        Ok(Items { items })
     }
 }

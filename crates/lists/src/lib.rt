@@ -7,8 +7,12 @@
 //! - `Copies` is the trait of what can be copied to an equal value.
 #![tactic(auto)]
 
+mod copies;
+mod few;
 mod items;
 mod text;
 
+pub use copies::Copies;
+pub use few::Few;
 pub use items::Items;
 pub use text::Text;

@@ -7,6 +7,7 @@ ghost use Rattle.std.specs.Hash as fed;
 ghost use Rattle.std.specs.Str.{bytes_eq};
 ghost use Rattle.std.proofs.Common.{rules};
 
+use crate::Copies;
 use std::alloc::{AllocError, Global};
 use std::hash::{Hash, Hasher};
 use std::marker::Model;
@@ -91,5 +92,11 @@ impl Hash for Text {
     fn hash<H: Hasher>(&self, state: &mut H) {
         state.write(self.bytes.as_slice());
         state.write_u8(0xff);
+    }
+}
+
+impl Copies for Text {
+    fn copy(&self) -> Result<Self, AllocError> {
+        Text::from_slice(*self.bytes.allocator(), self.as_bytes())
     }
 }
