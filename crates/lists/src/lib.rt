@@ -11,8 +11,10 @@ mod copies;
 mod few;
 mod items;
 mod text;
+mod texts;
 
 pub use copies::Copies;
 pub use few::Few;
 pub use items::Items;
 pub use text::Text;
+pub use texts::Texts;
