@@ -4,7 +4,10 @@ use Rattle.std.proofs.lemmas.Bool.{cases_lt}
 use Rattle.std.proofs.Math.Seq.{take-add, take-take}
 use Rattle.std.specs.declared.option.Option.{Option}
 use Rattle.std.specs.declared.option.Option.TheVariants.{None, Some}
-use Rattle.vplan_io.specs.Causes.{and_then}
+use Rattle.std.specs.declared.result.Result.{Result}
+use Rattle.std.specs.declared.result.Result.TheVariants.{Ok, Err}
+use Rattle.std.specs.Result.{IsErr}
+use Rattle.vplan_io.specs.Causes.{and_then, Takes}
 
 -- two texts behind the bytes are one
 pub and_then-twice : (a : Option (List ℕ)) (x y : List ℕ) → and_then (and_then a x) y ≡ and_then a (x ++ y)
@@ -31,3 +34,8 @@ part-taken a b c text i k n e f =
     (λ lt. (i + n, whole ∙ ap (λ t. and_then a (take i text ++ t)) (take-take n k (drop i text) (omega arith)) ∙ ap (and_then a) (sym (take-add i n text))))
     (λ ge. (i + k, whole ∙ ap (λ t. and_then a (take i text ++ t)) (take-whole n (take k (drop i text)) (omega (arith, length-take k (drop i text)))) ∙ ap (and_then a) (sym (take-add i k text))))
     (cases_lt n k)
+
+-- a refusal passed on takes what the put took
+pub refused-takes : {E : Type 0} (before now : Option (List ℕ)) (text : List ℕ) (result : Result (Unit {0}) E) → IsErr result → (n : ℕ) × (now ≡ and_then before (take n text)) → Takes before now text result
+refused-takes before now text (Ok v) h p = cc
+refused-takes before now text (Err e) h p = p
