@@ -2,8 +2,10 @@
 #![tactic(auto)]
 
 mod cursor;
+mod words;
 
 pub use cursor::{Cursor, SyntaxFault};
+pub use words::find;
 
 /// What a token is: one variant a row of the table of tokens, and one a punctuation mark.
 #[derive(Clone, Copy, Debug, PartialEq, Eq)]

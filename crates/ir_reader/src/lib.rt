@@ -1,0 +1,2 @@
+//! Reads a module from a text, exactly as the grammar says.
+#![tactic(auto)]
