@@ -1,2 +1,4 @@
 //! Reads a module from a text, exactly as the grammar says.
 #![tactic(auto)]
+
+mod numbers;
