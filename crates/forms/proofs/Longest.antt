@@ -25,7 +25,7 @@ Within {A} r = (ts : List Lexeme) (x : A × List Lexeme) → r ts ≡ Some x →
 pub within : {A : Type 0} (f : Form A) → Within (read f)
 within f ts x e = let t = front f ts x e in omega (arith, ap length t.parts, length-append t.used x.1)
 
-nothing_next : (rest : List Lexeme) → next_in [] rest ≡ false
+pub nothing_next : (rest : List Lexeme) → next_in [] rest ≡ false
 nothing_next [] = refl
 nothing_next (t ∷ ts) = refl
 
@@ -36,10 +36,6 @@ alone_reaches : {A : Type 0} (P : A → List Lexeme → Type 0) (r : List Lexeme
 alone_reaches P r c a used rest x s e = same_rest (a, rest) x (sym (c a used rest s (nothing_next rest)) ∙ e)
 
 -- ---- up to a stop that one token shows
-
-none_there : {A : Type 0} (l : List A) → length l ≡ 0 → l ≡ []
-none_there [] e = refl
-none_there (x ∷ xs) e = absurd (omega arith)
 
 empty_is : (l : List TokenKind) → is_empty l ≡ true → l ≡ []
 empty_is [] e = refl
