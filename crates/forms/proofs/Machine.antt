@@ -3,7 +3,7 @@ use Rattle.std.proofs.Common.{◌≡◌, ℕ, ◌≤◌, Bool, true, false, cond
 use Rattle.std.proofs.lemmas.List.{append-nil}
 use Rattle.forms.specs.declared.TokenKind.TheVariants.{Comma, RightBracket}
 use Rattle.forms.specs.Form.{Lexeme, Form, pair, either, mapped, optional, many}
-use Rattle.forms.specs.Reading.{◌>>=◌, Terminal, next_in, opens, read}
+use Rattle.forms.specs.Reading.{◌>>=◌, Terminal, next_in, nullable, opens, read}
 use Rattle.forms.proofs.Begins.{test}
 use Rattle.forms.proofs.Many.{many_step, many_done}
 use Rattle.forms.specs.declared.Around.{Around}
@@ -196,3 +196,12 @@ next_done l d front ws w ts us xs e =
 
 pub next_fails : {N : Type 0} (l : TypeParts N) (d : ℕ) (front : List N) (ws : List Around) (w : Around) (ts : List Lexeme) → read (next l w) ts ≡ None → whole l d front (ws ++ w ∷ []) false ts ≡ None
 next_fails l d front ws w ts e = next_whole l d front ws w ts ∙ ap (λ (r : Option _). behind front (finish l d ws (then_next l d w r))) e ∙ ap (behind front) (finish_none l d ws)
+
+-- the beginning of a type takes a token, and so does what is behind one
+pub head_takes : {N : Type 0} (l : TypeParts N) → PartsDecide l → nullable (head l) ≡ false
+head_takes l q = rw (q.leaf_takes, q.array_takes) refl
+
+pub next_takes : {N : Type 0} (l : TypeParts N) (w : Around) → nullable (next l w) ≡ false
+next_takes l InArray = refl
+next_takes l (InStruct true) = refl
+next_takes l (InStruct false) = refl
