@@ -1,10 +1,10 @@
 -- With which token that begins which is read, whether or not one token ahead decides.
 use Rattle.std.proofs.Common.{false, cond, ◌&&◌, List, [], ◌∷◌, ◌++◌, length, Option, sym, subst, inl, inr}
 use Rattle.forms.specs.declared.TokenKind.TheVariants.{Word}
-use Rattle.forms.specs.Form.{Lexeme, Form, exactly, one, one_but, ahead, enclosed, up_to, pair, either, mapped, made, optional, many, by_word}
+use Rattle.forms.specs.Form.{Lexeme, Form, exactly, one, one_but, ahead, enclosed, up_to, pair, greedy, either, mapped, made, optional, many, by_word}
 use Rattle.forms.specs.Reading.{any_of, marks_then, nullable, first, opens, read}
 use Rattle.forms.proofs.Begins.{Begins, begins, by_token, entry_fits, ahead_begins, pair_begins, either_left, either_right, if_begins, each_begins}
-use Rattle.forms.proofs.Sound.{Sound, exactly_sound, one_sound, one_but_sound, enclosed_sound, up_to_sound, ahead_sound, pair_sound, either_sound, mapped_sound, made_sound, by_word_sound, optional_sound, each_sound}
+use Rattle.forms.proofs.Parts.{Sound, exactly_sound, one_sound, one_but_sound, enclosed_sound, up_to_sound, ahead_sound, pair_sound, either_sound, mapped_sound, made_sound, by_word_sound, optional_sound, each_sound}
 
 weaken : {A : Type 0} (P Q : A → List Lexeme → Type 0) (r : List Lexeme → Option (A × List Lexeme)) → Sound P r → ((a : A) (used : List Lexeme) → P a used → Q a used) → Sound Q r
 weaken P Q r s h ts x e = let t = s ts x e in record { used = t.used; parts = t.parts; spelled = h x.0 t.used t.spelled }
@@ -23,6 +23,9 @@ front (ahead k f) =
     (λ a used s. subst (λ (w : List Lexeme). Begins (cond (nullable f) (any_of k ∷ []) (marks_then k (first f))) false w) (sym s.1) (ahead_begins k a.0 (first f) (nullable f) s.0 s.2))
 front (pair f g) =
     weaken _ (Front (pair f g)) _ (pair_sound (Front f) (Front g) (read f) (read g) (front f) (front g))
+    (λ a used s. subst (λ (w : List Lexeme). Begins (first f ++ cond (nullable f) (first g) []) (nullable f && nullable g) w) (sym s.2) (pair_begins (first f) (first g) (nullable f) (nullable g) s.0 s.1 s.3 s.4))
+front (greedy f g) =
+    weaken _ (Front (greedy f g)) _ (pair_sound (Front f) (Front g) (read f) (read g) (front f) (front g))
     (λ a used s. subst (λ (w : List Lexeme). Begins (first f ++ cond (nullable f) (first g) []) (nullable f && nullable g) w) (sym s.2) (pair_begins (first f) (first g) (nullable f) (nullable g) s.0 s.1 s.3 s.4))
 front (either f g) =
     weaken _ (Front (either f g)) _ (either_sound (Front f) (Front g) (opens f) (read f) (read g) (front f) (front g))

@@ -4,3 +4,5 @@ pub mod Reading
 pub mod View
 pub mod Walk
 pub mod Gives
+pub mod Nested
+pub mod Machine
