@@ -4,6 +4,7 @@ use Rattle.std.specs.Prelude.{slice_get}
 use Rattle.std.specs.List.{slice_range}
 use Rattle.std.proofs.lemmas.Grind.{common_steps}
 use Rattle.std.proofs.lemmas.List.{get_or_default}
+use Rattle.std.proofs.lemmas.Option.{get_or_from_slice_get}
 use Rattle.lists.specs.Ends.{texts_between, EndAt}
 
 -- there are as many texts as ends
@@ -55,9 +56,13 @@ pushed_text bytes text new_bytes ends new_ends more bytes_are more_is ends_are h
 
 -- what `at` reads: the text at a place of the list that these bytes and ends are
 pub read_text : (bytes ends : List ℕ) (texts : List (List ℕ)) (place start end : ℕ) → texts_between bytes 0 ends ≡ texts → EndAt (length bytes) 0 ends → place < length texts
-    → start ≡ get_or (0 ∷ ends) place 0 → end ≡ get_or ends place end → (start ≤ end) × (end ≤ length bytes) × (slice_get texts place ≡ Some (slice_range bytes start end))
+    → start ≡ get_or (0 ∷ ends) place 0 → end ≡ get_or ends place end
+    → (start ≤ end) × (end ≤ length bytes) × (slice_range bytes start end ≡ get_or texts place (slice_range bytes start end)) × (slice_get texts place ≡ Some (slice_range bytes start end))
 read_text bytes ends texts place start end view h within start_is end_is =
     let inside : place < length ends = omega (arith, ap length view, length-texts_between bytes 0 ends) in
     let bounds = EndAt-place (length bytes) 0 ends place h inside in
     let end_at : get_or ends place 0 ≡ end = sym (end_is ∙ get_or_default ends place end 0 inside) in
-    rw (← view, start_is, ← end_at) (bounds.0, bounds.1, slice_get-texts_between bytes 0 ends place inside)
+    let found : slice_get texts place ≡ Some (slice_range bytes start end) = rw (← view, start_is, ← end_at) (slice_get-texts_between bytes 0 ends place inside) in
+    let ordered : start ≤ end = rw (start_is, ← end_at) bounds.0 in
+    let fits : end ≤ length bytes = rw (← end_at) bounds.1 in
+    (ordered, fits, sym (get_or_from_slice_get texts place _ _ found), found)

@@ -1,10 +1,14 @@
 //! `Few`: a small vector that contracts see as a list.
-ghost use Rattle.std.specs.Prelude.{◌≡◌, ◌<◌, ◌==◌, List, [], ◌∷◌, ◌++◌, OnOk, OnErr, IfOk, length, slice_get};
+ghost use Rattle.std.specs.Prelude.{◌≡◌, ◌<◌, ◌==◌, List, [], ◌∷◌, ◌++◌, OnOk, OnErr, IfOk, length, slice_get, slice_index_or};
+ghost use Rattle.std.specs.Cmp.Lexicographic.{pointwise, lists_equiv, lists_per};
+ghost use Rattle.std.specs.Hash as fed;
+ghost use Rattle.std.specs.Hash.{items_Alike};
 
 use crate::Copies;
 use smallvec::SmallVec;
 use std::alloc::{AllocError, Global};
 use std::default::MadeWith;
+use std::hash::{Hash, Hasher};
 use std::marker::Model;
 
 /// A list that keeps up to `N` items in the value itself, and more than that in an allocation.
@@ -37,7 +41,8 @@ impl<T, const N: usize> Few<T, N> {
     /// The item at a place.
     pub fn at(&self, place: usize) -> &T
         requires { place < length self.now }
-        ensures { slice_get self.now place ≡ Some result.now }
+        ensures item { result.now ≡ slice_index_or self.now place result.now }
+        ensures found { slice_get self.now place ≡ Some result.now }
     {
         &self.items.as_slice()[place]
     }
@@ -77,5 +82,29 @@ impl<T: Copies + MadeWith<Global> + Drop, const N: usize> Copies for Few<T, N> {
             items.push(item.copy()?)?;
         }
         Ok(Few { items })
+    }
+}
+
+impl<T: PartialEq, const N: usize> PartialEq for Few<T, N> {
+    ghost eq = { pointwise T.eq };
+
+    ghost laws = { lists_per T.laws };
+
+    fn eq(&self, other: &Self) -> bool {
+        self.items == other.items
+    }
+}
+
+impl<T: Eq, const N: usize> Eq for Few<T, N> {
+    ghost laws = { lists_equiv T.Eq.laws };
+}
+
+impl<T: Hash, const N: usize> Hash for Few<T, N> {
+    ghost hash_input = { fed.slice T.hash_input };
+
+    ghost respects_eq = { (items_Alike (record { fed = T.respects_eq })).fed };
+
+    fn hash<H: Hasher>(&self, state: &mut H) {
+        self.items.hash(state);
     }
 }

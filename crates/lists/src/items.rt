@@ -1,8 +1,13 @@
 //! `Items`: a vector that contracts see as a list.
-ghost use Rattle.std.specs.Prelude.{◌≡◌, ◌<◌, ◌==◌, List, length, slice_get};
+ghost use Rattle.std.specs.Prelude.{◌≡◌, ◌<◌, ◌==◌, List, [], length, slice_get, slice_index_or};
+ghost use Rattle.std.specs.Cmp.Lexicographic.{pointwise, lists_equiv, lists_per};
+ghost use Rattle.std.specs.Hash as fed;
+ghost use Rattle.std.specs.Hash.{items_Alike};
 
 use crate::Copies;
-use std::alloc::AllocError;
+use std::alloc::{AllocError, Global};
+use std::default::MadeWith;
+use std::hash::{Hash, Hasher};
 use std::marker::Model;
 
 /// A list of items.
@@ -50,7 +55,8 @@ impl<T> Items<T> {
     /// The item at a place.
     pub fn at(&self, place: usize) -> &T
         requires { place < length self.now }
-        ensures { slice_get self.now place ≡ Some result.now }
+        ensures item { result.now ≡ slice_index_or self.now place result.now }
+        ensures found { slice_get self.now place ≡ Some result.now }
     {
         &self.items[place]
     }
@@ -70,5 +76,39 @@ impl<T: Copies + Drop> Copies for Items<T> {
             items.push(item.copy()?)?;
         }
         Ok(Items { items })
+    }
+}
+
+impl<T> MadeWith<Global> for Items<T> {
+    ghost is_made_with = { λ items. items ≡ [] };
+
+    fn made_with(alloc: Global) -> Items<T> {
+        Items {
+            items: Vec::new(alloc),
+        }
+    }
+}
+
+impl<T: PartialEq> PartialEq for Items<T> {
+    ghost eq = { pointwise T.eq };
+
+    ghost laws = { lists_per T.laws };
+
+    fn eq(&self, other: &Self) -> bool {
+        self.items == other.items
+    }
+}
+
+impl<T: Eq> Eq for Items<T> {
+    ghost laws = { lists_equiv T.Eq.laws };
+}
+
+impl<T: Hash> Hash for Items<T> {
+    ghost hash_input = { fed.slice T.hash_input };
+
+    ghost respects_eq = { (items_Alike (record { fed = T.respects_eq })).fed };
+
+    fn hash<H: Hasher>(&self, state: &mut H) {
+        self.items.hash(state);
     }
 }

@@ -10,6 +10,8 @@
 mod copies;
 mod few;
 mod items;
+#[cfg(test)]
+mod tests;
 mod text;
 mod texts;
 

@@ -1,5 +1,5 @@
 //! `Text`: bytes that contracts see as a list.
-ghost use Rattle.std.specs.Prelude.{◌≡◌, ℕ, ◌<◌, ◌==◌, List, IfOk, length, slice_get};
+ghost use Rattle.std.specs.Prelude.{◌≡◌, ℕ, ◌<◌, ◌==◌, List, [], IfOk, length, slice_get, slice_index_or};
 ghost use Rattle.std.specs.Cmp.{partial_equiv_from_equiv};
 ghost use Rattle.std.specs.Cmp.Lexicographic.{nat_list_eq_equiv};
 ghost use Rattle.std.specs.Cmp.Rules.{hashing};
@@ -9,6 +9,7 @@ ghost use Rattle.std.proofs.Common.{rules};
 
 use crate::Copies;
 use std::alloc::{AllocError, Global};
+use std::default::MadeWith;
 use std::hash::{Hash, Hasher};
 use std::marker::Model;
 
@@ -64,7 +65,8 @@ impl Text {
     /// The byte at a place.
     pub fn at(&self, place: usize) -> &u8
         requires { place < length self.now }
-        ensures { slice_get self.now place ≡ Some result.now }
+        ensures item { result.now ≡ slice_index_or self.now place result.now }
+        ensures found { slice_get self.now place ≡ Some result.now }
     {
         &self.bytes[place]
     }
@@ -98,5 +100,15 @@ impl Hash for Text {
 impl Copies for Text {
     fn copy(&self) -> Result<Self, AllocError> {
         Text::from_slice(*self.bytes.allocator(), self.as_bytes())
+    }
+}
+
+impl MadeWith<Global> for Text {
+    ghost is_made_with = { λ text. text ≡ [] };
+
+    fn made_with(alloc: Global) -> Text {
+        Text {
+            bytes: Vec::new(alloc),
+        }
     }
 }

@@ -1,5 +1,5 @@
 //! `Texts`: many texts in one allocation, which contracts see as a list.
-ghost use Rattle.std.specs.Prelude.{◌≡◌, ◌<◌, ◌==◌, [], ◌∷◌, ◌++◌, OnOk, OnErr, length, slice_get, slice_index};
+ghost use Rattle.std.specs.Prelude.{◌≡◌, ◌<◌, ◌==◌, [], ◌∷◌, ◌++◌, OnOk, OnErr, length, slice_get, slice_index_or, slice_index};
 
 use crate::Copies;
 use std::alloc::{AllocError, Global};
@@ -67,7 +67,8 @@ impl Texts {
     /// The text at a place.
     pub fn at(&self, place: usize) -> &[u8]
         requires { place < length self.now }
-        ensures { slice_get self.now place ≡ Some result.now }
+        ensures item { result.now ≡ slice_index_or self.now place result.now }
+        ensures found { slice_get self.now place ≡ Some result.now }
     {
         let start = start_of(self.ends.as_slice(), place);
         let end = self.ends[place];

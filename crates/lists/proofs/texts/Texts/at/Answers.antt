@@ -12,7 +12,8 @@ index-end-requires c = omega (arith, ap length c.self.view_is, length-texts_betw
 -- the range lies within the bytes
 range : (c : After-deref) → (c.start_of-start.result ≤ c.index-end.result.now) × (c.index-end.result.now ≤ length c.deref.result.now)
 range c =
-    let read = read_text c.self.inside.bytes.items c.self.inside.ends.items c.args.self.now c.args.place c.start_of-start.result c.index-end.result.now c.self.view_is c.self.invariant c.requires (c.start_of-start.ensures ∙ ap (λ ends. get_or (0 ∷ ends) c.args.place 0) c.as_slice.ensures.value) c.index-end.ensures in
+    let read = read_text c.self.inside.bytes.items c.self.inside.ends.items _ _ _ _ c.self.view_is c.self.invariant c.requires
+    (c.start_of-start.ensures ∙ ap (λ ends. get_or (0 ∷ ends) c.args.place 0) c.as_slice.ensures.value) c.index-end.ensures in
     (read.0, rw c.deref.ensures.value read.1)
 
 pub slice_bounds-result-count : goal.slice_bounds-result-count
@@ -25,4 +26,7 @@ pub slice_bounds-result-end : goal.slice_bounds-result-end
 slice_bounds-result-end c = let r = range c in search rules
 
 pub returns : goal.returns
-returns c = rw c.deref.ensures.value (read_text c.self.inside.bytes.items c.self.inside.ends.items c.args.self.now c.args.place c.start_of-start.result c.index-end.result.now c.self.view_is c.self.invariant c.requires (c.start_of-start.ensures ∙ ap (λ ends. get_or (0 ∷ ends) c.args.place 0) c.as_slice.ensures.value) c.index-end.ensures).2
+returns c =
+    let read = read_text c.self.inside.bytes.items c.self.inside.ends.items _ _ _ _ c.self.view_is c.self.invariant c.requires
+    (c.start_of-start.ensures ∙ ap (λ ends. get_or (0 ∷ ends) c.args.place 0) c.as_slice.ensures.value) c.index-end.ensures in
+    rw c.deref.ensures.value record { item = read.2; found = read.3 }
