@@ -1,5 +1,6 @@
 -- What a load and a put leave, and when they may fail.
 use Rattle.std.specs.Prelude.{◌≡◌, ℕ, ◌+◌, ◌-◌, ◌^◌, ◌<◌, ◌≤◌, min, List, ◌++◌, length, take, MatchResult, OnErr, IfSome}
+use Rattle.std.specs.Io.KnownBytes.{Appends}
 use Rattle.std.specs.declared.option.Option.{Option}
 use Rattle.std.specs.declared.option.Option.TheVariants.{None, Some}
 use Rattle.std.specs.declared.result.Result.{Result}
@@ -43,3 +44,8 @@ and_then (Some bytes) text = Some (bytes ++ text)
 abbrev pub Takes : {E : Type 0} → Option (List ℕ) → Option (List ℕ) → List ℕ → Result Unit E → Type 0
 Takes before now text result =
     MatchResult result (λ _. now ≡ and_then before text) (λ _. (n : ℕ) × (now ≡ and_then before (take n text)))
+
+-- a put into a writer that tells what it holds appends all of text to that, or a prefix of it where it fails
+abbrev pub Writes : {E : Type 0} → Option (List ℕ) → Option (List ℕ) → List ℕ → Result Unit E → Type 0
+Writes before now text result =
+    MatchResult result (λ _. Appends before now text) (λ _. (n : ℕ) × Appends before now (take n text))

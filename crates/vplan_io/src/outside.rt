@@ -1,8 +1,9 @@
 // Files and sinks outside the program. Nothing is told of their content.
 
-ghost use Rattle.std.specs.Prelude.{◌≡◌, ◌+◌, ◌≤◌, ℕ, List, None, vec_len};
+ghost use Rattle.std.specs.Prelude.{◌≡◌, ◌+◌, ◌≤◌, ℕ, List, None, vec_len, take, IfOk, OnErr};
 ghost use Rattle.std.specs.Io.{ReadsAtMost, WritesAtMost};
-ghost use Rattle.vplan_io.specs.Causes.{longest};
+ghost use Rattle.std.specs.Io.KnownBytes.{Appends, Keeps};
+ghost use Rattle.vplan_io.specs.Causes.{longest, HasCause, Takes, Writes};
 
 use crate::{Failed, Files, LONGEST, LoadFault, Sink};
 use std::alloc::Global;
@@ -120,16 +121,18 @@ fn read_some<R: Read>(reader: &mut R, buf: &mut [u8]) -> io::Result<usize>
 /// A real stream of output. A write that takes nothing of a piece that isn't empty is a fault.
 #[derive(Drop)]
 pub struct Stream<W: Write> {
-    inner: W,
+    /// What takes the bytes.
+    pub writer: W,
     faults: u64,
 }
 
 impl<W: Write> Stream<W> {
     /// The stream over a writer, with no fault so far.
-    pub fn new(inner: W) -> Stream<W>
-        ensures { ⟦<Stream<W> as Sink>⟧.faults result ≡ 0 }
+    pub fn new(writer: W) -> Stream<W>
+        ensures writer { result.writer ≡ writer }
+        ensures faults { ⟦<Stream<W> as Sink>⟧.faults result ≡ 0 }
     {
-        Stream { inner, faults: 0 }
+        Stream { writer, faults: 0 }
     }
 }
 
@@ -138,32 +141,39 @@ impl<W: Write> Sink for Stream<W> {
 
     ghost faults = { λ stream. stream.faults };
 
-    fn put(&mut self, bytes: &[u8]) -> Result<(), Failed> {
-        if write_whole(&mut self.inner, bytes) {
-            Ok(())
-        } else {
+    fn put(&mut self, bytes: &[u8]) -> Result<(), Failed>
+        ensures bytes { Takes None None bytes.now result }
+        ensures cause { HasCause (⟦<Stream<W> as Sink>⟧.faults self.old) (⟦<Stream<W> as Sink>⟧.faults self.new) result }
+        ensures written { Writes (W.contents self.old.writer) (W.contents self.new.writer) bytes.now result }
+    {
+        let outcome = write_whole(&mut self.writer, bytes);
+        if outcome.is_err() {
             self.faults = self.faults.saturating_add(1);
-            Err(Failed)
         }
+        outcome
     }
 }
 
-// Writes all the bytes, and says whether it could.
-fn write_whole<W: Write>(writer: &mut W, bytes: &[u8]) -> bool {
+// Writes the bytes, or the front of them.
+fn write_whole<W: Write>(writer: &mut W, bytes: &[u8]) -> Result<(), Failed>
+    ensures { Writes (W.contents writer.old) (W.contents writer.new) bytes.now result }
+{
     let mut done = 0;
     while done < bytes.len() {
         match write_some(writer, &bytes[done..]) {
-            Ok(0) => return false,
+            Ok(0) => return Err(Failed),
             Ok(n) => done += n,
-            Err(_) => return false,
+            Err(_) => return Err(Failed),
         }
     }
-    true
+    Ok(())
 }
 
 // One write, tried again where it is interrupted.
 fn write_some<W: Write>(writer: &mut W, bytes: &[u8]) -> io::Result<usize>
-    ensures { WritesAtMost result bytes.now }
+    ensures bound { WritesAtMost result bytes.now }
+    ensures ok { IfOk result (λ n. Appends (W.contents writer.old) (W.contents writer.new) (take n bytes.now)) }
+    ensures err { OnErr result (Keeps (W.contents writer.old) (W.contents writer.new)) }
 {
     for _ in 0..RETRIES {
         match writer.write(bytes) {
