@@ -1,0 +1,4 @@
+pub mod Scan
+pub mod Neighbours
+pub mod Spelling
+pub mod Fault
