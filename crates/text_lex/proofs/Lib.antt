@@ -7,3 +7,5 @@ pub mod Placing
 pub mod Spelling
 pub mod Ranges
 pub mod Colons
+pub mod Marks
+pub mod Layouts

@@ -2,3 +2,4 @@ pub mod Scan
 pub mod Neighbours
 pub mod Spelling
 pub mod Fault
+pub mod Layout
