@@ -1,0 +1,11 @@
+pub mod Tests
+pub mod Fronts
+pub mod Reading
+pub mod Unique
+pub mod Neighbours
+pub mod Placing
+pub mod Spelling
+pub mod Ranges
+pub mod Colons
+pub mod Marks
+pub mod Layouts

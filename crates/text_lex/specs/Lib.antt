@@ -1,0 +1,5 @@
+pub mod Scan
+pub mod Neighbours
+pub mod Spelling
+pub mod Fault
+pub mod Layout

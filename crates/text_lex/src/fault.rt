@@ -1,0 +1,36 @@
+//! Why a text has no list of tokens.
+
+ghost use Rattle.std.specs.Prelude.{◌≡◌};
+ghost use Rattle.text_lex.specs.declared.fault.TextFault.TheVariants.{Memory};
+
+use std::alloc::{AllocError, AllocFailed};
+use thiserror::Error;
+
+/// Why a text has no list of tokens.
+#[derive(Clone, Copy, Debug, PartialEq, Eq, Error)]
+pub enum TextFault {
+    /// The text has this many bytes, which are too many.
+    #[error("the text is too long")]
+    TextLimit(u64),
+    /// At this place, in bytes from the text's begin, no token begins.
+    #[error("no token begins here")]
+    NoReading(u32),
+    #[error("out of memory")]
+    Memory,
+}
+
+impl From<AllocError> for TextFault {
+    ghost from_gives = { λ _ e. e ≡ Memory };
+
+    fn from(_e: AllocError) -> TextFault {
+        TextFault::Memory
+    }
+}
+
+impl<T: Drop> From<AllocFailed<T>> for TextFault {
+    ghost from_gives = { λ _ e. e ≡ Memory };
+
+    fn from(_e: AllocFailed<T>) -> TextFault {
+        TextFault::Memory
+    }
+}
