@@ -1,0 +1,2 @@
+//! Prints modules.
+#![tactic(auto)]
