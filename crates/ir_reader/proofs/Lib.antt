@@ -1,1 +1,2 @@
 pub mod Modulo
+pub mod Strings

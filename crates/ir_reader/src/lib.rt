@@ -1,4 +1,6 @@
 //! Reads a module from a text, exactly as the grammar says.
 #![tactic(auto)]
 
+mod names;
 mod numbers;
+mod value;
