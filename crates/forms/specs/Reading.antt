@@ -1,5 +1,5 @@
 -- Reading a form from left to right, with one token ahead.
-use Rattle.std.specs.Prelude.{◌≡◌, ℕ, zero, suc, Bool, true, false, not, ◌&&◌, ◌||◌, List, [], ◌∷◌, ◌++◌, length, Option, Some, None, ◌==◌, if◌then◌else◌}
+use Rattle.std.specs.Prelude.{ℕ, zero, suc, Bool, true, false, not, ◌&&◌, ◌||◌, List, [], ◌∷◌, ◌++◌, length, Option, Some, None, ◌==◌, if◌then◌else◌}
 use Rattle.forms.specs.declared.TokenKind.{TokenKind}
 use Rattle.forms.specs.declared.TokenKind.TheVariants.{Word, Equal}
 use Rattle.forms.specs.Form.{kind_code, is_closer, is_empty, step, has_kind, Stops, stops_at, Lexeme, Form, exactly, one, one_but, ahead, enclosed, up_to, pair, greedy, either, mapped, made, optional, many, by_word, same_text, is_one_of, entry}
@@ -106,6 +106,48 @@ after (by_word table f) = of_all table (λ k. after (f k))
 after (optional f) = first f ++ after f
 after (many f) = first f ++ after f
 
+-- a token takes all of the form
+abbrev pub is_single : {A : Type 0} → Form A → Bool
+is_single (exactly k s) = true
+is_single (one k) = true
+is_single (one_but k ws) = true
+is_single (mapped h f) = is_single f
+is_single f = false
+
+-- with which tokens a value could go on, but for one token that would make a longer value
+abbrev pub hard : {A : Type 0} → Form A → List Terminal
+hard (exactly k s) = []
+hard (one k) = []
+hard (enclosed o c) = []
+hard (up_to st) = going_on st ∷ []
+hard (one_but k ws) = []
+hard (ahead k f) = hard f
+hard (pair f g) = hard g ++ (if nullable g then hard f else [])
+hard (greedy f g) = after g
+hard (either f g) = hard f ++ hard g
+hard (mapped h f) = hard f
+hard (made h f) = after f
+hard (by_word table f) = of_all table (λ k. hard (f k))
+hard (optional f) = (if is_single f then [] else first f) ++ hard f
+hard (many f) = first f ++ hard f
+
+-- no token behind a value takes from it
+abbrev pub is_steady : {A : Type 0} → Form A → Bool
+is_steady (exactly k s) = true
+is_steady (one k) = true
+is_steady (enclosed o c) = true
+is_steady (up_to st) = is_empty st.before_equal
+is_steady (one_but k ws) = true
+is_steady (ahead k f) = is_steady f
+is_steady (pair f g) = is_steady f && is_steady g
+is_steady (greedy f g) = is_steady f && is_steady g
+is_steady (either f g) = is_steady f && is_steady g
+is_steady (mapped h f) = is_steady f
+is_steady (made h f) = is_steady f
+is_steady (by_word table f) = for_all table (λ k. is_steady (f k))
+is_steady (optional f) = is_steady f
+is_steady (many f) = is_steady f
+
 abbrev pub opens : {A : Type 0} → Form A → List Lexeme → Bool
 opens f ts = next_in (first f) ts
 
@@ -202,6 +244,7 @@ decides (up_to st) = not (has_kind st.kinds Equal) && not (has_kind st.before_eq
 decides (one_but k ws) = true
 decides (ahead k f) = decides f
 decides (pair f g) = decides f && (decides g && all_apart (after f) (first g))
+decides (greedy f g) = decides f && (decides g && (is_steady f && (not (nullable g) && all_apart (hard f) (first g))))
 decides (either f g) = decides f && (decides g && (not (nullable f || nullable g) && all_apart (first f) (first g)))
 decides (mapped h f) = decides f
 decides (made h f) = decides f

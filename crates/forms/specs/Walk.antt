@@ -1,6 +1,5 @@
 -- A list whose elements are completed from left to right, as by numbers that are counted on, where that can be done.
-use Rattle.std.specs.Prelude.{List, [], ◌∷◌, Option, Some, None}
-use Rattle.forms.specs.Form.{Lexeme}
+use Rattle.std.specs.Prelude.{List, [], ◌∷◌, Option, Some}
 use Rattle.forms.specs.Reading.{◌>>=◌}
 
 -- what the elements become one after another, each with what the one before it left, and what the last one leaves

@@ -76,3 +76,11 @@ pub enum Part {
     Perhaps(Class),
     Run(Class),
 }
+
+/// What a type is inside of.
+#[derive(Clone, Copy, Debug, PartialEq, Eq)]
+pub enum Around {
+    InArray,
+    /// A struct, packed or not.
+    InStruct(bool),
+}
