@@ -1,4 +1,3 @@
-pub mod Tests
 pub mod Fronts
 pub mod Reading
 pub mod Unique
@@ -9,3 +8,5 @@ pub mod Ranges
 pub mod Colons
 pub mod Marks
 pub mod Layouts
+pub mod Decimals
+pub mod Printed
