@@ -1,6 +1,7 @@
 //! Reads a module from a text, exactly as the grammar says.
 #![tactic(auto)]
 
+mod inst;
 mod names;
 mod numbers;
 mod value;
