@@ -1,7 +1,9 @@
 //! Reads a module from a text, exactly as the grammar says.
 #![tactic(auto)]
 
+mod entries;
 mod inst;
 mod names;
 mod numbers;
 mod value;
+mod words;

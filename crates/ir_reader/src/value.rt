@@ -161,3 +161,17 @@ pub fn operand(ty: Ty, written: Written<'_>) -> Operand
         Written::No => Operand::Int(0),
     }
 }
+
+/// A local name behind a comma.
+pub fn comma_local<'t>(
+    alloc: Global,
+    tokens: Cursor<'t>,
+    names: &mut Names,
+) -> Result<(ValueId, Cursor<'t>), SyntaxFault>
+    ensures grows { Extends names.old names.new }
+    ensures reads { Gives (λ x. (name_in names.new x.0, left x.1)) result (read (after_mark Comma local_name) (left tokens.entry)) }
+    ensures stays { Stays name_in names.new result }
+{
+    let rest = tokens.mark(TokenKind::Comma)?;
+    local_id(alloc, rest, names)
+}
