@@ -170,8 +170,8 @@ abbrev pub return_tree : Ty × WrittenValue → InstTree
 return_tree x = record { kind = kinds.Return x.0; ty = Void; args = operand_at x.0 x.1 ∷ []; labels = []; result = None }
 
 -- T V
-unfoldable pub return : Form InstTree
-return = mapped return_tree (pair int_type value)
+unfoldable pub ret : Form InstTree
+ret = mapped return_tree (pair int_type value)
 
 -- the words with which an instruction begins that doesn't end a block
 unfoldable pub operation_words : List (List ℕ × Operation)
@@ -192,7 +192,7 @@ terminator_words = (codes "br", terminators.Br) ∷ (codes "ret", terminators.Re
 
 abbrev pub terminator_behind : Terminator → Form InstTree
 terminator_behind terminators.Br = branch
-terminator_behind terminators.Ret = return
+terminator_behind terminators.Ret = ret
 
 unfoldable pub terminator : Form InstTree
 terminator = by_word terminator_words terminator_behind
