@@ -27,3 +27,7 @@ entries_in ns es = map (entry_in ns) es
 abbrev pub Stays : {X Y Z : Type 0} → (List Name → X → Y) → List Name → Result (X × Z) SyntaxFault → Type 0
 Stays view names (Ok x) = (later : List Name) → Extends names later → view later x.0 ≡ view names x.0
 Stays view names (Err e) = Unit {0}
+
+-- a position stays what it is when names are added
+abbrev pub StaysAs : List Name → ValueId → Type 0
+StaysAs ns id = (later : List Name) → Extends ns later → name_in later id ≡ name_in ns id

@@ -4,6 +4,7 @@
 mod entries;
 mod inst;
 mod names;
+mod numbering;
 mod numbers;
 mod value;
 mod words;
