@@ -1,2 +1,4 @@
 pub mod Modulo
 pub mod Strings
+pub mod Lines
+pub mod Same

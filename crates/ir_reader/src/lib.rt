@@ -3,6 +3,7 @@
 
 mod entries;
 mod inst;
+mod line;
 mod names;
 mod numbering;
 mod numbers;
