@@ -4,7 +4,7 @@ use Rattle.std.specs.Option.{is_some}
 use Rattle.forms.specs.declared.TokenKind.{TokenKind}
 use Rattle.forms.specs.declared.TokenKind.TheVariants.{Local, Equal, Word}
 use Rattle.forms.specs.Form.{Lexeme, Form, by_word, kind_code, entry}
-use Rattle.forms.specs.Reading.{◌>>=◌, Terminal, this, any_of, mark_then, fits, fits_one, next_in, words_of, marks_then, read, read_by_word}
+use Rattle.forms.specs.Reading.{◌>>=◌, Terminal, this, any_of, mark_then, fits, fits_one, next_in, words_of, marks_then, read, read_by_word, opens}
 use Rattle.forms.specs.Walk.{completed}
 use Rattle.forms.proofs.Tables.{word_next}
 use Rattle.ir_types.specs.declared.name.Name.{Name}
@@ -12,9 +12,11 @@ use Rattle.ir_types.specs.declared.inst.Ty.{Ty}
 use Rattle.ir_types.specs.declared.inst.Ty.TheVariants.{Int, Void}
 use Rattle.ir_types.specs.Tree.{InstTree}
 use Rattle.ir_types.specs.Written.{name_behind}
-use Rattle.ir_types.specs.Grammar.{line, named_by, with_result, without_result}
+use Rattle.ir_types.specs.Grammar.{line, named_by, with_result, without_result, operation, operation_words, operation_behind, terminator, terminator_words, terminator_behind}
 use Rattle.ir_types.specs.Numbered.{numbered_inst, named_result, next_after}
-use Rattle.ir_reader.specs.Lines.{tok, result_next, Found, named_so, plainly}
+use Rattle.ir_reader.specs.Lines.{tok, result_next, Found, named_so, plainly, form_at}
+use Rattle.ir_reader.specs.declared.inst.Place.{Place}
+use Rattle.ir_reader.specs.declared.inst.Place.TheVariants.{Inside, Last}
 
 nothing_fits : (ss : List Terminal) → fits_one [] ss ≡ false
 nothing_fits [] = refl
@@ -99,3 +101,48 @@ named_written next Void n = refl
 
 pub numbered_named : (next : ℕ) (n : Name) (i : InstTree) → numbered_inst next (named_by i (Some n)) ≡ Some (named_by i (Some n), next_after next n)
 numbered_named next n i = ap (λ (r : Option _). r >>= λ x. Some (named_by i x.0, x.1)) (named_written next i.ty n)
+
+-- at each place of a block
+
+pub named_at : (place : Place) (w v : List ℕ) (us : List Lexeme) → read (line (form_at place)) (tok Local w ∷ tok Equal v ∷ us) ≡ named_so w v (read (form_at place) us)
+unfolding operation terminator
+named_at Inside w v us = read_named operation_words operation_behind w v us
+named_at Last w v us = read_named terminator_words terminator_behind w v us
+
+pub plain_at : (place : Place) (ts : List Lexeme) → result_next ts ≡ false → read (line (form_at place)) ts ≡ plainly (read (form_at place) ts)
+unfolding operation terminator
+plain_at Inside ts e = read_plain operation_words operation_behind ts e
+plain_at Last ts e = read_plain terminator_words terminator_behind ts e
+
+-- a word of an instruction stands next
+pub operation_next : (t : Lexeme) (ts : List Lexeme) → opens operation (t ∷ ts) ≡ (eqb (kind_code t.kind) (kind_code Word) && is_some (entry operation_words t.text))
+unfolding operation
+operation_next t ts = word_next operation_words t ts
+
+fits_append : (ts : List Lexeme) (a b : List Terminal) → fits_one ts (a ++ b) ≡ (fits_one ts a || fits_one ts b)
+fits_append ts [] b = refl
+fits_append ts (s ∷ a) b = ap (λ (x : Bool). fits ts s || x) (fits_append ts a b) ∙ assoc (fits ts s) (fits_one ts a) (fits_one ts b)
+  where
+    assoc : (x y z : Bool) → (x || (y || z)) ≡ ((x || y) || z)
+    assoc true y z = refl
+    assoc false y z = refl
+
+or_nothing : (x : Bool) → (x || false) ≡ x
+or_nothing true = refl
+or_nothing false = refl
+
+pub line_begins_named : (w v : List ℕ) (us : List Lexeme) → opens (line operation) (tok Local w ∷ tok Equal v ∷ us) ≡ opens operation us
+unfolding operation
+line_begins_named w v us =
+    let ts = tok Local w ∷ tok Equal v ∷ us in
+    fits_append ts (marks_then Local (marks_then Equal (words_of operation_words))) (words_of operation_words)
+    ∙ ap (λ (b : Bool). b || fits_one ts (words_of operation_words)) (named_opens operation_words w v us)
+    ∙ ap (λ (b : Bool). next_in (words_of operation_words) us || b) (word_next operation_words (tok Local w) (tok Equal v ∷ us))
+    ∙ or_nothing (next_in (words_of operation_words) us)
+
+pub line_begins_plain : (ts : List Lexeme) → result_next ts ≡ false → opens (line operation) ts ≡ opens operation ts
+unfolding operation
+line_begins_plain [] e = refl
+line_begins_plain (t ∷ ts) e =
+    fits_append (t ∷ ts) (marks_then Local (marks_then Equal (words_of operation_words))) (words_of operation_words)
+    ∙ ap (λ (b : Bool). b || fits_one (t ∷ ts) (words_of operation_words)) (plain_opens operation_words (t ∷ ts) e)

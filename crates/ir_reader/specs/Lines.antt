@@ -2,10 +2,12 @@
 use Rattle.std.specs.Prelude.{ℕ, Bool, List, [], ◌∷◌, Option, Some}
 use Rattle.forms.specs.declared.TokenKind.{TokenKind}
 use Rattle.forms.specs.declared.TokenKind.TheVariants.{Local, Equal}
-use Rattle.forms.specs.Form.{Lexeme}
+use Rattle.forms.specs.Form.{Lexeme, Form}
 use Rattle.forms.specs.Reading.{◌>>=◌, any_of, mark_then, next_in}
 use Rattle.ir_types.specs.Tree.{InstTree}
-use Rattle.ir_types.specs.Grammar.{with_result, without_result}
+use Rattle.ir_types.specs.Grammar.{with_result, without_result, operation, terminator}
+use Rattle.ir_reader.specs.declared.inst.Place.{Place}
+use Rattle.ir_reader.specs.declared.inst.Place.TheVariants.{Inside, Last}
 
 abbrev pub tok : TokenKind → List ℕ → Lexeme
 tok k w = record { kind = k; text = w }
@@ -24,3 +26,8 @@ named_so w v r = r >>= λ y. with_result (w, (v, y.0)) >>= λ b. Some (b, y.1)
 -- what is read where no name is written
 abbrev pub plainly : Found → Found
 plainly r = r >>= λ x. Some (without_result x.0, x.1)
+
+-- the instructions that may stand at a place of a block
+abbrev pub form_at : Place → Form InstTree
+form_at Inside = operation
+form_at Last = terminator

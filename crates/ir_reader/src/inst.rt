@@ -10,6 +10,7 @@ ghost use Rattle.ir_types.specs.Denotes.{name_in, operand_in, inst_in};
 ghost use Rattle.ir_types.specs.Grammar.{width_of, operand_at, after_mark, value, binary, compared, compare, entry_of_phi, commas, phi, target, branch_tree, branch, ret, operation, terminator};
 ghost use Rattle.forms.specs.Form.{pair, mapped};
 ghost use Rattle.ir_reader.specs.View.{Stays};
+ghost use Rattle.ir_reader.specs.Lines.{form_at};
 
 use crate::entries::{entries, parted};
 use crate::value::{comma_value, integer_type, local_id, operand, written_value};
@@ -260,7 +261,7 @@ fn give_back<'t>(
 
 /// An instruction that doesn't end a block.
 #[tactic(auto, unfolding(ir_types::specs::Grammar::operation))]
-pub fn operation<'t>(
+fn operation<'t>(
     alloc: Global,
     tokens: Cursor<'t>,
     names: &mut Names,
@@ -280,7 +281,7 @@ pub fn operation<'t>(
 
 /// A terminator.
 #[tactic(auto, unfolding(ir_types::specs::Grammar::terminator))]
-pub fn terminator<'t>(
+fn terminator<'t>(
     alloc: Global,
     tokens: Cursor<'t>,
     names: &mut Names,
@@ -294,5 +295,30 @@ pub fn terminator<'t>(
         Some(Terminator::Br) => branch(alloc, rest, names),
         Some(Terminator::Ret) => give_back(alloc, rest, names),
         None => Err(tokens.refusal()),
+    }
+}
+
+/// Where an instruction stands in its block.
+#[derive(Clone, Copy, Debug)]
+pub enum Place {
+    /// Before the last one.
+    Inside,
+    Last,
+}
+
+/// An instruction that may stand at this place.
+pub fn instruction<'t>(
+    alloc: Global,
+    place: Place,
+    tokens: Cursor<'t>,
+    names: &mut Names,
+) -> Result<(Inst, Cursor<'t>), SyntaxFault>
+    ensures grows { Extends names.old names.new }
+    ensures reads { Gives (λ x. (inst_in names.new x.0, left x.1)) result (read (form_at place) (left tokens.entry)) }
+    ensures stays { Stays inst_in names.new result }
+{
+    match place {
+        Place::Inside => operation(alloc, tokens, names),
+        Place::Last => terminator(alloc, tokens, names),
     }
 }

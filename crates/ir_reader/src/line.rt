@@ -9,12 +9,13 @@ ghost use Rattle.forms.specs.Gives.{Gives, left};
 ghost use Rattle.ir_types.specs.declared.name.Name.{Name};
 ghost use Rattle.ir_types.specs.Denotes.{inst_in};
 ghost use Rattle.ir_types.specs.Written.{name_behind as written_name_behind};
-ghost use Rattle.ir_types.specs.Grammar.{operation, terminator, line};
+ghost use Rattle.ir_types.specs.Grammar.{operation, line as line_form};
 ghost use Rattle.ir_types.specs.Numbered.{numbered_inst};
 ghost use Rattle.ir_reader.specs.View.{Stays};
-ghost use Rattle.ir_reader.specs.Lines.{tok, result_next, named_so, plainly};
+ghost use Rattle.ir_reader.specs.Lines.{tok, result_next, named_so, plainly, form_at};
 
-use crate::inst::{operation, terminator};
+use crate::inst::{Place, instruction};
+use crate::words::operation_of;
 use crate::names::name_behind;
 use crate::numbering::{Numbering, named_id, result_id};
 use forms::{Cursor, SyntaxFault, TokenKind};
@@ -34,6 +35,27 @@ fn behind_result<'t>(tokens: Cursor<'t>) -> Option<(&'t [u8], Cursor<'t>)>
         Some((name, behind))
     } else {
         None
+    }
+}
+
+/// Whether an instruction that doesn't end a block stands next.
+#[tactic(auto, using(crate::proofs::Lines::operation_next))]
+fn begins_operation(tokens: Cursor<'_>) -> bool
+    ensures { result ≡ opens operation (left tokens.entry) }
+{
+    match tokens.split_first() {
+        Some((TokenKind::Word, word, _)) => operation_of(word).is_some(),
+        _ => false,
+    }
+}
+
+/// Whether a line of such an instruction stands next.
+pub fn begins_line(tokens: Cursor<'_>) -> bool
+    ensures { result ≡ opens (line_form operation) (left tokens.entry) }
+{
+    match behind_result(tokens) {
+        Some((_, rest)) => begins_operation(rest),
+        None => begins_operation(tokens),
     }
 }
 
@@ -57,54 +79,57 @@ fn with_result(inst: Inst, name: Option<ValueId>) -> Inst
     }
 }
 
-/// An operation behind `%name =`, where `name` is the token.
+/// An instruction behind `%name =`, where `name` is the token.
 #[tactic(auto, using(crate::proofs::Lines::numbered_named))]
-fn named_operation<'t>(
+fn named<'t>(
     alloc: Global,
+    place: Place,
     name: &[u8],
     tokens: Cursor<'t>,
     names: &mut Names,
     numbering: &mut Numbering,
 ) -> Result<(Inst, Cursor<'t>), SyntaxFault>
     ensures grows { Extends names.old names.new }
-    ensures reads { (v : List ℕ) → Gives (λ x. ((inst_in names.new x.0, numbering.new.next), left x.1)) result (completed (numbered_inst numbering.old.next) (named_so name.now v (read operation (left tokens.entry)))) }
+    ensures reads { (v : List ℕ) → Gives (λ x. ((inst_in names.new x.0, numbering.new.next), left x.1)) result (completed (numbered_inst numbering.old.next) (named_so name.now v (read (form_at place) (left tokens.entry)))) }
     ensures stays { Stays inst_in names.new result }
 {
     let written = result_name(alloc, name, tokens)?;
     let id = named_id(Some(written), names, numbering, tokens)?;
-    let (inst, rest) = operation(alloc, tokens, names)?;
+    let (inst, rest) = instruction(alloc, place, tokens, names)?;
     Ok((with_result(inst, Some(id)), rest))
 }
 
-/// An operation for whose result no name is written.
-fn plain_operation<'t>(
+/// An instruction for whose result no name is written.
+fn plain<'t>(
     alloc: Global,
+    place: Place,
     tokens: Cursor<'t>,
     names: &mut Names,
     numbering: &mut Numbering,
 ) -> Result<(Inst, Cursor<'t>), SyntaxFault>
     ensures grows { Extends names.old names.new }
-    ensures reads { Gives (λ x. ((inst_in names.new x.0, numbering.new.next), left x.1)) result (completed (numbered_inst numbering.old.next) (plainly (read operation (left tokens.entry)))) }
+    ensures reads { Gives (λ x. ((inst_in names.new x.0, numbering.new.next), left x.1)) result (completed (numbered_inst numbering.old.next) (plainly (read (form_at place) (left tokens.entry)))) }
     ensures stays { Stays inst_in names.new result }
 {
-    let (inst, rest) = operation(alloc, tokens, names)?;
+    let (inst, rest) = instruction(alloc, place, tokens, names)?;
     let id = result_id(inst.ty, names, numbering, tokens)?;
     Ok((with_result(inst, id), rest))
 }
 
-/// [%name =] and an operation.
-pub fn operation_line<'t>(
+/// [%name =] and an instruction.
+pub fn line<'t>(
     alloc: Global,
+    place: Place,
     tokens: Cursor<'t>,
     names: &mut Names,
     numbering: &mut Numbering,
 ) -> Result<(Inst, Cursor<'t>), SyntaxFault>
     ensures grows { Extends names.old names.new }
-    ensures reads { Gives (λ x. ((inst_in names.new x.0, numbering.new.next), left x.1)) result (completed (numbered_inst numbering.old.next) (read (line operation) (left tokens.entry))) }
+    ensures reads { Gives (λ x. ((inst_in names.new x.0, numbering.new.next), left x.1)) result (completed (numbered_inst numbering.old.next) (read (line_form (form_at place)) (left tokens.entry))) }
     ensures stays { Stays inst_in names.new result }
 {
     match behind_result(tokens) {
-        Some((name, rest)) => named_operation(alloc, name, rest, names, numbering),
-        None => plain_operation(alloc, tokens, names, numbering),
+        Some((name, rest)) => named(alloc, place, name, rest, names, numbering),
+        None => plain(alloc, place, tokens, names, numbering),
     }
 }
