@@ -2,3 +2,4 @@ pub mod Modulo
 pub mod Strings
 pub mod Lines
 pub mod Same
+pub mod Threads
