@@ -111,3 +111,18 @@ fn parts<'t>(
         rest,
     ))
 }
+
+/// A block.
+#[tactic(auto)]
+pub fn block<'t>(
+    alloc: Global,
+    tokens: Cursor<'t>,
+    names: &mut Names,
+    numbering: &mut Numbering,
+) -> Result<(Block, Cursor<'t>), SyntaxFault>
+    ensures grows { Extends names.old names.new }
+    ensures reads { Gives (λ x. ((block_in names.new x.0, numbering.new.next), left x.1)) result (completed (numbered_block numbering.old.next) (read block (left tokens.entry))) }
+    ensures stays { Stays block_in names.new result }
+{
+    parts(alloc, tokens, names, numbering)
+}
