@@ -4,3 +4,5 @@ pub mod Lines
 pub mod Same
 pub mod Threads
 pub mod Parts
+pub mod Starts
+pub mod Functions

@@ -115,9 +115,14 @@ plain_at Inside ts e = read_plain operation_words operation_behind ts e
 plain_at Last ts e = read_plain terminator_words terminator_behind ts e
 
 -- a word of an instruction stands next
-pub operation_next : (t : Lexeme) (ts : List Lexeme) → opens operation (t ∷ ts) ≡ (eqb (kind_code t.kind) (kind_code Word) && is_some (entry operation_words t.text))
+
+pub inside_next : (t : Lexeme) (ts : List Lexeme) → opens (form_at Inside) (t ∷ ts) ≡ (eqb (kind_code t.kind) (kind_code Word) && is_some (entry operation_words t.text))
 unfolding operation
-operation_next t ts = word_next operation_words t ts
+inside_next t ts = word_next operation_words t ts
+
+pub last_next : (t : Lexeme) (ts : List Lexeme) → opens (form_at Last) (t ∷ ts) ≡ (eqb (kind_code t.kind) (kind_code Word) && is_some (entry terminator_words t.text))
+unfolding terminator
+last_next t ts = word_next terminator_words t ts
 
 fits_append : (ts : List Lexeme) (a b : List Terminal) → fits_one ts (a ++ b) ≡ (fits_one ts a || fits_one ts b)
 fits_append ts [] b = refl
@@ -131,18 +136,26 @@ or_nothing : (x : Bool) → (x || false) ≡ x
 or_nothing true = refl
 or_nothing false = refl
 
-pub line_begins_named : (w v : List ℕ) (us : List Lexeme) → opens (line operation) (tok Local w ∷ tok Equal v ∷ us) ≡ opens operation us
-unfolding operation
-line_begins_named w v us =
+begins_named : {K : Type 0} (table : List (List ℕ × K)) (w v : List ℕ) (us : List Lexeme) → next_in (marks_then Local (marks_then Equal (words_of table)) ++ words_of table) (tok Local w ∷ tok Equal v ∷ us) ≡ next_in (words_of table) us
+begins_named table w v us =
     let ts = tok Local w ∷ tok Equal v ∷ us in
-    fits_append ts (marks_then Local (marks_then Equal (words_of operation_words))) (words_of operation_words)
-    ∙ ap (λ (b : Bool). b || fits_one ts (words_of operation_words)) (named_opens operation_words w v us)
-    ∙ ap (λ (b : Bool). next_in (words_of operation_words) us || b) (word_next operation_words (tok Local w) (tok Equal v ∷ us))
-    ∙ or_nothing (next_in (words_of operation_words) us)
+    fits_append ts (marks_then Local (marks_then Equal (words_of table))) (words_of table)
+    ∙ ap (λ (b : Bool). b || fits_one ts (words_of table)) (named_opens table w v us)
+    ∙ ap (λ (b : Bool). next_in (words_of table) us || b) (word_next table (tok Local w) (tok Equal v ∷ us))
+    ∙ or_nothing (next_in (words_of table) us)
 
-pub line_begins_plain : (ts : List Lexeme) → result_next ts ≡ false → opens (line operation) ts ≡ opens operation ts
-unfolding operation
-line_begins_plain [] e = refl
-line_begins_plain (t ∷ ts) e =
-    fits_append (t ∷ ts) (marks_then Local (marks_then Equal (words_of operation_words))) (words_of operation_words)
-    ∙ ap (λ (b : Bool). b || fits_one (t ∷ ts) (words_of operation_words)) (plain_opens operation_words (t ∷ ts) e)
+begins_plain : {K : Type 0} (table : List (List ℕ × K)) (ts : List Lexeme) → result_next ts ≡ false → next_in (marks_then Local (marks_then Equal (words_of table)) ++ words_of table) ts ≡ next_in (words_of table) ts
+begins_plain table [] e = refl
+begins_plain table (t ∷ ts) e =
+    fits_append (t ∷ ts) (marks_then Local (marks_then Equal (words_of table))) (words_of table)
+    ∙ ap (λ (b : Bool). b || fits_one (t ∷ ts) (words_of table)) (plain_opens table (t ∷ ts) e)
+
+pub line_begins_named : (place : Place) (w v : List ℕ) (us : List Lexeme) → opens (line (form_at place)) (tok Local w ∷ tok Equal v ∷ us) ≡ opens (form_at place) us
+unfolding operation terminator
+line_begins_named Inside w v us = begins_named operation_words w v us
+line_begins_named Last w v us = begins_named terminator_words w v us
+
+pub line_begins_plain : (place : Place) (ts : List Lexeme) → result_next ts ≡ false → opens (line (form_at place)) ts ≡ opens (form_at place) ts
+unfolding operation terminator
+line_begins_plain Inside ts e = begins_plain operation_words ts e
+line_begins_plain Last ts e = begins_plain terminator_words ts e

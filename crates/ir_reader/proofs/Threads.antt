@@ -2,8 +2,11 @@
 use Rattle.std.proofs.Common.{◌≡◌, List, [], ◌∷◌, ◌++◌, Option, Some, None, refl, sym, ap, ◌∙◌}
 use Rattle.forms.specs.Form.{Lexeme, Form, mapped}
 use Rattle.forms.specs.Reading.{◌>>=◌, read, read_pair}
+use Rattle.forms.specs.declared.TokenKind.{TokenKind}
+use Rattle.forms.specs.Gives.{mark}
 use Rattle.forms.specs.Walk.{walk, completed}
-use Rattle.ir_reader.specs.Threads.{thread, threaded, renamed, renamed_before}
+use Rattle.ir_types.specs.Grammar.{between}
+use Rattle.ir_reader.specs.Threads.{thread, threaded, renamed, renamed_before, between_read}
 
 abbrev second : {B C D T U : Type 0} → (T → B → Option (D × U)) → Option (C × T) → Option (B × List Lexeme) → Option (((C × D) × U) × List Lexeme)
 second g c o = c >>= λ x. completed (g x.1) o >>= λ y. Some (((x.0, y.0.0), y.0.1), y.1)
@@ -90,3 +93,40 @@ walk-push {S} {A} {B} step s (a ∷ more) x = by (λ t. walk-push step t more x)
     by : ((t : S) → walk step t (more ++ x ∷ []) ≡ last_one step x (walk step t more)) → (o : Option (B × S)) → (o >>= λ p. before p.0 (walk step p.1 (more ++ x ∷ []))) ≡ last_one step x (o >>= λ p. before p.0 (walk step p.1 more))
     by h None = refl
     by h (Some p) = ap (before p.0) (h p.1) ∙ last_before step x p.0 (walk step p.1 more)
+
+-- ---- between two marks
+
+abbrev Marked : Type 0
+Marked = Option (Unit {0} × List Lexeme)
+
+abbrev inner : {A : Type 0} → A → Marked → Option ((A × Unit {0}) × List Lexeme)
+inner a o = o >>= λ y. Some ((a, y.0), y.1)
+
+abbrev outer : {A : Type 0} → Unit {0} → Option ((A × Unit {0}) × List Lexeme) → Option ((Unit {0} × (A × Unit {0})) × List Lexeme)
+outer u o = o >>= λ y. Some ((u, y.0), y.1)
+
+abbrev only : {A : Type 0} → Option ((Unit {0} × (A × Unit {0})) × List Lexeme) → Option (A × List Lexeme)
+only o = o >>= λ x. Some (x.0.1.0, x.1)
+
+abbrev ended : {B : Type 0} → B → Marked → Option (B × List Lexeme)
+ended b o = o >>= λ e. Some (b, e.1)
+
+closes : {A B : Type 0} (f : A → Option B) (u : Unit {0}) (a : A) (o : Marked) (q : Option B) → f a ≡ q → completed f (only (outer u (inner a o))) ≡ (q >>= λ b. ended b o)
+closes f u a None None e = refl
+closes f u a None (Some b) e = refl
+closes {A} {B} f u a (Some m) None e = ap (λ (x : Option B). there m.1 x) e
+closes {A} {B} f u a (Some m) (Some b) e = ap (λ (x : Option B). there m.1 x) e
+
+then_closes : {B : Type 0} (c : TokenKind) (us : List Lexeme) (q : Option B) → ((q >>= λ b. ended b (read (mark c) us))) ≡ (there us q >>= λ x. ended x.0 (read (mark c) x.1))
+then_closes c us None = refl
+then_closes c us (Some b) = refl
+
+pub between_is : {A B : Type 0} (o c : TokenKind) (f : A → Option B) (g : Form A) (ts : List Lexeme) → between_read o c f (read g) ts ≡ completed f (read (between o c g) ts)
+between_is {A} {B} o c f g ts = by (read (mark o) ts)
+  where
+    each : (u : Unit {0}) (r : Option (A × List Lexeme)) → (completed f r >>= λ x. ended x.0 (read (mark c) x.1)) ≡ completed f (only (outer u (r >>= λ x. inner x.0 (read (mark c) x.1))))
+    each u None = refl
+    each u (Some x) = sym (closes f u x.0 (read (mark c) x.1) (f x.0) refl ∙ then_closes c x.1 (f x.0))
+    by : (m : Marked) → (m >>= λ m. completed f (read g m.1) >>= λ x. ended x.0 (read (mark c) x.1)) ≡ completed f (only (m >>= λ m. outer m.0 (read g m.1 >>= λ x. inner x.0 (read (mark c) x.1))))
+    by None = refl
+    by (Some m) = each m.0 (read g m.1)

@@ -2,3 +2,5 @@ pub mod View
 pub mod Lines
 pub mod Threads
 pub mod Blocks
+pub mod Functions
+pub mod Refusal

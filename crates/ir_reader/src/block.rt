@@ -44,7 +44,7 @@ fn operations<'t>(
     ensures stays { Stays (λ ns x. insts_in ns x.items) names.new result }
 {
     let (mut insts, mut rest) = no_insts(alloc, tokens);
-    'more: while begins_line(rest) {
+    'more: while begins_line(Place::Inside, rest) {
         let (inst, after) = line(alloc, Place::Inside, rest, names, numbering)?;
         insts.push(inst)?;
         rest = after;

@@ -8,5 +8,6 @@ mod line;
 mod names;
 mod numbering;
 mod numbers;
+mod param;
 mod value;
 mod words;

@@ -15,7 +15,7 @@ ghost use Rattle.ir_reader.specs.View.{Stays};
 ghost use Rattle.ir_reader.specs.Lines.{tok, result_next, named_so, plainly, form_at};
 
 use crate::inst::{Place, instruction};
-use crate::words::operation_of;
+use crate::words::{operation_of, terminator_of};
 use crate::names::name_behind;
 use crate::numbering::{Numbering, named_id, result_id};
 use forms::{Cursor, SyntaxFault, TokenKind};
@@ -38,24 +38,27 @@ fn behind_result<'t>(tokens: Cursor<'t>) -> Option<(&'t [u8], Cursor<'t>)>
     }
 }
 
-/// Whether an instruction that doesn't end a block stands next.
-#[tactic(auto, using(crate::proofs::Lines::operation_next))]
-fn begins_operation(tokens: Cursor<'_>) -> bool
-    ensures { result ≡ opens operation (left tokens.entry) }
+/// Whether an instruction that may stand at this place stands next.
+#[tactic(auto, using(crate::proofs::Lines::inside_next, crate::proofs::Lines::last_next))]
+fn begins_instruction(place: Place, tokens: Cursor<'_>) -> bool
+    ensures { result ≡ opens (form_at place) (left tokens.entry) }
 {
     match tokens.split_first() {
-        Some((TokenKind::Word, word, _)) => operation_of(word).is_some(),
+        Some((TokenKind::Word, word, _)) => match place {
+            Place::Inside => operation_of(word).is_some(),
+            Place::Last => terminator_of(word).is_some(),
+        },
         _ => false,
     }
 }
 
 /// Whether a line of such an instruction stands next.
-pub fn begins_line(tokens: Cursor<'_>) -> bool
-    ensures { result ≡ opens (line_form operation) (left tokens.entry) }
+pub fn begins_line(place: Place, tokens: Cursor<'_>) -> bool
+    ensures { result ≡ opens (line_form (form_at place)) (left tokens.entry) }
 {
     match behind_result(tokens) {
-        Some((_, rest)) => begins_operation(rest),
-        None => begins_operation(tokens),
+        Some((_, rest)) => begins_instruction(place, rest),
+        None => begins_instruction(place, tokens),
     }
 }
 

@@ -1,0 +1,29 @@
+-- The parts of a function, read one behind the other.
+use Rattle.std.proofs.Common.{◌≡◌, ℕ, Bool, true, false, cond, List, [], ◌∷◌, ◌++◌, Option, Some, None, refl, sym, ap, ◌∙◌}
+use Rattle.forms.specs.Form.{Lexeme}
+use Rattle.forms.specs.Reading.{◌>>=◌, opens, read}
+use Rattle.ir_types.specs.Tree.{WrittenParam}
+use Rattle.ir_types.specs.Grammar.{parameter, int_type, commas, list, or_none}
+
+abbrev Params : Type 0
+Params = Option (List WrittenParam × List Lexeme)
+
+abbrev some_of : Params → Option (Option (List WrittenParam) × List Lexeme)
+some_of r = r >>= λ x. Some (Some x.0, x.1)
+
+abbrev all_of : Option (Option (List WrittenParam) × List Lexeme) → Params
+all_of r = r >>= λ x. Some (or_none x.0, x.1)
+
+same : (r : Params) → all_of (some_of r) ≡ r
+same None = refl
+same (Some x) = refl
+
+-- where a parameter stands next, there are some
+pub list_some : (ts : List Lexeme) → opens parameter ts ≡ true → read (list parameter) ts ≡ read (commas parameter) ts
+unfolding parameter int_type
+list_some ts e = ap (λ (b : Bool). all_of (cond b (some_of (read (commas parameter) ts)) (Some (None, ts)))) e ∙ same (read (commas parameter) ts)
+
+-- and none elsewhere
+pub list_none : (ts : List Lexeme) → opens parameter ts ≡ false → read (list parameter) ts ≡ Some ([], ts)
+unfolding parameter int_type
+list_none ts e = ap (λ (b : Bool). all_of (cond b (some_of (read (commas parameter) ts)) (Some (None, ts)))) e
