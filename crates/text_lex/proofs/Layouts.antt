@@ -7,19 +7,15 @@ use Rattle.forms.specs.Lexical.{LexesTo, Lexes, here, space, token, Longest, kin
 use Rattle.text_lex.specs.Layout.{Piece, gap, lexeme, text_of, tokens_of, AreTokens, is_mark, is_empty, joins, ends_open}
 use Rattle.text_lex.specs.Neighbours.{all_of, separates}
 use Rattle.text_lex.proofs.Marks.{IsMark, mark_is}
-use Rattle.text_lex.proofs.Neighbours.{parted, alone, last}
+use Rattle.text_lex.proofs.Neighbours.{parted, alone, last, space_separates, tab_separates, feed_separates, return_separates}
 use Rattle.text_lex.proofs.Tests.{test, or_true, not_true, not_both}
 
 space_apart : (c : ℕ) → is_space c ≡ true → separates c ≡ true
-unfolding table
 space_apart c h = elim (or_true (eqb c 32) _ h) [
-  | inl i ↦ let e = eqb-true c 32 i in rw e refl
+  | inl i ↦ rw (eqb-true c 32 i) space_separates
   | inr h2 ↦ elim (or_true (eqb c 9) _ h2) [
-    | inl i ↦ let e = eqb-true c 9 i in rw e refl
-    | inr h3 ↦ elim (or_true (eqb c 10) _ h3) [
-      | inl i ↦ let e = eqb-true c 10 i in rw e refl
-      | inr i ↦ let e = eqb-true c 13 i in rw e refl
-    ]
+    | inl i ↦ rw (eqb-true c 9 i) tab_separates
+    | inr h3 ↦ elim (or_true (eqb c 10) _ h3) [ inl i ↦ rw (eqb-true c 10 i) feed_separates | inr i ↦ rw (eqb-true c 13 i) return_separates ]
   ]
 ]
 

@@ -9,3 +9,5 @@ pub mod Ranges
 pub mod Colons
 pub mod Marks
 pub mod Layouts
+pub mod Decimals
+pub mod Printed

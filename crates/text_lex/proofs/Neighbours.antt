@@ -327,6 +327,14 @@ pub space_separates : separates 32 ≡ true
 unfolding table
 space_separates = refl
 
+pub tab_separates : separates 9 ≡ true
+unfolding table
+tab_separates = refl
+
+pub return_separates : separates 13 ≡ true
+unfolding table
+return_separates = refl
+
 pub feed_separates : separates 10 ≡ true
 unfolding table
 feed_separates = refl

@@ -14,7 +14,7 @@ all_covered : all_below 256 is_covered ≡ true
 unfolding is_covered table
 all_covered = refl
 
-below_all : (n : ℕ) (p : ℕ → Bool) (c : ℕ) → all_below n p ≡ true → c < n → p c ≡ true
+pub below_all : (n : ℕ) (p : ℕ → Bool) (c : ℕ) → all_below n p ≡ true → c < n → p c ≡ true
 below_all zero p c h lt = absurd (omega arith)
 below_all (suc n) p c h lt =
     let a = and_parts (p n) (all_below n p) h in

@@ -3,3 +3,5 @@ pub mod Neighbours
 pub mod Spelling
 pub mod Fault
 pub mod Layout
+pub mod Names
+pub mod Numbers
