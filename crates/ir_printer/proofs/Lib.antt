@@ -1,3 +1,5 @@
 pub mod Escapes
 pub mod Names
 pub mod Numbers
+pub mod Sure
+pub mod Written
