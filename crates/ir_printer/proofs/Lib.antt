@@ -3,3 +3,5 @@ pub mod Names
 pub mod Numbers
 pub mod Sure
 pub mod Written
+pub mod Numbering
+pub mod Says

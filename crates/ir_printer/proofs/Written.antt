@@ -212,7 +212,7 @@ line_sure {P} {Q} p plain with_name =
     mapped_same : {f : Form InstTree} → Sure f P → ((i : InstTree) → P i → Q i) → Sure f Q
     mapped_same q plain = record { known = λ i ts h. plain i (q.known i ts h) }
 
-renamed : (i : InstTree) (n : Name) → IsBody i → IsBody (record i { result = Some n })
+pub renamed : (i : InstTree) (n : Name) → IsBody i → IsBody (record i { result = Some n })
 renamed i n h = record { shape = h.shape; at = h.at; args = h.args; labels = h.labels }
 
 nameless_result : (o : Option Name) → o ≡ None → IsNameThere o
