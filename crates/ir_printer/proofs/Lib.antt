@@ -5,3 +5,4 @@ pub mod Sure
 pub mod Written
 pub mod Numbering
 pub mod Says
+pub mod Spelled
