@@ -1,5 +1,5 @@
 -- The tokens that a module is printed as spell the module.
-use Rattle.std.proofs.Common.{◌≡◌, ◌+◌, ◌<◌, ◌^◌, ℕ, zero, suc, Bool, true, false, eqb, List, [], ◌∷◌, ◌++◌, length, Option, Some, None, cond, lit<, lit≤, refl, sym, ap, ◌∙◌, subst, arith, inl, inr}
+use Rattle.std.proofs.Common.{◌≡◌, ◌+◌, ◌<◌, ◌^◌, ℕ, zero, suc, Bool, true, false, eqb, List, [], ◌∷◌, ◌++◌, length, Option, Some, None, cond, lit<, lit≤, refl, sym, ap, ◌∙◌, subst, append_assoc, arith, inl, inr}
 use Rattle.std.specs.Prelude.{map, codes, decimal}
 use Rattle.std.specs.List.{AllByRecursion}
 use Rattle.std.proofs.lemmas.List.{append-nil}
@@ -234,3 +234,78 @@ operation_line i h = rw (line_tokens i) (with_name i.kind i.ty i.args i.labels o
 
 terminator_line : (i : InstTree) → IsInst i → IsTerminator i.kind → Says (line terminator) i (tokens_of (inst_pieces i))
 terminator_line i h g = rw (line_tokens i) (with_name i.kind i.ty i.args i.labels terminator _ (terminator_says i.kind i.ty i.args i.labels (stripped i h.body) g) i.result h.result)
+
+-- ---- blocks, functions and modules
+
+cons_says : {A B : Type 0} {f : Form A} {g : Form B} {a : A} {more : List A} {b : B} (x ts : List Lexeme) → Says f a x → Says (pair (many f) g) (more, b) ts → Says (pair (many f) g) (a ∷ more, b) (x ++ ts)
+cons_says x ts p q =
+    let h = q.spells in
+    record { spells = (x ++ h.0, h.1, ap (λ (us : List Lexeme). x ++ us) h.2 ∙ sym (append_assoc x h.0 h.1), (x, h.0, refl, p.spells, h.3), h.4) }
+
+-- the lines of a block, and the last of them
+record Lines (insts : List InstTree) : Type 0 where
+  front : List InstTree
+  last : InstTree
+  parts : front ++ last ∷ [] ≡ insts
+  says : Says (pair (many (line operation)) (line terminator)) (front, last) (tokens_of (print.each_behind (print.indent ∷ []) (map inst_pieces insts)))
+
+lines_say : (insts : List InstTree) → AllByRecursion IsInst insts → EndsOnce (map (λ i. i.kind) insts) → Lines insts
+lines_say [] h e = absurd e
+lines_say (i ∷ []) h e = record {
+  front = [];
+  last = i;
+  parts = refl;
+  says = rw (append-nil (inst_pieces i)) (pair_says [] _ (record { spells = refl }) (terminator_line i h.0 e));
+}
+lines_say (i ∷ j ∷ insts) h e =
+    let rest = lines_say (j ∷ insts) h.1 e.1 in
+    record {
+      front = i ∷ rest.front;
+      last = rest.last;
+      parts = ap (λ (is : List InstTree). i ∷ is) rest.parts;
+      says = rw (tokens_of-append (inst_pieces i) (print.each_behind (print.indent ∷ []) (map inst_pieces (j ∷ insts)))) (cons_says (tokens_of (inst_pieces i)) _ (operation_line i (record { inst = h.0; goes_on = e.0 })) rest.says);
+    }
+
+block_says : EachSays block written_block block_pieces IsBlock
+unfolding block block_pieces
+block_says = record { one = λ b h.
+  let lines = lines_say b.insts h.insts h.ending in
+  mapped_says (Some b.name, (lines.front, lines.last)) _ (rw (lines.parts) refl) (pair_says (label_token b.name ∷ []) _ (there_says (label_says b.name h.name)) lines.says) }
+
+param_says : EachSays parameter written_param param_pieces IsParam
+unfolding parameter
+param_says = record { one = λ p h. mapped_says (p.ty, Some p.name) _ refl (pair_says (token kinds.Word (type_word p.ty) ∷ []) _ (type_says p.ty h.ty) (there_says (local_says p.name h.name))) }
+
+abbrev params_tokens : FunctionTree → List Lexeme
+params_tokens f = tokens_of (with_commas (map param_pieces f.params))
+
+abbrev blocks_tokens : FunctionTree → List Lexeme
+blocks_tokens f = tokens_of (print.separated (print.line_feed ∷ []) (map block_pieces f.body))
+
+abbrev in_parens : List Lexeme → List Lexeme
+in_parens ts = token kinds.LeftParen (codes "(") ∷ (ts ++ token kinds.RightParen (codes ")") ∷ [])
+
+abbrev in_braces : List Lexeme → List Lexeme
+in_braces ts = token kinds.LeftBrace (codes "{") ∷ (ts ++ token kinds.RightBrace (codes "}") ∷ [])
+
+-- parameters and what closes them, and the blocks and what closes those
+parts_tokens : (ps bs : List Piece) → tokens_of ((ps ++ (print.right_paren ∷ print.blank ∷ print.left_brace ∷ print.line_feed ∷ [])) ++ (bs ++ (print.right_brace ∷ print.line_feed ∷ [])))
+    ≡ (tokens_of ps ++ token kinds.RightParen (codes ")") ∷ []) ++ in_braces (tokens_of bs)
+parts_tokens ps bs =
+    simp (tokens_of-append, append_assoc)
+
+function_tokens : (f : FunctionTree) → tokens_of (function_pieces f) ≡ token kinds.Word (codes "define") ∷ token kinds.Word (type_word f.ret) ∷ global_token f.name ∷ (in_parens (params_tokens f) ++ in_braces (blocks_tokens f))
+unfolding function_pieces
+function_tokens f = ap (λ (ts : List Lexeme). token kinds.Word (codes "define") ∷ token kinds.Word (type_word f.ret) ∷ global_token f.name ∷ token kinds.LeftParen (codes "(") ∷ ts) (parts_tokens (with_commas (map param_pieces f.params)) (print.separated (print.line_feed ∷ []) (map block_pieces f.body)))
+
+function_says : EachSays function written_function function_pieces IsFunction
+unfolding function
+function_says = record { one = λ f h. rw (function_tokens f) (mapped_says (f.ret, (f.name, (map written_param f.params, map written_block f.body))) _ refl
+  (behind_says (codes "define") (pair_says (token kinds.Word (type_word f.ret) ∷ []) _ (type_says f.ret h.ret) (pair_says (global_token f.name ∷ []) _ (global_says f.name h.name)
+    (pair_says (in_parens (params_tokens f)) _ (between_says (params_tokens f) kinds.LeftParen kinds.RightParen _ _ (list_says param_says f.params h.params))
+      (between_says (blocks_tokens f) kinds.LeftBrace kinds.RightBrace _ _ (some_says (10 ∷ []) block_says f.body h.some h.blocks))))))) }
+
+-- What is printed spells the module, with each name written.
+pub printed_spells : (m : ModuleTree) → IsModule m → Spells module_form (written_of m) (tokens_of (module_pieces m))
+unfolding module_form module_pieces
+printed_spells m h = (map written_function m.functions, refl, (separated_says (10 ∷ []) function_says m.functions h).spells)
