@@ -6,3 +6,6 @@ pub mod Written
 pub mod Numbering
 pub mod Says
 pub mod Spelled
+pub mod Laid
+pub mod LaidOut
+pub mod Printed

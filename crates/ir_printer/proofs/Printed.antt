@@ -1,0 +1,39 @@
+-- What is printed of a module that some text reads as reads as that module.
+use Rattle.std.proofs.Common.{◌≡◌, ℕ, List, Some, refl, sym, ◌∙◌, ap, subst}
+use Rattle.forms.proofs.Exact.{some_is}
+use Rattle.text_lex.specs.Layout.{text_of, tokens_of}
+use Rattle.text_lex.proofs.Layouts.{pieces_lexed}
+use Rattle.ir_types.specs.declared.module.Module.{Module}
+use Rattle.ir_types.specs.Tree.{ModuleTree}
+use Rattle.ir_types.specs.Numbered.{numbered_module, resolved_module}
+use Rattle.ir_types.specs.Denotes.{tree_of, Denotes}
+use Rattle.ir_types.specs.Reads.{Reads, IsReadable}
+use Rattle.ir_printer.specs.Print.{module_pieces}
+use Rattle.ir_printer.specs.Printable.{IsModule}
+use Rattle.ir_printer.proofs.Written.{spelled_is}
+use Rattle.ir_printer.proofs.Numbering.{module_known, written_of, numbered_again}
+use Rattle.ir_printer.proofs.Spelled.{printed_spells}
+use Rattle.ir_printer.proofs.LaidOut.{module_laid}
+
+-- Such a module can be printed.
+pub readable_known : (m : Module) → IsReadable m → IsModule (tree_of m)
+readable_known m (text, r) =
+    let known = module_known r.written r.numbered (spelled_is r.written r.tokens r.spelled) r.numbers in
+    let same : r.numbered ≡ tree_of m = some_is r.numbered r.resolved r.resolves ∙ sym r.denotes.says in
+    subst IsModule same known
+
+pub printed_reads : (m : Module) → IsReadable m → Reads (text_of (module_pieces (tree_of m))) m
+printed_reads m r =
+    let known = readable_known m r in
+    let laid = module_laid (tree_of m) known in
+    record {
+      tokens = tokens_of (module_pieces (tree_of m));
+      written = written_of (tree_of m);
+      numbered = tree_of m;
+      resolved = tree_of m;
+      lexes = pieces_lexed (module_pieces (tree_of m)) laid.tokens laid.joined;
+      spelled = printed_spells (tree_of m) known;
+      numbers = numbered_again (tree_of m) known;
+      resolves = refl;
+      denotes = record { says = refl; tables = r.1.denotes.tables };
+    }
