@@ -1,2 +1,7 @@
 //! Prints modules.
 #![tactic(auto)]
+
+mod function;
+mod line;
+mod name;
+mod value;
