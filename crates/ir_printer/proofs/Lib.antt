@@ -9,3 +9,4 @@ pub mod Spelled
 pub mod Laid
 pub mod LaidOut
 pub mod Printed
+pub mod Appended

@@ -107,3 +107,73 @@ fn put_entries(
     }
     Ok(())
 }
+
+// Appends an instruction without its result's name.
+#[tactic(auto, using(crate::proofs::Appended::text_of_both, std::proofs::lemmas::Grind::common_steps))]
+fn put_kind(out: &mut Vec<u8>, names: &Names, inst: &Inst) -> Result<(), AllocError>
+    requires { IsBody (inst_in names.now inst.now) }
+    ensures { OnOk result (out.new.items ≡ out.old.items ++ text_of (kind_pieces inst.now.kind inst.now.ty (map (operand_in names.now) inst.now.args) (map (name_in names.now) inst.now.labels))) }
+{
+    let operands = inst.args.as_slice();
+    let labels = inst.labels.as_slice();
+    match inst.kind {
+        InstKind::Binary(operator) => {
+            out.extend_from_slice(word_of_operator(operator))?;
+            put_typed(out, names, inst.ty, operands)
+        }
+        InstKind::Compare(predicate, ty) => {
+            out.extend_from_slice(b"icmp ")?;
+            out.extend_from_slice(word_of_predicate(predicate))?;
+            put_typed(out, names, ty, operands)
+        }
+        InstKind::Phi => {
+            out.extend_from_slice(b"phi ")?;
+            put_type(out, inst.ty)?;
+            out.push(b' ')?;
+            put_entries(out, names, inst.ty, operands, labels)
+        }
+        InstKind::Jump => {
+            out.extend_from_slice(b"br ")?;
+            put_targets(out, names, labels)
+        }
+        InstKind::Branch => {
+            out.extend_from_slice(b"br")?;
+            put_typed(out, names, Ty::Int(1), operands)?;
+            out.extend_from_slice(b", ")?;
+            put_targets(out, names, labels)
+        }
+        InstKind::Return(ty) => {
+            out.extend_from_slice(b"ret")?;
+            put_typed(out, names, ty, operands)
+        }
+    }
+}
+
+// Appends `%name = ` where there is a name.
+fn put_result(
+    out: &mut Vec<u8>,
+    names: &Names,
+    ty: Ty,
+    name: Option<ValueId>,
+) -> Result<(), AllocError>
+    requires { IsResult ty (option_map (name_in names.now) name) }
+    ensures { OnOk result (out.new.items ≡ out.old.items ++ text_of (result_pieces (option_map (name_in names.now) name))) }
+{
+    if let Some(name) = name {
+        put_local(out, names, name)?;
+        out.extend_from_slice(b" = ")?;
+    }
+    Ok(())
+}
+
+/// Appends an instruction and a line feed.
+#[tactic(auto, using(crate::proofs::Appended::inst_text, std::proofs::lemmas::Grind::common_steps))]
+pub fn put_inst(out: &mut Vec<u8>, names: &Names, inst: &Inst) -> Result<(), AllocError>
+    requires { IsInst (inst_in names.now inst.now) }
+    ensures { OnOk result (out.new.items ≡ out.old.items ++ text_of (inst_pieces (inst_in names.now inst.now))) }
+{
+    put_result(out, names, inst.ty, inst.result)?;
+    put_kind(out, names, inst)?;
+    out.push(b'\n')?;
+    Ok(())
+}
