@@ -10,6 +10,8 @@ ghost use Rattle.ir_printer.specs.Print.{module_pieces};
 mod function;
 mod line;
 mod name;
+#[cfg(test)]
+mod tests;
 mod value;
 
 use crate::function::put_functions;

@@ -52,8 +52,9 @@ fn put_signed(out: &mut Vec<u8>, width: u32, number: u64) -> Result<(), AllocErr
     put_digits(out, (1 << width) - number)
 }
 
+// Appends a number at its type.
 #[tactic(auto, unfolding(crate::specs::Print::number_token))]
-fn put_number(out: &mut Vec<u8>, ty: Ty, number: u64) -> Result<(), AllocError>
+pub fn put_number(out: &mut Vec<u8>, ty: Ty, number: u64) -> Result<(), AllocError>
     requires int { IsInt ty }
     requires fits { number < 2 ^ width_of ty }
     ensures { OnOk result (out.new.items ≡ out.old.items ++ (number_token ty number).text) }
