@@ -9,7 +9,7 @@ use Rattle.text_lex.specs.Scan.{all_below}
 use Rattle.text_lex.specs.Names.{is_quotable}
 use Rattle.text_lex.specs.Neighbours.{all_of}
 use Rattle.text_lex.proofs.Ranges.{below_all}
-use Rattle.text_lex.proofs.Tests.{test, or_false}
+use Rattle.forms.proofs.Begins.{test, or_false}
 use Rattle.ir_types.specs.Written.{hex_value, escape, byte_at, unescaped_behind, unescaped, without_last}
 use Rattle.ir_printer.specs.Texts.{hex_digit, is_escaped, escaped_byte, escaped}
 

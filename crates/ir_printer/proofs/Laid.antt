@@ -7,7 +7,7 @@ use Rattle.forms.specs.Form.{Lexeme}
 use Rattle.forms.specs.Lexical.{kind_of}
 use Rattle.text_lex.specs.Layout.{Piece, lexeme, AreTokens, is_mark, joins, ends_open}
 use Rattle.text_lex.proofs.Layouts.{AreTokens-append, joins-from, joins_closed, joins_any}
-use Rattle.text_lex.proofs.Tests.{test}
+use Rattle.forms.proofs.Begins.{test}
 use Rattle.ir_printer.specs.Print.{token, blank, line_feed, indent, each_behind, separated}
 
 -- tokens that join

@@ -8,7 +8,7 @@ use Rattle.forms.specs.declared.TokenKind.TheVariants.{Local, Global, Label}
 use Rattle.forms.specs.Lexical.{has, kind_of, is_digit, begins_name}
 use Rattle.text_lex.specs.Names.{is_plain_name, is_digits}
 use Rattle.text_lex.specs.Numbers.{number_behind}
-use Rattle.text_lex.proofs.Tests.{test}
+use Rattle.forms.proofs.Begins.{test}
 use Rattle.text_lex.proofs.Decimals.{decimal_digits, number_of-decimal}
 use Rattle.text_lex.proofs.Printed.{local_named, local_quoted, local_numbered, global_named, global_quoted, global_numbered, label_named, label_quoted, label_numbered}
 use Rattle.ir_types.specs.declared.name.Name.{Name}

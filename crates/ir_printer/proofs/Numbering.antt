@@ -15,6 +15,7 @@ use Rattle.ir_types.specs.declared.inst.Ty.{Ty}
 use Rattle.ir_types.specs.declared.inst.Ty.TheVariants.{Int, Void}
 use Rattle.ir_types.specs.declared.inst.InstKind.{InstKind}
 use Rattle.ir_types.specs.Tree.{OperandTree, InstTree, BlockTree, ParamTree, FunctionTree, ModuleTree, WrittenParam, WrittenBlock, WrittenFunction, WrittenModule}
+use Rattle.ir_types.specs.Grammar.{named_by}
 use Rattle.ir_types.specs.Numbered.{next_after, named, named_result, numbered_inst, numbered_block, numbered_param, numbered_function, numbered_module}
 use Rattle.ir_printer.specs.Printable.{IsName, IsInt, IsBody, IsNameThere, IsResult, IsInst, EndsOnce, IsBlock, IsParam, IsFunction, IsModule}
 use Rattle.ir_printer.proofs.Written.{IsWrittenInst, IsWrittenBlock, IsWrittenParam, IsWrittenFunction, IsWrittenModule, renamed}
@@ -69,8 +70,8 @@ result_known next (Int w) None x h e = named_then next (Int w) None x h e
 result_known next Void (Some n) x h e = named_then next Void (Some n) x h e
 result_known next (Int w) (Some n) x h e = named_then next (Int w) (Some n) x h e
 
-result_set : (i : InstTree) (o : Option Name) → IsBody i → IsResult i.ty o → IsInst (record i { result = o })
-result_set i o h r = record { body = record { shape = h.shape; at = h.at; args = h.args; labels = h.labels }; result = r }
+result_set : (i : InstTree) (o : Option Name) → IsBody i → IsResult i.ty o → IsInst (named_by i o)
+result_set i o h r = record { body = renamed i o h; result = r }
 
 inst_known : (next : ℕ) (i : InstTree) (x : InstTree × ℕ) → IsWrittenInst i → numbered_inst next i ≡ Some x → IsInst x.0
 inst_known next i x h e =

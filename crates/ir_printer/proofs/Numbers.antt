@@ -6,7 +6,7 @@ use Rattle.std.proofs.lemmas.Bool.Decides.{nat_tests}
 use Rattle.forms.specs.declared.TokenKind.TheVariants.{Number}
 use Rattle.forms.specs.Lexical.{kind_of, is_digit}
 use Rattle.text_lex.specs.Names.{is_digits}
-use Rattle.text_lex.proofs.Tests.{test}
+use Rattle.forms.proofs.Begins.{test}
 use Rattle.text_lex.proofs.Decimals.{decimal_digits}
 use Rattle.text_lex.proofs.Printed.{number_digits, number_negative}
 use Rattle.ir_types.specs.Written.{number_of, negated, number_at}

@@ -20,7 +20,7 @@ use Rattle.ir_types.specs.declared.inst.InstKind.TheVariants.{Binary, Compare, P
 use Rattle.ir_types.specs.declared.opcode.Operation.TheVariants as operations
 use Rattle.ir_types.specs.declared.opcode.Terminator.TheVariants as terminators
 use Rattle.ir_types.specs.Tree.{OperandTree, local, number, InstTree, BlockTree, ParamTree, FunctionTree, ModuleTree}
-use Rattle.ir_types.specs.Grammar.{word, behind, after_mark, between, marked, some, commas, list, local_name, global_name, label, int_type, WrittenValue, named, digits, yes, no, value, width_of, operand_at, two_values, binary, predicates, compared, compare, entry_of_phi, phi, target, branch, return, operation_words, operation, terminator_words, terminator, line, block, parameter, function, module_form}
+use Rattle.ir_types.specs.Grammar.{word, behind, after_mark, between, marked, some, commas, list, local_name, global_name, label, int_type, WrittenValue, named, digits, yes, no, value, width_of, operand_at, two_values, binary, predicates, compared, compare, entry_of_phi, phi, target, branch, ret, operation_words, operation, terminator_words, terminator, line, block, parameter, function, module_form}
 use Rattle.ir_printer.specs.Texts.{signed_text}
 use Rattle.ir_printer.specs.Print as print
 use Rattle.ir_printer.specs.Print.{token, local_token, global_token, label_token, type_word, number_token, operand_token, operand_pieces, predicate_word, operator_word, with_commas, typed_pieces, target_pieces, targets_pieces, entry_pieces, entries_of, kind_pieces, inst_pieces, block_pieces, param_pieces, function_pieces, module_pieces}
@@ -193,8 +193,8 @@ branch_says a l m h hl hm =
       (rw one_written (behind_says (codes "i1") (pair_says (operand_token (Int 1) a ∷ []) _ (value_says (Int 1) a (inl refl) h)
         (pair_says (token kinds.Comma (44 ∷ []) ∷ tokens_of (target_pieces l)) _ (after_mark_says kinds.Comma (44 ∷ []) (target_says l hl)) (after_mark_says kinds.Comma (44 ∷ []) (target_says m hm)))))))
 
-return_says : (t : Ty) (a : OperandTree) → IsInt t → IsOperand t a → Says return (bare (Return t) Void (a ∷ []) []) (tokens_of (typed_pieces t (a ∷ [])))
-unfolding return
+return_says : (t : Ty) (a : OperandTree) → IsInt t → IsOperand t a → Says ret (bare (Return t) Void (a ∷ []) []) (tokens_of (typed_pieces t (a ∷ [])))
+unfolding ret
 return_says t a i h = mapped_says _ _ (rw (value_is t a i h) refl) (pair_says (token kinds.Word (type_word t) ∷ []) _ (type_says t i) (value_says t a i h))
 
 terminator_says : (k : InstKind) (t : Ty) (args : List OperandTree) (labels : List Name) → IsBody (bare k t args labels) → IsTerminator k → Says terminator (bare k t args labels) (tokens_of (kind_pieces k t args labels))
@@ -212,7 +212,7 @@ terminator_says (Return u) t args labels h g = absurd (omega (arith, h.shape.0, 
 -- ---- lines
 
 with_name : (k : InstKind) (t : Ty) (args : List OperandTree) (labels : List Name) (f : Form InstTree) (ts : List Lexeme) → Says f (bare k t args labels) ts → (o : Option Name) → IsResult t o → Says (line f) (record { kind = k; ty = t; args = args; labels = labels; result = o }) (tokens_of (print.result_pieces o) ++ ts)
-with_name k t args labels f ts p None h = right_says p
+with_name k t args labels f ts p None h = right_says (mapped_says _ _ refl p)
 with_name k (Int w) args labels f ts p (Some n) h = left_says (made_says _ _ (rw (local_again n h) refl) (ahead_says kinds.Local _ (ahead_says kinds.Equal _ p)))
 with_name k Void args labels f ts p (Some n) h = left_says (made_says _ _ (rw (local_again n h) refl) (ahead_says kinds.Local _ (ahead_says kinds.Equal _ p)))
 

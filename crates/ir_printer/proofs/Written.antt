@@ -21,7 +21,7 @@ use Rattle.ir_types.specs.declared.opcode.Terminator.{Terminator}
 use Rattle.ir_types.specs.declared.opcode.Terminator.TheVariants as terminators
 use Rattle.ir_types.specs.Written.{number_at, number_of, negated, name_behind, name_before}
 use Rattle.ir_types.specs.Tree.{OperandTree, local, number, InstTree, WrittenParam, WrittenBlock, WrittenFunction, WrittenModule}
-use Rattle.ir_types.specs.Grammar.{word, behind, after_mark, between, marked, some, commas, list, local_name, global_name, label, int_type, WrittenValue, named, digits, yes, no, value, width_of, operand_at, two_values, binary_tree, binary, predicates, compare_tree, compared, compare, entry_of_phi, phi_tree, phi, target, jump_tree, branch_tree, branch, return_tree, return, operation_words, operation_behind, operation, terminator_words, terminator_behind, terminator, with_result, line, block_tree, block, parameter, function_tree, function, module_form}
+use Rattle.ir_types.specs.Grammar.{word, behind, after_mark, between, marked, some, commas, list, local_name, global_name, label, int_type, WrittenValue, named, digits, yes, no, value, width_of, operand_at, two_values, binary_tree, binary, predicates, compare_tree, compared, compare, entry_of_phi, phi_tree, phi, target, jump_tree, branch_tree, branch, return_tree, ret, operation_words, operation_behind, operation, terminator_words, terminator_behind, terminator, named_by, line, block_tree, block, parameter, function_tree, function, module_form}
 use Rattle.ir_printer.specs.Printable.{IsName, IsInt, IsOperand, operand_type, HasShape, IsBody, IsNameThere, IsTerminator, EndsOnce}
 use Rattle.ir_printer.proofs.Names.{behind_is, before_is}
 use Rattle.ir_printer.proofs.Sure.{Sure, one_sure, word_sure, pair_sure, either_sure, mapped_sure, made_sure, ahead_sure, IsThere, optional_sure, by_word_sure, many_sure, behind_sure, after_mark_sure, between_sure, marked_sure, Filled, some_sure, commas_sure, list_sure}
@@ -83,16 +83,13 @@ operand_is t no i h = wide t i
 
 -- ---- instructions
 
--- an instruction as its line's form gives it, without a name
 record IsOperationBody (i : InstTree) : Type 0 where
   body : IsBody i
   goes_on : ¬ IsTerminator i.kind
-  nameless : i.result ≡ None
 
 record IsTerminatorBody (i : InstTree) : Type 0 where
   body : IsBody i
   ends : IsTerminator i.kind
-  nameless : i.result ≡ None
 
 two_sure : Sure (pair int_type two_values) (λ x. IsInt x.0 × (IsValue x.1.0 × IsValue x.1.1))
 two_sure = pair_sure type_sure (pair_sure value_sure (after_mark_sure Comma value_sure))
@@ -102,7 +99,6 @@ unfolding binary
 binary_sure op = mapped_sure two_sure (λ x h. record {
   body = record { shape = (refl, refl); at = h.0; args = (operand_is x.0 x.1.0 h.0 h.1.0, (operand_is x.0 x.1.1 h.0 h.1.1, tt)); labels = tt };
   goes_on = λ b. b;
-  nameless = refl;
 })
 
 compared_sure : (p : Pred) → Sure (compared p) IsOperationBody
@@ -110,7 +106,6 @@ unfolding compared
 compared_sure p = mapped_sure two_sure (λ x h. record {
   body = record { shape = (refl, refl, refl); at = h.0; args = (operand_is x.0 x.1.0 h.0 h.1.0, (operand_is x.0 x.1.1 h.0 h.1.1, tt)); labels = tt };
   goes_on = λ b. b;
-  nameless = refl;
 })
 
 compare_sure : Sure compare IsOperationBody
@@ -140,7 +135,6 @@ unfolding phi
 phi_sure = mapped_sure (pair_sure type_sure (commas_sure entry_sure)) (λ x h. record {
   body = record { shape = entry_shape x.0 x.1 h.1.0; at = h.0; args = entry_args x.0 x.1 h.0 h.1.1; labels = entry_labels x.1 h.1.1 };
   goes_on = λ b. b;
-  nameless = refl;
 })
 
 by_operation : (o : Operation) → Sure (operation_behind o) IsOperationBody
@@ -160,7 +154,6 @@ jump_sure : Sure (mapped jump_tree target) IsTerminatorBody
 jump_sure = mapped_sure target_sure (λ l h. record {
   body = record { shape = (refl, refl, refl); at = inl refl; args = tt; labels = (h, tt) };
   ends = tt;
-  nameless = refl;
 })
 
 branch_sure : Sure branch IsTerminatorBody
@@ -168,15 +161,13 @@ unfolding branch
 branch_sure = either_sure jump_sure (mapped_sure (behind_sure (codes "i1") (pair_sure value_sure (pair_sure (after_mark_sure Comma target_sure) (after_mark_sure Comma target_sure)))) (λ x h. record {
   body = record { shape = (refl, refl, refl); at = inl refl; args = (operand_is (Int 1) x.0 (inl refl) h.0, tt); labels = (h.1.0, (h.1.1, tt)) };
   ends = tt;
-  nameless = refl;
 }))
 
-return_sure : Sure return IsTerminatorBody
-unfolding return
+return_sure : Sure ret IsTerminatorBody
+unfolding ret
 return_sure = mapped_sure (pair_sure type_sure value_sure) (λ x h. record {
   body = record { shape = (refl, refl, refl); at = h.0; args = (operand_is x.0 x.1 h.0 h.1, tt); labels = tt };
   ends = tt;
-  nameless = refl;
 })
 
 by_terminator : (t : Terminator) → Sure (terminator_behind t) IsTerminatorBody
@@ -201,32 +192,22 @@ record IsTerminatorLine (i : InstTree) : Type 0 where
   inst : IsWrittenInst i
   ends : IsTerminator i.kind
 
--- whatever its result is named
-line_sure : {P Q : InstTree → Type 0} {f : Form InstTree} → Sure f P → ((i : InstTree) → P i → Q i) → ((i : InstTree) (n : Name) → P i → IsName n → Q (record i { result = Some n })) → Sure (line f) Q
-line_sure {P} {Q} p plain with_name =
-    either_sure (made_sure {Q = Q} (ahead_sure Local (ahead_sure Equal p)) (λ x i h e.
+-- however its result is named
+line_sure : {P Q : InstTree → Type 0} {f : Form InstTree} → Sure f P → ((i : InstTree) (o : Option Name) → P i → IsNameThere o → Q (named_by i o)) → Sure (line f) Q
+line_sure {P} {Q} p named_so = either_sure
+    (made_sure {Q = Q} (ahead_sure Local (ahead_sure Equal p)) (λ x i h e.
       let b = bind_some (name_behind x.0) _ i e in
-      subst Q (some_is _ i b.2) (with_name x.1.1 b.0 h (behind_is x.0 b.0 b.1))))
-    (mapped_same p plain)
-  where
-    mapped_same : {f : Form InstTree} → Sure f P → ((i : InstTree) → P i → Q i) → Sure f Q
-    mapped_same q plain = record { known = λ i ts h. plain i (q.known i ts h) }
+      subst Q (some_is _ i b.2) (named_so x.1.1 (Some b.0) h (behind_is x.0 b.0 b.1))))
+    (mapped_sure {Q = Q} p (λ i h. named_so i None h tt))
 
-pub renamed : (i : InstTree) (n : Name) → IsBody i → IsBody (record i { result = Some n })
-renamed i n h = record { shape = h.shape; at = h.at; args = h.args; labels = h.labels }
-
-nameless_result : (o : Option Name) → o ≡ None → IsNameThere o
-nameless_result o e = rw e tt
+pub renamed : (i : InstTree) (o : Option Name) → IsBody i → IsBody (named_by i o)
+renamed i o h = record { shape = h.shape; at = h.at; args = h.args; labels = h.labels }
 
 operation_line_sure : Sure (line operation) IsOperationLine
-operation_line_sure = line_sure operation_sure
-    (λ i h. record { inst = record { body = h.body; result = nameless_result i.result h.nameless }; goes_on = h.goes_on })
-    (λ i n h g. record { inst = record { body = renamed i n h.body; result = g }; goes_on = h.goes_on })
+operation_line_sure = line_sure operation_sure (λ i o h g. record { inst = record { body = renamed i o h.body; result = g }; goes_on = h.goes_on })
 
 terminator_line_sure : Sure (line terminator) IsTerminatorLine
-terminator_line_sure = line_sure terminator_sure
-    (λ i h. record { inst = record { body = h.body; result = nameless_result i.result h.nameless }; ends = h.ends })
-    (λ i n h g. record { inst = record { body = renamed i n h.body; result = g }; ends = h.ends })
+terminator_line_sure = line_sure terminator_sure (λ i o h g. record { inst = record { body = renamed i o h.body; result = g }; ends = h.ends })
 
 -- ---- blocks, functions and modules
 

@@ -1,1 +1,5 @@
 pub mod Modulo
+pub mod Strings
+pub mod Lines
+pub mod Same
+pub mod Threads

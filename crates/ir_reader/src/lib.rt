@@ -1,4 +1,11 @@
 //! Reads a module from a text, exactly as the grammar says.
 #![tactic(auto)]
 
+mod entries;
+mod inst;
+mod line;
+mod names;
+mod numbering;
 mod numbers;
+mod value;
+mod words;

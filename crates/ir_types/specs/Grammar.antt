@@ -170,8 +170,8 @@ abbrev pub return_tree : Ty × WrittenValue → InstTree
 return_tree x = record { kind = kinds.Return x.0; ty = Void; args = operand_at x.0 x.1 ∷ []; labels = []; result = None }
 
 -- T V
-unfoldable pub return : Form InstTree
-return = mapped return_tree (pair int_type value)
+unfoldable pub ret : Form InstTree
+ret = mapped return_tree (pair int_type value)
 
 -- the words with which an instruction begins that doesn't end a block
 unfoldable pub operation_words : List (List ℕ × Operation)
@@ -192,19 +192,26 @@ terminator_words = (codes "br", terminators.Br) ∷ (codes "ret", terminators.Re
 
 abbrev pub terminator_behind : Terminator → Form InstTree
 terminator_behind terminators.Br = branch
-terminator_behind terminators.Ret = return
+terminator_behind terminators.Ret = ret
 
 unfoldable pub terminator : Form InstTree
 terminator = by_word terminator_words terminator_behind
 
 -- ---- blocks, functions and modules
 
+-- an instruction with the name that is written for its result
+abbrev pub named_by : InstTree → Option Name → InstTree
+named_by i name = record { kind = i.kind; ty = i.ty; args = i.args; labels = i.labels; result = name }
+
 abbrev pub with_result : List ℕ × (List ℕ × InstTree) → Option InstTree
-with_result x = name_behind x.0 >>= λ n. Some (record { kind = x.1.1.kind; ty = x.1.1.ty; args = x.1.1.args; labels = x.1.1.labels; result = Some n })
+with_result x = name_behind x.0 >>= λ n. Some (named_by x.1.1 (Some n))
+
+abbrev pub without_result : InstTree → InstTree
+without_result i = named_by i None
 
 -- [%name =] and the instruction
 abbrev pub line : Form InstTree → Form InstTree
-line f = either (made with_result (ahead Local (ahead Equal f))) f
+line f = either (made with_result (ahead Local (ahead Equal f))) (mapped without_result f)
 
 abbrev pub block_tree : Option Name × (List InstTree × InstTree) → WrittenBlock
 block_tree x = record { label = x.0; insts = x.1.0 ++ x.1.1 ∷ [] }

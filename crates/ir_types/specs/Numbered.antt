@@ -6,6 +6,7 @@ use Rattle.ir_types.specs.declared.name.Name.{Name}
 use Rattle.ir_types.specs.declared.name.Name.TheVariants.{Text, Number}
 use Rattle.ir_types.specs.declared.inst.Ty.{Ty}
 use Rattle.ir_types.specs.declared.inst.Ty.TheVariants.{Int, Void}
+use Rattle.ir_types.specs.Grammar.{named_by}
 use Rattle.ir_types.specs.Tree.{InstTree, BlockTree, ParamTree, FunctionTree, ModuleTree, WrittenParam, WrittenBlock, WrittenFunction, WrittenModule}
 
 -- the number for the next thing without a name, behind a name: one more than the greatest number so far, and 0 at first
@@ -25,7 +26,7 @@ named_result next (Int w) None = named next None >>= λ x. Some (Some x.0, x.1)
 named_result next t (Some n) = named next (Some n) >>= λ x. Some (Some x.0, x.1)
 
 abbrev pub numbered_inst : ℕ → InstTree → Option (InstTree × ℕ)
-numbered_inst next i = named_result next i.ty i.result >>= λ x. Some (record { kind = i.kind; ty = i.ty; args = i.args; labels = i.labels; result = x.0 }, x.1)
+numbered_inst next i = named_result next i.ty i.result >>= λ x. Some (named_by i x.0, x.1)
 
 abbrev pub numbered_block : ℕ → WrittenBlock → Option (BlockTree × ℕ)
 numbered_block next b = named next b.label >>= λ x. walk numbered_inst x.1 b.insts >>= λ y. Some (record { name = x.0; insts = y.0 }, y.1)

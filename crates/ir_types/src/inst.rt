@@ -42,6 +42,12 @@ pub enum Operand {
     Int(u64),
 }
 
+impl Default for Operand {
+    fn default() -> Operand {
+        Operand::Int(0)
+    }
+}
+
 /// The operands of an instruction, in the text's order.
 pub type Operands = Few<Operand, 4>;
 

@@ -14,7 +14,7 @@ pub enum Name {
 }
 
 /// The place of a name in its table of names.
-#[derive(Clone, Copy, PartialEq, Eq, Debug)]
+#[derive(Clone, Copy, PartialEq, Eq, Debug, Default)]
 pub struct ValueId(pub u32);
 
 /// A table of names in the order in which they were added, no two of them equal.

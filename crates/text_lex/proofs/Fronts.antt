@@ -4,7 +4,7 @@ use Rattle.std.specs.Prelude.{nat_lt, MatchOption, map}
 use Rattle.std.proofs.lemmas.Bool.{cases_lt}
 use Rattle.std.proofs.lemmas.List.{take-append-drop, length-take}
 use Rattle.forms.specs.declared.TokenKind.{TokenKind}
-use Rattle.text_lex.proofs.Tests.{test}
+use Rattle.forms.proofs.Begins.{test}
 use Rattle.forms.specs.declared.Part.{Part}
 use Rattle.forms.specs.Lexical.{after, may_end, spells, kind_by, kind_of, table, NoToken}
 use Rattle.text_lex.specs.Scan.{far, front, join, best, At}

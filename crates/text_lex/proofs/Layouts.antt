@@ -1,14 +1,13 @@
 -- A printed text has the printed tokens.
-use Rattle.std.proofs.Common.{◌≡◌, ℕ, Bool, true, false, not, ◌&&◌, ◌||◌, eqb, List, [], ◌∷◌, ◌++◌, Some, refl, sym, ap, ◌∙◌, subst, append_assoc, ◌⊎◌, inl, inr}
+use Rattle.std.proofs.Common.{◌≡◌, ℕ, Bool, true, false, not, ◌&&◌, ◌||◌, eqb, List, [], ◌∷◌, ◌++◌, Some, refl, sym, ap, ◌∙◌, subst, append_assoc, inl, inr}
 use Rattle.std.proofs.lemmas.Bool.{and_parts, and_from, eqb-true}
-use Rattle.forms.specs.declared.TokenKind.{TokenKind}
 use Rattle.forms.specs.Form.{Lexeme}
-use Rattle.forms.specs.Lexical.{LexesTo, Lexes, here, space, token, Longest, kind_of, table, is_space}
+use Rattle.forms.specs.Lexical.{Lexes, here, space, token, Longest, kind_of, is_space}
 use Rattle.text_lex.specs.Layout.{Piece, gap, lexeme, text_of, tokens_of, AreTokens, is_mark, is_empty, joins, ends_open}
 use Rattle.text_lex.specs.Neighbours.{all_of, separates}
-use Rattle.text_lex.proofs.Marks.{IsMark, mark_is}
+use Rattle.text_lex.proofs.Marks.{mark_is}
 use Rattle.text_lex.proofs.Neighbours.{parted, alone, last, space_separates, tab_separates, feed_separates, return_separates}
-use Rattle.text_lex.proofs.Tests.{test, or_true, not_true, not_both}
+use Rattle.forms.proofs.Begins.{test, or_true}
 
 space_apart : (c : ℕ) → is_space c ≡ true → separates c ≡ true
 space_apart c h = elim (or_true (eqb c 32) _ h) [

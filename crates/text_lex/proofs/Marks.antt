@@ -12,7 +12,7 @@ use Rattle.forms.specs.Lexical.{kind_of, spells, kind_by, table}
 use Rattle.text_lex.specs.Layout.{is_mark}
 use Rattle.text_lex.specs.Neighbours.{separates}
 use Rattle.text_lex.proofs.Neighbours.{all_whole}
-use Rattle.text_lex.proofs.Tests.{test, or_true, not_true, not_both}
+use Rattle.forms.proofs.Begins.{test, or_true, not_true, not_both}
 
 is_class : ℕ → Class → Bool
 is_class b (Byte c) = eqb c b

@@ -2,7 +2,7 @@
 use Rattle.std.proofs.Common.{◌≡◌, ◌≤◌, ◌<◌, ℕ, Bool, true, false, not, ◌&&◌, ◌||◌, cond, eqb, List, [], ◌∷◌, ◌++◌, length, Option, Some, None, refl, sym, ap, ◌∙◌, arith, inl, inr}
 use Rattle.std.proofs.lemmas.Bool.{and_parts, and_from, cases_lt, eqb-true}
 use Rattle.forms.specs.declared.TokenKind.{TokenKind}
-use Rattle.text_lex.proofs.Tests.{test, or_true, not_both}
+use Rattle.forms.proofs.Begins.{test, or_true, not_both, not_true}
 use Rattle.forms.specs.declared.Class.{Class}
 use Rattle.forms.specs.declared.Class.TheVariants.{Byte, Digit, HexDigit, NameStart, NamePart, WordStart, WordPart, Exponent, Sign, NotQuote}
 use Rattle.forms.specs.declared.Part.{Part}
@@ -83,10 +83,6 @@ quote_byte WordPart c q h = absurd cc
 quote_byte Exponent c q h = absurd cc
 quote_byte Sign c q h = absurd cc
 quote_byte NotQuote c q h = absurd cc
-
-not_true : (b : Bool) → not b ≡ true → b ≡ false
-not_true true e = absurd cc
-not_true false e = refl
 
 quoted_byte : (p : Class) (c : ℕ) → is_quoted p ≡ true → has p c ≡ true → eqb c 34 ≡ false
 quoted_byte (Byte b) c q h = absurd cc

@@ -1,10 +1,9 @@
 -- Only the rows of its range can begin with a byte.
 use Rattle.std.proofs.Common.{◌≡◌, ◌<◌, ◌+◌, ℕ, zero, suc, Bool, true, false, not, List, [], ◌∷◌, ◌++◌, get_or, Fits, w8, length, take, drop, None, refl, sym, ap, ◌∙◌, arith, inl, inr}
 use Rattle.std.proofs.lemmas.Bool.{and_parts, cases_lt}
-use Rattle.std.proofs.lemmas.List.{take-append-drop, drop-drop, take-map, drop-map}
-use Rattle.std.specs.Prelude.{map}
+use Rattle.std.proofs.lemmas.List.{take-append-drop, drop-drop}
 use Rattle.forms.specs.declared.TokenKind.{TokenKind}
-use Rattle.text_lex.proofs.Tests.{or_false}
+use Rattle.forms.proofs.Begins.{or_false, not_true}
 use Rattle.forms.specs.declared.Part.{Part}
 use Rattle.forms.specs.Lexical.{after, may_end, table}
 use Rattle.text_lex.specs.Scan.{front, join, best, range, starts, none_starts, is_covered, all_below}
@@ -22,10 +21,6 @@ below_all (suc n) p c h lt =
       | inl less ↦ below_all n p c a.1 less
       | inr le ↦ let e : c ≡ n = omega arith in rw e a.0
     ]
-
-not_true : (b : Bool) → not b ≡ true → b ≡ false
-not_true true e = absurd cc
-not_true false e = refl
 
 no_front : (ps : List Part) (c : ℕ) (cs : List ℕ) → starts c ps ≡ false → front ps (c ∷ cs) ≡ None
 no_front ps c cs h =

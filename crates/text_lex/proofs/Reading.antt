@@ -6,7 +6,7 @@ use Rattle.std.specs.Prelude.{map}
 use Rattle.forms.specs.declared.Token.{Token}
 use Rattle.forms.specs.declared.TokenKind.{TokenKind}
 use Rattle.forms.specs.Form.{Lexeme}
-use Rattle.text_lex.proofs.Tests.{test}
+use Rattle.forms.proofs.Begins.{test}
 use Rattle.forms.specs.Lexical.{is_space, next_line, LexesTo, here, space, comment, token, is_blank, NoToken, StopsAt}
 use Rattle.forms.specs.View.{lexeme_in}
 use Rattle.text_lex.specs.Scan.{line, blank, At}

@@ -2,7 +2,7 @@
 use Rattle.std.proofs.Common.{◌≡◌, ℕ, Bool, true, false, not, ◌&&◌, eqb, List, [], ◌∷◌, ◌++◌, Some, refl, sym, subst, inl, inr}
 use Rattle.std.proofs.lemmas.Bool.{and_parts, and_from, eqb-true}
 use Rattle.forms.specs.declared.TokenKind.{TokenKind}
-use Rattle.text_lex.proofs.Tests.{test, or_true, not_both}
+use Rattle.forms.proofs.Begins.{test, or_true, not_both, not_true}
 use Rattle.forms.specs.declared.Class.{Class}
 use Rattle.forms.specs.declared.Class.TheVariants.{Byte, Digit, HexDigit, NameStart, NamePart, WordStart, WordPart, Exponent, Sign, NotQuote}
 use Rattle.forms.specs.declared.Part.{Part}
@@ -46,10 +46,6 @@ spelled ps (c ∷ w) h = elim (cases (after ps c)) [
 ]
 
 -- ---- and the other way round, where one byte decides
-
-not_true : (b : Bool) → not b ≡ true → b ≡ false
-not_true true e = absurd cc
-not_true false e = refl
 
 -- a byte for which the list's test stands
 in_list : (f : ℕ → Bool) (cs : List ℕ) (c : ℕ) → all_of f cs ≡ true → all_of (λ d. not (eqb c d)) cs ≡ false → f c ≡ true

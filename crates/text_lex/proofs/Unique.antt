@@ -4,7 +4,7 @@ use Rattle.std.proofs.lemmas.List.{length-drop}
 use Rattle.std.proofs.lemmas.Bool.{eqb-true}
 use Rattle.forms.specs.declared.TokenKind.{TokenKind}
 use Rattle.forms.specs.Form.{Lexeme}
-use Rattle.text_lex.proofs.Tests.{or_true, or_left, or_right, not_both}
+use Rattle.forms.proofs.Begins.{or_true, or_left, or_right, not_both}
 use Rattle.forms.specs.Lexical.{is_space, kind_of, table, Longest, LexesTo, here, space, comment, token, Lexes, NoToken, StopsAt, is_blank}
 
 -- no token begins with white space or a semicolon

@@ -24,7 +24,13 @@ pub use forms::{Token, TokenKind};
 /// The most bytes that a text may have.
 pub const TEXT_LIMIT: usize = 16_777_216;
 
-/// The tokens of the text, from left to right.
+/// The tokens of the text, from left to right. Each is the longest that begins at its place; white space and
+/// comments, from `;` to the end of the line, stand between them.
+///
+/// # Errors
+///
+/// `TextLimit` for a text above the limit, `NoReading` for the first place where no token begins, and
+/// `Memory` where there is no room for the tokens.
 pub fn lex(alloc: Global, text: &[u8]) -> Result<Vec<Token>, TextFault>
     ensures tokens { IfOk result (λ ts. Lexes text.now (lexemes text.now ts.items)) }
     ensures places { IfOk result (λ ts. Places (length text.now) text.now ts.items []) }

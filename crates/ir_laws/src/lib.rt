@@ -1,0 +1,2 @@
+//! Laws about the definitions of ir_types, as functions with empty bodies.
+#![tactic(auto)]

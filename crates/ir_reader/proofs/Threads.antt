@@ -1,0 +1,105 @@
+-- Completing what was read part after part.
+use Rattle.std.proofs.Common.{◌≡◌, List, [], ◌∷◌, ◌++◌, Option, Some, None, refl, sym, ap, ◌∙◌}
+use Rattle.forms.specs.Form.{Lexeme, Form, mapped}
+use Rattle.forms.specs.Reading.{◌>>=◌, read, read_pair}
+use Rattle.forms.specs.Walk.{walk, completed}
+
+-- one part is completed, and then another, from what the first leaves
+abbrev pub thread : {A B C D S T U : Type 0} → (S → A → Option (C × T)) → (T → B → Option (D × U)) → S → A × B → Option ((C × D) × U)
+thread f g s p = f s p.0 >>= λ x. g x.1 p.1 >>= λ y. Some ((x.0, y.0), y.1)
+
+-- the same of what is read
+abbrev pub threaded : {A B C D S T U : Type 0} → (S → A → Option (C × T)) → (T → B → Option (D × U)) → S → (List Lexeme → Option (A × List Lexeme)) → (List Lexeme → Option (B × List Lexeme)) → List Lexeme → Option (((C × D) × U) × List Lexeme)
+threaded f g s r q ts = completed (f s) (r ts) >>= λ x. completed (g x.0.1) (q x.1) >>= λ y. Some (((x.0.0, y.0.0), y.0.1), y.1)
+
+abbrev second : {B C D T U : Type 0} → (T → B → Option (D × U)) → Option (C × T) → Option (B × List Lexeme) → Option (((C × D) × U) × List Lexeme)
+second g c o = c >>= λ x. completed (g x.1) o >>= λ y. Some (((x.0, y.0.0), y.0.1), y.1)
+
+thread_none : {B C D T U : Type 0} (g : T → B → Option (D × U)) (c : Option (C × T)) → second g c None ≡ None
+thread_none g None = refl
+thread_none g (Some x) = refl
+
+abbrev beside : {C D U : Type 0} → C → Option (D × U) → Option ((C × D) × U)
+beside x o = o >>= λ y. Some ((x, y.0), y.1)
+
+abbrev first_then : {B C D T U : Type 0} → (T → B → Option (D × U)) → Option (C × T) → B → Option ((C × D) × U)
+first_then g c b = c >>= λ x. beside x.0 (g x.1 b)
+
+abbrev there : {Z : Type 0} → List Lexeme → Option Z → Option (Z × List Lexeme)
+there vs o = o >>= λ z. Some (z, vs)
+
+thread_some : {B C D T U : Type 0} (g : T → B → Option (D × U)) (c : Option (C × T)) (b : B) (vs : List Lexeme) → there vs (first_then g c b) ≡ second g c (Some (b, vs))
+thread_some g None b vs = refl
+thread_some {B} {C} {D} {T} {U} g (Some x) b vs = by (g x.1 b)
+  where
+    by : (o : Option (D × U)) → there vs (beside x.0 o) ≡ (there vs o >>= λ y. Some (((x.0, y.0.0), y.0.1), y.1))
+    by None = refl
+    by (Some y) = refl
+
+second_is : {B C D T U : Type 0} (g : T → B → Option (D × U)) (c : Option (C × T)) (q : List Lexeme → Option (B × List Lexeme)) (us : List Lexeme)
+    → (there us c >>= λ x. completed (g x.0.1) (q x.1) >>= λ y. Some (((x.0.0, y.0.0), y.0.1), y.1)) ≡ second g c (q us)
+second_is g None q us = refl
+second_is g (Some x) q us = refl
+
+abbrev with_first : {A B : Type 0} → A → Option (B × List Lexeme) → Option ((A × B) × List Lexeme)
+with_first a o = o >>= λ y. Some ((a, y.0), y.1)
+
+pub thread_is : {A B C D S T U : Type 0} (f : S → A → Option (C × T)) (g : T → B → Option (D × U)) (s : S) (r : List Lexeme → Option (A × List Lexeme)) (q : List Lexeme → Option (B × List Lexeme)) (ts : List Lexeme)
+    → completed (thread f g s) (read_pair r q ts) ≡ threaded f g s r q ts
+thread_is {A} {B} {C} {D} {S} {T} {U} f g s r q ts = by (r ts)
+  where
+    each : (a : A) (o : Option (B × List Lexeme)) → completed (thread f g s) (with_first a o) ≡ second g (f s a) o
+    each a None = sym (thread_none g (f s a))
+    each a (Some y) = thread_some g (f s a) y.0 y.1
+    by : (o : Option (A × List Lexeme)) → completed (thread f g s) (o >>= λ x. with_first x.0 (q x.1)) ≡ (completed (f s) o >>= λ x. completed (g x.0.1) (q x.1) >>= λ y. Some (((x.0.0, y.0.0), y.0.1), y.1))
+    by None = refl
+    by (Some a) = each a.0 (q a.1) ∙ sym (second_is g (f s a.0) q a.1)
+
+pub completed_mapped : {A B C : Type 0} (f : B → Option C) (h : A → B) (g : Form A) (ts : List Lexeme) → completed f (read (mapped h g) ts) ≡ completed (λ a. f (h a)) (read g ts)
+completed_mapped {A} f h g ts = by (read g ts)
+  where
+    by : (r : Option (A × List Lexeme)) → completed f (r >>= λ x. Some (h x.0, x.1)) ≡ completed (λ a. f (h a)) r
+    by None = refl
+    by (Some x) = refl
+
+pub completed_alike : {A B R : Type 0} (f g : A → Option B) (r : Option (A × R)) → ((a : A) → f a ≡ g a) → completed f r ≡ completed g r
+completed_alike f g None h = refl
+completed_alike f g (Some x) h = ap (λ (o : Option _). o >>= λ b. Some (b, x.1)) (h x.0)
+
+abbrev renamed : {B C T : Type 0} → (B → C) → Option (B × T) → Option (C × T)
+renamed h o = o >>= λ x. Some (h x.0, x.1)
+
+abbrev renamed_before : {B C T R : Type 0} → (B → C) → Option ((B × T) × R) → Option ((C × T) × R)
+renamed_before h o = o >>= λ y. Some ((h y.0.0, y.0.1), y.1)
+
+-- a function of what was completed
+pub completed_then : {A B C T R : Type 0} (f : A → Option (B × T)) (h : B → C) (r : Option (A × R)) → completed (λ a. renamed h (f a)) r ≡ renamed_before h (completed f r)
+completed_then f h None = refl
+completed_then {A} {B} {C} {T} {R} f h (Some x) = by (f x.0)
+  where
+    by : (o : Option (B × T)) → (renamed h o >>= λ b. Some (b, x.1)) ≡ renamed_before h (o >>= λ b. Some (b, x.1))
+    by None = refl
+    by (Some y) = refl
+
+abbrev last_one : {S A B : Type 0} → (S → A → Option (B × S)) → A → Option (List B × S) → Option (List B × S)
+last_one step x o = o >>= λ p. step p.1 x >>= λ q. Some (p.0 ++ q.0 ∷ [], q.1)
+
+abbrev before : {S B : Type 0} → B → Option (List B × S) → Option (List B × S)
+before b o = o >>= λ q. Some (b ∷ q.0, q.1)
+
+last_before : {S A B : Type 0} (step : S → A → Option (B × S)) (x : A) (b : B) (o : Option (List B × S)) → before b (last_one step x o) ≡ last_one step x (before b o)
+last_before step x b None = refl
+last_before {S} {A} {B} step x b (Some p) = by (step p.1 x)
+  where
+    by : (o : Option (B × S)) → before b (o >>= λ q. Some (p.0 ++ q.0 ∷ [], q.1)) ≡ (o >>= λ q. Some ((b ∷ p.0) ++ q.0 ∷ [], q.1))
+    by None = refl
+    by (Some q) = refl
+
+-- a walk over one element more
+pub walk-push : {S A B : Type 0} (step : S → A → Option (B × S)) (s : S) (xs : List A) (x : A) → walk step s (xs ++ x ∷ []) ≡ last_one step x (walk step s xs)
+walk-push {S} {A} {B} step s [] x = refl
+walk-push {S} {A} {B} step s (a ∷ more) x = by (λ t. walk-push step t more x) (step s a)
+  where
+    by : ((t : S) → walk step t (more ++ x ∷ []) ≡ last_one step x (walk step t more)) → (o : Option (B × S)) → (o >>= λ p. before p.0 (walk step p.1 (more ++ x ∷ []))) ≡ last_one step x (o >>= λ p. before p.0 (walk step p.1 more))
+    by h None = refl
+    by h (Some p) = ap (before p.0) (h p.1) ∙ last_before step x p.0 (walk step p.1 more)
