@@ -1,17 +1,13 @@
 -- The text of pieces behind one another, and of items that are printed one at a time.
-use Rattle.std.proofs.Common.{◌≡◌, ◌+◌, ◌-◌, ◌<◌, ◌≤◌, ℕ, zero, suc, List, [], ◌∷◌, ◌++◌, length, get_or, take, drop, refl, sym, ap, ◌∙◌, subst, append_assoc, add-one, drop-cons, arith}
+use Rattle.std.proofs.Common.{◌≡◌, ◌+◌, ◌-◌, ◌<◌, ◌≤◌, ℕ, suc, List, [], ◌∷◌, ◌++◌, length, get_or, take, drop, sym, ap, ◌∙◌, subst, append_assoc, add-one, drop-cons, arith}
 use Rattle.std.specs.Prelude.{map, codes}
 use Rattle.std.specs.List.{AllByRecursion}
 use Rattle.std.proofs.Math.Seq.{take-length}
 use Rattle.std.proofs.lemmas.List.{append-nil, drop_all}
 use Rattle.text_lex.specs.Layout.{Piece, text_of}
 use Rattle.text_lex.proofs.Layouts.{text_of-append}
-use Rattle.ir_types.specs.declared.inst.Ty.{Ty}
-use Rattle.ir_types.specs.declared.inst.Ty.TheVariants.{Int}
-use Rattle.ir_types.specs.declared.name.Name.{Name}
-use Rattle.ir_types.specs.Tree.{OperandTree, InstTree, FunctionTree}
-use Rattle.ir_printer.specs.Texts.{name_text}
-use Rattle.ir_printer.specs.Print.{comma, blank, line_feed, right_paren, left_brace, right_brace, each_behind, separated, with_commas, type_word, typed_pieces, targets_pieces, kind_pieces, result_pieces, inst_pieces, block_pieces, param_pieces, head_pieces, function_pieces}
+use Rattle.ir_types.specs.Tree.{InstTree, FunctionTree}
+use Rattle.ir_printer.specs.Print.{line_feed, each_behind, separated, kind_pieces, result_pieces, inst_pieces, block_pieces, head_pieces, function_pieces}
 
 pub text_of_both : (ps qs : List Piece) → text_of (ps ++ qs) ≡ text_of ps ++ text_of qs
 text_of_both ps qs = text_of-append ps qs
@@ -39,7 +35,7 @@ pub printed_next : {A B : Type 0} (g : A → B) (f : B → List Piece) (s : List
 printed_next g f s xs i x out out1 out2 whole lt e e1 e2 so_far =
     let rest = each_behind s (map f (map g (drop (i + 1) xs))) in
     let step : text_of (each_behind s (map f (map g (drop i xs)))) ≡ text_of s ++ (text_of (f (g x)) ++ text_of rest) =
-      ap (λ (ys : List _). text_of (each_behind s (map f (map g ys)))) (from_place xs i x lt e) ∙ text_of-append s (f (g x) ++ rest) ∙ ap (λ (t : List ℕ). text_of s ++ t) (text_of-append (f (g x)) rest) in
+    ap (λ (ys : List _). text_of (each_behind s (map f (map g ys)))) (from_place xs i x lt e) ∙ text_of-append s (f (g x) ++ rest) ∙ ap (λ (t : List ℕ). text_of s ++ t) (text_of-append (f (g x)) rest) in
     let regroup : ((out ++ text_of s) ++ text_of (f (g x))) ++ text_of rest ≡ out ++ (text_of s ++ (text_of (f (g x)) ++ text_of rest)) = simp append_assoc in
     rw (e2, e1) (regroup ∙ sym (ap (λ (t : List ℕ). out ++ t) step) ∙ so_far)
 
@@ -65,5 +61,5 @@ pub printed_separated : {A B : Type 0} (g : A → B) (f : B → List Piece) (s :
 printed_separated g f s xs x i out out1 out2 lt e le e1 so_far =
     let rest = each_behind s (map f (map g (behind_first xs))) in
     let whole : text_of (separated s (map f (map g xs))) ≡ text_of (f (g x)) ++ text_of rest =
-      ap (λ (ys : List _). text_of (separated s (map f (map g ys)))) (first_parts xs x lt e) ∙ text_of-append (f (g x)) rest in
+    ap (λ (ys : List _). text_of (separated s (map f (map g ys)))) (first_parts xs x lt e) ∙ text_of-append (f (g x)) rest in
     printed_all g f s (behind_first xs) i out2 _ le so_far ∙ rw (e1, whole) (append_assoc out (text_of (f (g x))) (text_of rest))

@@ -1,16 +1,12 @@
 -- What stands between quotes is read as the text that it was printed for.
-use Rattle.std.proofs.Common.{◌≡◌, ◌≤◌, ◌<◌, ◌+◌, ◌-◌, ◌*◌, ◌/◌, ◌%◌, ℕ, Bool, true, false, not, ◌&&◌, ◌||◌, eqb, List, [], ◌∷◌, ◌++◌, refl, sym, ap, ◌∙◌, subst, arith, inl, inr}
-use Rattle.std.specs.Prelude.{nat_lt, nat_le}
-use Rattle.std.proofs.lemmas.Bool.{and_parts, and_from, eqb-true}
+use Rattle.std.proofs.Common.{◌≡◌, ◌<◌, ◌+◌, ◌*◌, ◌/◌, ◌%◌, ℕ, Bool, true, false, not, ◌&&◌, eqb, List, [], ◌∷◌, ◌++◌, refl, ap, arith, inl, inr}
+use Rattle.std.proofs.lemmas.Bool.{and_parts, eqb-true}
 use Rattle.std.proofs.lemmas.Bool.Decides.{nat_tests}
-use Rattle.forms.specs.declared.Class.TheVariants.{NotQuote}
-use Rattle.forms.specs.Lexical.{has, is_hex}
-use Rattle.text_lex.specs.Scan.{all_below}
+use Rattle.forms.specs.Lexical.{is_hex}
 use Rattle.text_lex.specs.Names.{is_quotable}
-use Rattle.text_lex.specs.Neighbours.{all_of}
 use Rattle.text_lex.proofs.Ranges.{below_all}
 use Rattle.forms.proofs.Begins.{test, or_false}
-use Rattle.ir_types.specs.Written.{hex_value, escape, byte_at, unescaped_behind, unescaped, without_last}
+use Rattle.ir_types.specs.Written.{hex_value, escape, unescaped_behind, unescaped, without_last}
 use Rattle.ir_printer.specs.Texts.{hex_digit, is_escaped, escaped_byte, escaped}
 
 -- a digit is one of a string's bytes that stands for its number

@@ -1,5 +1,5 @@
 -- Pieces that are tokens and join, and how they are put together.
-use Rattle.std.proofs.Common.{◌≡◌, ℕ, Bool, true, false, not, ◌&&◌, ◌||◌, List, [], ◌∷◌, ◌++◌, Some, refl, inl, inr}
+use Rattle.std.proofs.Common.{◌≡◌, ℕ, Bool, true, false, not, ◌&&◌, ◌||◌, List, [], ◌∷◌, ◌++◌, Some, refl}
 use Rattle.std.specs.Prelude.{map}
 use Rattle.std.specs.List.{AllByRecursion}
 use Rattle.forms.specs.declared.TokenKind.{TokenKind}
@@ -7,7 +7,6 @@ use Rattle.forms.specs.Form.{Lexeme}
 use Rattle.forms.specs.Lexical.{kind_of}
 use Rattle.text_lex.specs.Layout.{Piece, lexeme, AreTokens, is_mark, joins, ends_open}
 use Rattle.text_lex.proofs.Layouts.{AreTokens-append, joins-from, joins_closed, joins_any}
-use Rattle.forms.proofs.Begins.{test}
 use Rattle.ir_printer.specs.Print.{token, blank, line_feed, indent, each_behind, separated}
 
 -- tokens that join

@@ -18,8 +18,8 @@ use Rattle.ir_types.specs.declared.inst.InstKind.{InstKind}
 use Rattle.ir_types.specs.declared.inst.InstKind.TheVariants.{Binary, Compare, Phi, Jump, Branch, Return}
 use Rattle.ir_types.specs.Grammar.{width_of}
 use Rattle.ir_types.specs.Tree.{OperandTree, local, number, InstTree, BlockTree, ParamTree, FunctionTree, ModuleTree}
-use Rattle.ir_printer.specs.Print.{token, comma, blank, line_feed, indent, equal, right_paren, left_brace, right_brace, right_bracket, each_behind, separated, with_commas, local_token, global_token, label_token, type_word, number_token, operand_token, operand_pieces, predicate_word, operator_word, typed_pieces, target_pieces, targets_pieces, entry_pieces, entries_of, kind_pieces, result_pieces, inst_pieces, block_pieces, param_pieces, function_pieces, module_pieces}
-use Rattle.ir_printer.specs.Printable.{IsName, IsInt, IsOperand, operand_type, HasShape, IsBody, IsResult, IsInst, IsBlock, IsParam, IsFunction, IsModule}
+use Rattle.ir_printer.specs.Print.{token, comma, blank, line_feed, indent, equal, right_paren, left_brace, right_brace, with_commas, local_token, global_token, label_token, type_word, number_token, operand_token, operand_pieces, predicate_word, operator_word, typed_pieces, target_pieces, targets_pieces, entry_pieces, entries_of, kind_pieces, result_pieces, inst_pieces, block_pieces, param_pieces, function_pieces, module_pieces}
+use Rattle.ir_printer.specs.Printable.{IsName, IsInt, IsOperand, operand_type, IsResult, IsInst, IsBlock, IsParam, IsFunction, IsModule}
 use Rattle.ir_printer.proofs.Names.{local_kind, global_kind, label_kind}
 use Rattle.ir_printer.proofs.Numbers.{signed_kind}
 use Rattle.ir_printer.proofs.Spelled.{by_type}
@@ -154,7 +154,7 @@ function_laid f h =
     let params = separated_laid _ _ commas_part (all_laid IsParam param_pieces param_laid f.params h.params) in
     let blocks = separated_laid _ _ feeds_part (all_laid IsBlock block_pieces block_laid f.body h.blocks) in
     word_laid _ word_kinds.5 (blank_laid (word_laid (type_word f.ret) (type_kind f.ret h.ret) (blank_laid (token_laid (global_token f.name) (global_kind f.name h.name)
-      (mark_laid kinds.LeftParen (codes "(") refl bracket_kinds.0 (body_laid _ _ params blocks))))))
+    (mark_laid kinds.LeftParen (codes "(") refl bracket_kinds.0 (body_laid _ _ params blocks))))))
 
 -- What is printed are tokens that join.
 pub module_laid : (m : ModuleTree) → IsModule m → IsLaid (module_pieces m)

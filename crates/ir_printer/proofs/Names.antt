@@ -1,11 +1,11 @@
 -- What is printed of a name is that name.
-use Rattle.std.proofs.Common.{◌≡◌, ◌≤◌, ◌<◌, ◌+◌, ◌-◌, ◌*◌, ◌^◌, ℕ, zero, suc, Bool, true, false, ◌&&◌, eqb, List, [], ◌∷◌, ◌++◌, length, Option, Some, None, cond, refl, sym, ap, ◌∙◌, subst, append_assoc, arith, inl, inr}
+use Rattle.std.proofs.Common.{◌≡◌, ◌<◌, ◌+◌, ◌-◌, ◌*◌, ◌^◌, ℕ, zero, suc, Bool, true, false, eqb, List, [], ◌∷◌, length, Option, Some, cond, refl, ◌∙◌, subst, append_assoc, arith, inl, inr}
 use Rattle.std.specs.Prelude.{nat_lt, decimal}
 use Rattle.std.proofs.lemmas.Bool.{and_parts, eqb-true}
 use Rattle.std.proofs.lemmas.Bool.Decides.{nat_tests}
 use Rattle.std.proofs.lemmas.Option.{cond_some}
 use Rattle.forms.specs.declared.TokenKind.TheVariants.{Local, Global, Label}
-use Rattle.forms.specs.Lexical.{has, kind_of, is_digit, begins_name}
+use Rattle.forms.specs.Lexical.{kind_of, is_digit, begins_name}
 use Rattle.text_lex.specs.Names.{is_plain_name, is_digits}
 use Rattle.text_lex.specs.Numbers.{number_behind}
 use Rattle.forms.proofs.Begins.{test}

@@ -8,16 +8,15 @@ use Rattle.std.proofs.lemmas.Option.{cond_some}
 use Rattle.forms.specs.Reading.{◌>>=◌}
 use Rattle.forms.specs.Walk.{walk}
 use Rattle.forms.proofs.Sound.{bind_some}
-use Rattle.forms.proofs.Exact.{there, some_is}
+use Rattle.forms.proofs.Exact.{some_is}
 use Rattle.ir_types.specs.declared.name.Name.{Name}
 use Rattle.ir_types.specs.declared.name.Name.TheVariants.{Number}
 use Rattle.ir_types.specs.declared.inst.Ty.{Ty}
 use Rattle.ir_types.specs.declared.inst.Ty.TheVariants.{Int, Void}
-use Rattle.ir_types.specs.declared.inst.InstKind.{InstKind}
-use Rattle.ir_types.specs.Tree.{OperandTree, InstTree, BlockTree, ParamTree, FunctionTree, ModuleTree, WrittenParam, WrittenBlock, WrittenFunction, WrittenModule}
+use Rattle.ir_types.specs.Tree.{InstTree, BlockTree, ParamTree, FunctionTree, ModuleTree, WrittenParam, WrittenBlock, WrittenFunction, WrittenModule}
 use Rattle.ir_types.specs.Grammar.{named_by}
 use Rattle.ir_types.specs.Numbered.{next_after, named, named_result, numbered_inst, numbered_block, numbered_param, numbered_function, numbered_module}
-use Rattle.ir_printer.specs.Printable.{IsName, IsInt, IsBody, IsNameThere, IsResult, IsInst, EndsOnce, IsBlock, IsParam, IsFunction, IsModule}
+use Rattle.ir_printer.specs.Printable.{IsName, IsBody, IsNameThere, IsResult, IsInst, EndsOnce, IsBlock, IsParam, IsFunction, IsModule}
 use Rattle.ir_printer.proofs.Written.{IsWrittenInst, IsWrittenBlock, IsWrittenParam, IsWrittenFunction, IsWrittenModule, renamed}
 
 -- ---- walks

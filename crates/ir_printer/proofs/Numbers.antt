@@ -1,5 +1,5 @@
 -- What is printed of a number is that number.
-use Rattle.std.proofs.Common.{◌≡◌, ◌≤◌, ◌<◌, ◌+◌, ◌-◌, ◌*◌, ◌%◌, ◌^◌, ℕ, Bool, true, false, ◌&&◌, eqb, List, [], ◌∷◌, Some, cond, refl, sym, ap, ◌∙◌, arith, inl, inr}
+use Rattle.std.proofs.Common.{◌≡◌, ◌≤◌, ◌<◌, ◌-◌, ◌%◌, ◌^◌, ℕ, true, false, eqb, List, [], ◌∷◌, Some, refl, ◌∙◌, arith, inl, inr}
 use Rattle.std.specs.Prelude.{nat_lt, decimal}
 use Rattle.std.proofs.lemmas.Bool.{and_parts}
 use Rattle.std.proofs.lemmas.Bool.Decides.{nat_tests}
@@ -9,7 +9,7 @@ use Rattle.text_lex.specs.Names.{is_digits}
 use Rattle.forms.proofs.Begins.{test}
 use Rattle.text_lex.proofs.Decimals.{decimal_digits}
 use Rattle.text_lex.proofs.Printed.{number_digits, number_negative}
-use Rattle.ir_types.specs.Written.{number_of, negated, number_at}
+use Rattle.ir_types.specs.Written.{number_of, number_at}
 use Rattle.ir_printer.specs.Texts.{signed_text}
 use Rattle.ir_printer.proofs.Names.{number_of_digits}
 

@@ -1,12 +1,10 @@
 -- What is printed of a module that some text reads as reads as that module.
-use Rattle.std.proofs.Common.{◌≡◌, ℕ, List, Some, refl, sym, ◌∙◌, ap, subst}
+use Rattle.std.proofs.Common.{◌≡◌, refl, sym, ◌∙◌, subst}
 use Rattle.forms.proofs.Exact.{some_is}
 use Rattle.text_lex.specs.Layout.{text_of, tokens_of}
 use Rattle.text_lex.proofs.Layouts.{pieces_lexed}
 use Rattle.ir_types.specs.declared.module.Module.{Module}
-use Rattle.ir_types.specs.Tree.{ModuleTree}
-use Rattle.ir_types.specs.Numbered.{numbered_module, resolved_module}
-use Rattle.ir_types.specs.Denotes.{tree_of, Denotes}
+use Rattle.ir_types.specs.Denotes.{tree_of}
 use Rattle.ir_types.specs.Reads.{Reads, IsReadable}
 use Rattle.ir_printer.specs.Print.{module_pieces}
 use Rattle.ir_printer.specs.Printable.{IsModule}

@@ -1,12 +1,11 @@
 -- Values and tokens by which forms are spelled.
-use Rattle.std.proofs.Common.{◌≡◌, ◌<◌, ℕ, List, [], ◌∷◌, ◌++◌, length, Option, Some, None, refl, sym, ap, ◌∙◌, subst, append_assoc, arith, inl, inr}
+use Rattle.std.proofs.Common.{◌≡◌, ◌<◌, ℕ, List, [], ◌∷◌, ◌++◌, length, Option, Some, None, refl, ap, arith, inl, inr}
 use Rattle.std.specs.Prelude.{map}
 use Rattle.std.specs.List.{AllByRecursion}
 use Rattle.forms.specs.declared.TokenKind.{TokenKind}
 use Rattle.forms.specs.declared.TokenKind.TheVariants.{Word, Comma}
-use Rattle.forms.specs.Form.{Lexeme, Form, InOrder, Spells, exactly, one, ahead, pair, either, mapped, made, optional, many, by_word, entry}
-use Rattle.forms.specs.Gives.{mark}
-use Rattle.text_lex.specs.Layout.{Piece, gap, lexeme, tokens_of}
+use Rattle.forms.specs.Form.{Lexeme, Form, Spells, one, ahead, pair, either, mapped, made, optional, many, by_word, entry}
+use Rattle.text_lex.specs.Layout.{Piece, gap, tokens_of}
 use Rattle.text_lex.proofs.Layouts.{tokens_of-append}
 use Rattle.ir_types.specs.Grammar.{word, behind, after_mark, between, marked, some, commas, list}
 use Rattle.ir_printer.specs.Print as print

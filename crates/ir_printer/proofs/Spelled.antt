@@ -1,13 +1,12 @@
 -- The tokens that a module is printed as spell the module.
-use Rattle.std.proofs.Common.{◌≡◌, ◌+◌, ◌<◌, ◌^◌, ℕ, zero, suc, Bool, true, false, eqb, List, [], ◌∷◌, ◌++◌, length, Option, Some, None, cond, lit<, lit≤, refl, sym, ap, ◌∙◌, subst, append_assoc, arith, inl, inr}
+use Rattle.std.proofs.Common.{◌≡◌, ◌<◌, ◌^◌, ℕ, zero, suc, eqb, List, [], ◌∷◌, ◌++◌, length, Option, Some, None, cond, lit<, lit≤, refl, sym, ap, ◌∙◌, subst, append_assoc, arith, inl, inr}
 use Rattle.std.specs.Prelude.{map, codes, decimal}
 use Rattle.std.specs.List.{AllByRecursion}
 use Rattle.std.proofs.lemmas.List.{append-nil}
 use Rattle.std.proofs.lemmas.Fmt.{decimal_digit, decimal_step}
-use Rattle.forms.specs.declared.TokenKind.{TokenKind}
 use Rattle.forms.specs.declared.TokenKind.TheVariants as kinds
-use Rattle.forms.specs.Form.{Lexeme, Form, Spells, one, ahead, pair, either, mapped, made, optional, many, by_word}
-use Rattle.text_lex.specs.Layout.{Piece, gap, lexeme, tokens_of}
+use Rattle.forms.specs.Form.{Lexeme, Form, Spells, pair, many}
+use Rattle.text_lex.specs.Layout.{Piece, tokens_of}
 use Rattle.text_lex.proofs.Layouts.{tokens_of-append}
 use Rattle.ir_types.specs.declared.name.Name.{Name}
 use Rattle.ir_types.specs.declared.inst.Ty.{Ty}
@@ -19,16 +18,16 @@ use Rattle.ir_types.specs.declared.inst.InstKind.{InstKind}
 use Rattle.ir_types.specs.declared.inst.InstKind.TheVariants.{Binary, Compare, Phi, Jump, Branch, Return}
 use Rattle.ir_types.specs.declared.opcode.Operation.TheVariants as operations
 use Rattle.ir_types.specs.declared.opcode.Terminator.TheVariants as terminators
-use Rattle.ir_types.specs.Tree.{OperandTree, local, number, InstTree, BlockTree, ParamTree, FunctionTree, ModuleTree}
-use Rattle.ir_types.specs.Grammar.{word, behind, after_mark, between, marked, some, commas, list, local_name, global_name, label, int_type, WrittenValue, named, digits, yes, no, value, width_of, operand_at, two_values, binary, predicates, compared, compare, entry_of_phi, phi, target, branch, ret, operation_words, operation, terminator_words, terminator, line, block, parameter, function, module_form}
+use Rattle.ir_types.specs.Tree.{OperandTree, local, number, InstTree, FunctionTree, ModuleTree}
+use Rattle.ir_types.specs.Grammar.{local_name, global_name, label, int_type, WrittenValue, named, digits, yes, no, value, width_of, operand_at, two_values, binary, predicates, compared, compare, entry_of_phi, phi, target, branch, ret, operation_words, operation, terminator_words, terminator, line, block, parameter, function, module_form}
 use Rattle.ir_printer.specs.Texts.{signed_text}
 use Rattle.ir_printer.specs.Print as print
 use Rattle.ir_printer.specs.Print.{token, local_token, global_token, label_token, type_word, number_token, operand_token, operand_pieces, predicate_word, operator_word, with_commas, typed_pieces, target_pieces, targets_pieces, entry_pieces, entries_of, kind_pieces, inst_pieces, block_pieces, param_pieces, function_pieces, module_pieces}
-use Rattle.ir_printer.specs.Printable.{IsName, IsInt, IsOperand, operand_type, HasShape, IsBody, IsInst, IsResult, IsTerminator, EndsOnce, IsBlock, IsParam, IsFunction, IsModule}
+use Rattle.ir_printer.specs.Printable.{IsName, IsInt, IsOperand, IsBody, IsInst, IsResult, IsTerminator, EndsOnce, IsBlock, IsParam, IsFunction, IsModule}
 use Rattle.ir_printer.proofs.Names.{local_again, global_again, label_again}
 use Rattle.ir_printer.proofs.Numbers.{signed_again}
 use Rattle.ir_printer.proofs.Numbering.{written_param, written_block, written_function, written_of}
-use Rattle.ir_printer.proofs.Says.{Says, pair_says, left_says, right_says, mapped_says, made_says, one_says, word_says, ahead_says, by_word_says, there_says, behind_says, after_mark_says, between_says, EachSays, behind_each, some_says, commas_says, list_says, separated_says}
+use Rattle.ir_printer.proofs.Says.{Says, pair_says, left_says, right_says, mapped_says, made_says, one_says, word_says, ahead_says, by_word_says, there_says, behind_says, after_mark_says, between_says, EachSays, some_says, commas_says, list_says, separated_says}
 
 -- ---- names, types and values
 
@@ -76,6 +75,7 @@ number_says t h = by_type (λ u. (v : ℕ) → v < 2 ^ width_of u → Says value
     bit zero lt = (right_says (right_says (right_says (word_says _ no))), refl)
     bit (suc zero) lt = (right_says (right_says (left_says (word_says _ yes))), refl)
     bit (suc (suc v)) lt = absurd (omega arith)
+
     wide : (v : ℕ) → v < 2 ^ 32 → Says value (written_number (Int 32) v) (number_token (Int 32) v ∷ []) × (operand_at (Int 32) (written_number (Int 32) v) ≡ number v)
     wide v lt = (right_says (left_says (mapped_says _ _ refl (one_says kinds.Number _))), ap number (signed_again v lt))
 
@@ -142,8 +142,10 @@ written_entry t e = (written_value t e.0, e.1)
 
 entry_says : (t : Ty) → IsInt t → EachSays entry_of_phi (written_entry t) (λ e. entry_pieces t e.0 e.1) (IsPair t)
 unfolding entry_of_phi
-entry_says t i = record { one = λ e h. between_says (operand_token t e.0 ∷ token kinds.Comma (44 ∷ []) ∷ local_token e.1 ∷ []) kinds.LeftBracket kinds.RightBracket _ _
-    (pair_says (operand_token t e.0 ∷ []) _ (value_says t e.0 i h.0) (after_mark_says kinds.Comma _ (local_says e.1 h.1))) }
+entry_says t i = record {
+  one = λ e h. between_says (operand_token t e.0 ∷ token kinds.Comma (44 ∷ []) ∷ local_token e.1 ∷ []) kinds.LeftBracket kinds.RightBracket _ _
+      (pair_says (operand_token t e.0 ∷ []) _ (value_says t e.0 i h.0) (after_mark_says kinds.Comma _ (local_says e.1 h.1)));
+}
 
 args_again : (t : Ty) (args : List OperandTree) (labels : List Name) → IsInt t → length args ≡ length labels → AllByRecursion (IsOperand t) args → map (λ e. operand_at t e.0) (map (written_entry t) (paired args labels)) ≡ args
 args_again t [] labels i e h = refl
@@ -166,7 +168,7 @@ unfolding phi
 phi_says t args labels i h g e lt =
     mapped_says (t, map (written_entry t) (paired args labels)) _ (rw (args_again t args labels i e h, labels_again t args labels e) refl)
     (pair_says (token kinds.Word (type_word t) ∷ []) _ (type_says t i)
-      (rw (entries_of_pairs t args labels) (commas_says (entry_says t i) (paired args labels) (pairs_filled args labels e lt) (pairs_known t args labels h g))))
+    (rw (entries_of_pairs t args labels) (commas_says (entry_says t i) (paired args labels) (pairs_filled args labels e lt) (pairs_known t args labels h g))))
 
 -- ---- operations and terminators
 
@@ -190,8 +192,8 @@ branch_says : (a : OperandTree) (l m : Name) → IsOperand (Int 1) a → IsName 
 unfolding branch type_word
 branch_says a l m h hl hm =
     right_says (mapped_says (written_value (Int 1) a, (l, m)) _ (rw (value_is (Int 1) a (inl refl) h) refl)
-      (rw one_written (behind_says (codes "i1") (pair_says (operand_token (Int 1) a ∷ []) _ (value_says (Int 1) a (inl refl) h)
-        (pair_says (token kinds.Comma (44 ∷ []) ∷ tokens_of (target_pieces l)) _ (after_mark_says kinds.Comma (44 ∷ []) (target_says l hl)) (after_mark_says kinds.Comma (44 ∷ []) (target_says m hm)))))))
+    (rw one_written (behind_says (codes "i1") (pair_says (operand_token (Int 1) a ∷ []) _ (value_says (Int 1) a (inl refl) h)
+    (pair_says (token kinds.Comma (44 ∷ []) ∷ tokens_of (target_pieces l)) _ (after_mark_says kinds.Comma (44 ∷ []) (target_says l hl)) (after_mark_says kinds.Comma (44 ∷ []) (target_says m hm)))))))
 
 return_says : (t : Ty) (a : OperandTree) → IsInt t → IsOperand t a → Says ret (bare (Return t) Void (a ∷ []) []) (tokens_of (typed_pieces t (a ∷ [])))
 unfolding ret
@@ -268,9 +270,11 @@ lines_say (i ∷ j ∷ insts) h e =
 
 block_says : EachSays block written_block block_pieces IsBlock
 unfolding block block_pieces
-block_says = record { one = λ b h.
-  let lines = lines_say b.insts h.insts h.ending in
-  mapped_says (Some b.name, (lines.front, lines.last)) _ (rw (lines.parts) refl) (pair_says (label_token b.name ∷ []) _ (there_says (label_says b.name h.name)) lines.says) }
+block_says = record {
+  one = λ b h.
+      let lines = lines_say b.insts h.insts h.ending in
+      mapped_says (Some b.name, (lines.front, lines.last)) _ (rw (lines.parts) refl) (pair_says (label_token b.name ∷ []) _ (there_says (label_says b.name h.name)) lines.says);
+}
 
 param_says : EachSays parameter written_param param_pieces IsParam
 unfolding parameter
@@ -300,10 +304,12 @@ function_tokens f = ap (λ (ts : List Lexeme). token kinds.Word (codes "define")
 
 function_says : EachSays function written_function function_pieces IsFunction
 unfolding function
-function_says = record { one = λ f h. rw (function_tokens f) (mapped_says (f.ret, (f.name, (map written_param f.params, map written_block f.body))) _ refl
-  (behind_says (codes "define") (pair_says (token kinds.Word (type_word f.ret) ∷ []) _ (type_says f.ret h.ret) (pair_says (global_token f.name ∷ []) _ (global_says f.name h.name)
-    (pair_says (in_parens (params_tokens f)) _ (between_says (params_tokens f) kinds.LeftParen kinds.RightParen _ _ (list_says param_says f.params h.params))
-      (between_says (blocks_tokens f) kinds.LeftBrace kinds.RightBrace _ _ (some_says (10 ∷ []) block_says f.body h.some h.blocks))))))) }
+function_says = record {
+  one = λ f h. rw (function_tokens f) (mapped_says (f.ret, (f.name, (map written_param f.params, map written_block f.body))) _ refl
+      (behind_says (codes "define") (pair_says (token kinds.Word (type_word f.ret) ∷ []) _ (type_says f.ret h.ret) (pair_says (global_token f.name ∷ []) _ (global_says f.name h.name)
+      (pair_says (in_parens (params_tokens f)) _ (between_says (params_tokens f) kinds.LeftParen kinds.RightParen _ _ (list_says param_says f.params h.params))
+      (between_says (blocks_tokens f) kinds.LeftBrace kinds.RightBrace _ _ (some_says (10 ∷ []) block_says f.body h.some h.blocks)))))));
+}
 
 -- What is printed spells the module, with each name written.
 pub printed_spells : (m : ModuleTree) → IsModule m → Spells module_form (written_of m) (tokens_of (module_pieces m))

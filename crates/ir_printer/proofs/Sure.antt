@@ -1,9 +1,9 @@
 -- What holds of every value that a form spells.
-use Rattle.std.proofs.Common.{◌≡◌, ◌+◌, ◌<◌, ℕ, List, [], ◌∷◌, ◌++◌, length, Option, Some, None, refl, subst, arith, inl, inr}
+use Rattle.std.proofs.Common.{◌≡◌, ◌<◌, ℕ, List, [], ◌∷◌, length, Option, Some, None, subst, arith, inl, inr}
 use Rattle.std.specs.List.{AllByRecursion}
 use Rattle.forms.specs.declared.TokenKind.{TokenKind}
 use Rattle.forms.specs.declared.TokenKind.TheVariants.{Comma}
-use Rattle.forms.specs.Form.{Lexeme, Form, InOrder, Spells, exactly, one, ahead, pair, either, mapped, made, optional, many, by_word}
+use Rattle.forms.specs.Form.{Lexeme, Form, Spells, one, ahead, pair, either, mapped, made, optional, many, by_word}
 use Rattle.ir_types.specs.Grammar.{word, behind, after_mark, between, marked, some, commas, list, or_none}
 
 pub record Sure {A : Type 0} (f : Form A) (P : A → Type 0) : Type 0 where

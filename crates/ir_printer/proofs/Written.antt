@@ -1,13 +1,12 @@
 -- What is known of a module that tokens spell.
-use Rattle.std.proofs.Common.{◌≡◌, ◌+◌, ◌-◌, ◌*◌, ◌%◌, ◌<◌, ◌^◌, ℕ, suc, List, [], ◌∷◌, ◌++◌, length, Option, Some, None, Bool, true, false, cond, eqb, lit<, refl, subst, arith, inl, inr}
+use Rattle.std.proofs.Common.{◌≡◌, ◌%◌, ◌<◌, ◌^◌, ℕ, List, [], ◌∷◌, ◌++◌, length, Option, Some, None, Bool, true, false, cond, eqb, lit<, refl, subst, arith, inl, inr}
 use Rattle.std.specs.Prelude.{map, codes}
 use Rattle.std.specs.List.{AllByRecursion}
 use Rattle.std.proofs.lemmas.List.{length-map}
 use Rattle.forms.specs.declared.TokenKind.TheVariants.{Local, Global, Label, Number, Equal, Comma, LeftParen, RightParen, LeftBracket, RightBracket, LeftBrace, RightBrace}
-use Rattle.forms.specs.Form.{Lexeme, Form, Spells, one, ahead, pair, either, mapped, made, optional, many, by_word}
-use Rattle.forms.specs.Reading.{◌>>=◌}
+use Rattle.forms.specs.Form.{Lexeme, Form, Spells, pair, mapped}
 use Rattle.forms.proofs.Sound.{bind_some}
-use Rattle.forms.proofs.Exact.{there, some_is}
+use Rattle.forms.proofs.Exact.{some_is}
 use Rattle.ir_types.specs.declared.name.Name.{Name}
 use Rattle.ir_types.specs.declared.inst.Ty.{Ty}
 use Rattle.ir_types.specs.declared.inst.Ty.TheVariants.{Int, Void}
@@ -19,12 +18,12 @@ use Rattle.ir_types.specs.declared.opcode.Operation.{Operation}
 use Rattle.ir_types.specs.declared.opcode.Operation.TheVariants as operations
 use Rattle.ir_types.specs.declared.opcode.Terminator.{Terminator}
 use Rattle.ir_types.specs.declared.opcode.Terminator.TheVariants as terminators
-use Rattle.ir_types.specs.Written.{number_at, number_of, negated, name_behind, name_before}
-use Rattle.ir_types.specs.Tree.{OperandTree, local, number, InstTree, WrittenParam, WrittenBlock, WrittenFunction, WrittenModule}
-use Rattle.ir_types.specs.Grammar.{word, behind, after_mark, between, marked, some, commas, list, local_name, global_name, label, int_type, WrittenValue, named, digits, yes, no, value, width_of, operand_at, two_values, binary_tree, binary, predicates, compare_tree, compared, compare, entry_of_phi, phi_tree, phi, target, jump_tree, branch_tree, branch, return_tree, ret, operation_words, operation_behind, operation, terminator_words, terminator_behind, terminator, named_by, line, block_tree, block, parameter, function_tree, function, module_form}
-use Rattle.ir_printer.specs.Printable.{IsName, IsInt, IsOperand, operand_type, HasShape, IsBody, IsNameThere, IsTerminator, EndsOnce}
+use Rattle.ir_types.specs.Written.{number_at, name_behind}
+use Rattle.ir_types.specs.Tree.{InstTree, WrittenParam, WrittenBlock, WrittenFunction, WrittenModule}
+use Rattle.ir_types.specs.Grammar.{local_name, global_name, label, int_type, WrittenValue, named, digits, yes, no, value, width_of, operand_at, two_values, binary, compared, compare, entry_of_phi, phi, target, jump_tree, branch, ret, operation_behind, operation, terminator_behind, terminator, named_by, line, block, parameter, function, module_form}
+use Rattle.ir_printer.specs.Printable.{IsName, IsInt, IsOperand, IsBody, IsNameThere, IsTerminator, EndsOnce}
 use Rattle.ir_printer.proofs.Names.{behind_is, before_is}
-use Rattle.ir_printer.proofs.Sure.{Sure, one_sure, word_sure, pair_sure, either_sure, mapped_sure, made_sure, ahead_sure, IsThere, optional_sure, by_word_sure, many_sure, behind_sure, after_mark_sure, between_sure, marked_sure, Filled, some_sure, commas_sure, list_sure}
+use Rattle.ir_printer.proofs.Sure.{Sure, one_sure, word_sure, pair_sure, either_sure, mapped_sure, made_sure, ahead_sure, IsThere, optional_sure, by_word_sure, many_sure, behind_sure, after_mark_sure, between_sure, some_sure, commas_sure, list_sure}
 
 -- ---- names, types and values
 
@@ -196,8 +195,8 @@ record IsTerminatorLine (i : InstTree) : Type 0 where
 line_sure : {P Q : InstTree → Type 0} {f : Form InstTree} → Sure f P → ((i : InstTree) (o : Option Name) → P i → IsNameThere o → Q (named_by i o)) → Sure (line f) Q
 line_sure {P} {Q} p named_so = either_sure
     (made_sure {Q = Q} (ahead_sure Local (ahead_sure Equal p)) (λ x i h e.
-      let b = bind_some (name_behind x.0) _ i e in
-      subst Q (some_is _ i b.2) (named_so x.1.1 (Some b.0) h (behind_is x.0 b.0 b.1))))
+    let b = bind_some (name_behind x.0) _ i e in
+    subst Q (some_is _ i b.2) (named_so x.1.1 (Some b.0) h (behind_is x.0 b.0 b.1))))
     (mapped_sure {Q = Q} p (λ i h. named_so i None h tt))
 
 pub renamed : (i : InstTree) (o : Option Name) → IsBody i → IsBody (named_by i o)

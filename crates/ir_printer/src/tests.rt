@@ -40,6 +40,9 @@ fn numbers(rt: HostRuntime) -> Result<(), Fail> {
         put_number(&mut out, Ty::Int(32), number)?;
         out.push(b' ')?;
     }
-    assert_eq!(rt; out.as_slice(), b"false true 0 7 2147483647 -2147483648 -1 ".as_slice());
+    assert_eq!(rt;
+        out.as_slice(),
+        b"false true 0 7 2147483647 -2147483648 -1 ".as_slice()
+    );
     Ok(())
 }

@@ -10,5 +10,5 @@ use Rattle.ir_printer.proofs.function.put_blocks.Given as goal
 abbrev pub invariant-loop-block : goal.invariant-loop-block
 invariant-loop-block l = record {
   known : AllByRecursion IsBlock (map (block_in l.names) (drop l.block-index l.rest));
-  printed : l.out.items ++ text_of (each_behind (line_feed ∷ []) (map block_pieces (map (block_in l.names) (drop l.block-index l.rest)))) ≡ l.initial.out.items ++ text_of (each_behind (line_feed ∷ []) (map block_pieces (map (block_in l.names) l.rest)))
+  printed : l.out.items ++ text_of (each_behind (line_feed ∷ []) (map block_pieces (map (block_in l.names) (drop l.block-index l.rest)))) ≡ l.initial.out.items ++ text_of (each_behind (line_feed ∷ []) (map block_pieces (map (block_in l.names) l.rest)));
 }

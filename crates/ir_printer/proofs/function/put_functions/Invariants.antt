@@ -10,5 +10,5 @@ use Rattle.ir_printer.proofs.function.put_functions.Given as goal
 abbrev pub invariant-loop-function : goal.invariant-loop-function
 invariant-loop-function l = record {
   known : AllByRecursion IsFunction (map tree_of_function (drop l.function-index l.rest));
-  printed : l.out.items ++ text_of (each_behind (line_feed ∷ []) (map function_pieces (map tree_of_function (drop l.function-index l.rest)))) ≡ l.initial.out.items ++ text_of (each_behind (line_feed ∷ []) (map function_pieces (map tree_of_function l.rest)))
+  printed : l.out.items ++ text_of (each_behind (line_feed ∷ []) (map function_pieces (map tree_of_function (drop l.function-index l.rest)))) ≡ l.initial.out.items ++ text_of (each_behind (line_feed ∷ []) (map function_pieces (map tree_of_function l.rest)));
 }

@@ -12,5 +12,5 @@ invariant-loop-i l = record {
   operands : AllByRecursion (IsOperand l.ty) (map (operand_in l.names) (drop l.i l.operands));
   labels : AllByRecursion IsName (map (name_in l.names) (drop l.i l.labels));
   pairs : length l.operands ≡ length l.labels;
-  printed : l.out.items ++ text_of (each_behind (comma ∷ blank ∷ []) (entries_of l.ty (map (operand_in l.names) (drop l.i l.operands)) (map (name_in l.names) (drop l.i l.labels)))) ≡ l.initial.out.items ++ text_of (each_behind (comma ∷ blank ∷ []) (entries_of l.ty (map (operand_in l.names) l.operands) (map (name_in l.names) l.labels)))
+  printed : l.out.items ++ text_of (each_behind (comma ∷ blank ∷ []) (entries_of l.ty (map (operand_in l.names) (drop l.i l.operands)) (map (name_in l.names) (drop l.i l.labels)))) ≡ l.initial.out.items ++ text_of (each_behind (comma ∷ blank ∷ []) (entries_of l.ty (map (operand_in l.names) l.operands) (map (name_in l.names) l.labels)));
 }

@@ -10,5 +10,5 @@ use Rattle.ir_printer.proofs.line.put_targets.Given as goal
 abbrev pub invariant-loop-label : goal.invariant-loop-label
 invariant-loop-label l = record {
   known : AllByRecursion IsName (map (name_in l.names) (drop l.label-index l.rest));
-  printed : l.out.items ++ text_of (each_behind (comma ∷ blank ∷ []) (map target_pieces (map (name_in l.names) (drop l.label-index l.rest)))) ≡ l.initial.out.items ++ text_of (each_behind (comma ∷ blank ∷ []) (map target_pieces (map (name_in l.names) l.rest)))
+  printed : l.out.items ++ text_of (each_behind (comma ∷ blank ∷ []) (map target_pieces (map (name_in l.names) (drop l.label-index l.rest)))) ≡ l.initial.out.items ++ text_of (each_behind (comma ∷ blank ∷ []) (map target_pieces (map (name_in l.names) l.rest)));
 }

@@ -10,5 +10,5 @@ use Rattle.ir_printer.proofs.value.put_operands.Given as goal
 abbrev pub invariant-loop-operand : goal.invariant-loop-operand
 invariant-loop-operand l = record {
   known : AllByRecursion (IsOperand l.ty) (map (operand_in l.names) (drop l.operand-index l.rest));
-  printed : l.out.items ++ text_of (each_behind (comma ∷ blank ∷ []) (map (operand_pieces l.ty) (map (operand_in l.names) (drop l.operand-index l.rest)))) ≡ l.initial.out.items ++ text_of (each_behind (comma ∷ blank ∷ []) (map (operand_pieces l.ty) (map (operand_in l.names) l.rest)))
+  printed : l.out.items ++ text_of (each_behind (comma ∷ blank ∷ []) (map (operand_pieces l.ty) (map (operand_in l.names) (drop l.operand-index l.rest)))) ≡ l.initial.out.items ++ text_of (each_behind (comma ∷ blank ∷ []) (map (operand_pieces l.ty) (map (operand_in l.names) l.rest)));
 }
