@@ -15,7 +15,9 @@ use std::alloc::AllocError;
 
 fn put_insts(out: &mut Vec<u8>, names: &Names, insts: &[Inst]) -> Result<(), AllocError>
     requires { AllByRecursion IsInst (map (inst_in names.now) insts.now) }
-    ensures { OnOk result (out.new.items ≡ out.old.items ++ text_of (each_behind (indent ∷ []) (map inst_pieces (map (inst_in names.now) insts.now)))) }
+    ensures { OnOk result (out.new.items ≡ out.old.items
+        ++ text_of (each_behind (indent ∷ [])
+        (map inst_pieces (map (inst_in names.now) insts.now)))) }
 {
     for inst in insts {
         out.extend_from_slice(b"  ")?;
@@ -27,7 +29,8 @@ fn put_insts(out: &mut Vec<u8>, names: &Names, insts: &[Inst]) -> Result<(), All
 #[tactic(auto, unfolding(crate::specs::Print::block_pieces))]
 fn put_block(out: &mut Vec<u8>, names: &Names, block: &Block) -> Result<(), AllocError>
     requires { IsBlock (block_in names.now block.now) }
-    ensures { OnOk result (out.new.items ≡ out.old.items ++ text_of (block_pieces (block_in names.now block.now))) }
+    ensures { OnOk result (out.new.items ≡ out.old.items
+        ++ text_of (block_pieces (block_in names.now block.now))) }
 {
     put_name(out, names.get(block.name))?;
     out.extend_from_slice(b":\n")?;
@@ -36,7 +39,9 @@ fn put_block(out: &mut Vec<u8>, names: &Names, block: &Block) -> Result<(), Allo
 
 fn put_blocks(out: &mut Vec<u8>, names: &Names, blocks: &[Block]) -> Result<(), AllocError>
     requires { AllByRecursion IsBlock (map (block_in names.now) blocks.now) }
-    ensures { OnOk result (out.new.items ≡ out.old.items ++ text_of (separated (line_feed ∷ []) (map block_pieces (map (block_in names.now) blocks.now)))) }
+    ensures { OnOk result (out.new.items ≡ out.old.items
+        ++ text_of (separated (line_feed ∷ [])
+        (map block_pieces (map (block_in names.now) blocks.now)))) }
 {
     let [first, rest @ ..] = blocks else {
         return Ok(());
@@ -51,7 +56,8 @@ fn put_blocks(out: &mut Vec<u8>, names: &Names, blocks: &[Block]) -> Result<(), 
 
 fn put_param(out: &mut Vec<u8>, names: &Names, param: Param) -> Result<(), AllocError>
     requires { IsParam (param_in names.now param) }
-    ensures { OnOk result (out.new.items ≡ out.old.items ++ text_of (param_pieces (param_in names.now param))) }
+    ensures { OnOk result (out.new.items ≡ out.old.items
+        ++ text_of (param_pieces (param_in names.now param))) }
 {
     put_type(out, param.ty)?;
     out.push(b' ')?;
@@ -60,7 +66,8 @@ fn put_param(out: &mut Vec<u8>, names: &Names, param: Param) -> Result<(), Alloc
 
 fn put_params(out: &mut Vec<u8>, names: &Names, params: &[Param]) -> Result<(), AllocError>
     requires { AllByRecursion IsParam (map (param_in names.now) params.now) }
-    ensures { OnOk result (out.new.items ≡ out.old.items ++ text_of (with_commas (map param_pieces (map (param_in names.now) params.now)))) }
+    ensures { OnOk result (out.new.items ≡ out.old.items
+        ++ text_of (with_commas (map param_pieces (map (param_in names.now) params.now)))) }
 {
     let [first, rest @ ..] = params else {
         return Ok(());
@@ -77,7 +84,8 @@ fn put_params(out: &mut Vec<u8>, names: &Names, params: &[Param]) -> Result<(), 
 #[tactic(auto, using(crate::proofs::Appended::text_of_both, std::proofs::lemmas::Grind::common_steps))]
 fn put_head(out: &mut Vec<u8>, function: &Function) -> Result<(), AllocError>
     requires { IsFunction (tree_of_function function.now) }
-    ensures { OnOk result (out.new.items ≡ out.old.items ++ text_of (head_pieces (tree_of_function function.now))) }
+    ensures { OnOk result (out.new.items ≡ out.old.items
+        ++ text_of (head_pieces (tree_of_function function.now))) }
 {
     out.extend_from_slice(b"define ")?;
     put_type(out, function.ret)?;
@@ -92,7 +100,8 @@ fn put_head(out: &mut Vec<u8>, function: &Function) -> Result<(), AllocError>
 #[tactic(auto, using(crate::proofs::Appended::function_text, std::proofs::lemmas::Grind::common_steps))]
 fn put_function(out: &mut Vec<u8>, function: &Function) -> Result<(), AllocError>
     requires { IsFunction (tree_of_function function.now) }
-    ensures { OnOk result (out.new.items ≡ out.old.items ++ text_of (function_pieces (tree_of_function function.now))) }
+    ensures { OnOk result (out.new.items ≡ out.old.items
+        ++ text_of (function_pieces (tree_of_function function.now))) }
 {
     put_head(out, function)?;
     put_blocks(out, &function.names, function.body.as_slice())?;
@@ -101,9 +110,11 @@ fn put_function(out: &mut Vec<u8>, function: &Function) -> Result<(), AllocError
 }
 
 /// Appends functions, parted by empty lines.
-pub fn put_functions(out: &mut Vec<u8>, functions: &[Function]) -> Result<(), AllocError>
+pub(crate) fn put_functions(out: &mut Vec<u8>, functions: &[Function]) -> Result<(), AllocError>
     requires { AllByRecursion IsFunction (map tree_of_function functions.now) }
-    ensures { OnOk result (out.new.items ≡ out.old.items ++ text_of (separated (line_feed ∷ []) (map function_pieces (map tree_of_function functions.now)))) }
+    ensures { OnOk result (out.new.items ≡ out.old.items
+        ++ text_of (separated (line_feed ∷ [])
+        (map function_pieces (map tree_of_function functions.now)))) }
 {
     let [first, rest @ ..] = functions else {
         return Ok(());

@@ -22,7 +22,8 @@ use std::alloc::{AllocError, Global};
 #[tactic(auto, unfolding(crate::specs::Print::module_pieces), using(crate::proofs::Printed::readable_known, crate::proofs::Printed::printed_reads))]
 pub fn print_module(alloc: Global, m: &Module, out: &mut Vec<u8>) -> Result<(), AllocError>
     requires { IsReadable m.now }
-    ensures text { OnOk result (out.new.items ≡ out.old.items ++ text_of (module_pieces (tree_of m.now))) }
+    ensures text { OnOk result (out.new.items ≡ out.old.items
+        ++ text_of (module_pieces (tree_of m.now))) }
     ensures reads { OnOk result (Reads (text_of (module_pieces (tree_of m.now))) m.now) }
     ensures err { OnErr result (out.new.items ≡ out.old.items) }
 {

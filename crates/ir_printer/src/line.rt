@@ -41,7 +41,8 @@ fn word_of_predicate(predicate: Pred) -> &'static [u8]
 
 fn put_target(out: &mut Vec<u8>, names: &Names, label: ValueId) -> Result<(), AllocError>
     requires { IsName (name_in names.now label) }
-    ensures { OnOk result (out.new.items ≡ out.old.items ++ text_of (target_pieces (name_in names.now label))) }
+    ensures { OnOk result (out.new.items ≡ out.old.items
+        ++ text_of (target_pieces (name_in names.now label))) }
 {
     out.extend_from_slice(b"label ")?;
     put_local(out, names, label)
@@ -49,7 +50,8 @@ fn put_target(out: &mut Vec<u8>, names: &Names, label: ValueId) -> Result<(), Al
 
 fn put_targets(out: &mut Vec<u8>, names: &Names, labels: &[ValueId]) -> Result<(), AllocError>
     requires { AllByRecursion IsName (map (name_in names.now) labels.now) }
-    ensures { OnOk result (out.new.items ≡ out.old.items ++ text_of (targets_pieces (map (name_in names.now) labels.now))) }
+    ensures { OnOk result (out.new.items ≡ out.old.items
+        ++ text_of (targets_pieces (map (name_in names.now) labels.now))) }
 {
     let [first, rest @ ..] = labels else {
         return Ok(());
@@ -72,7 +74,8 @@ fn put_entry(
     requires int { IsInt ty }
     requires operand { IsOperand ty (operand_in names.now operand) }
     requires label { IsName (name_in names.now label) }
-    ensures { OnOk result (out.new.items ≡ out.old.items ++ text_of (entry_pieces ty (operand_in names.now operand) (name_in names.now label))) }
+    ensures { OnOk result (out.new.items ≡ out.old.items
+        ++ text_of (entry_pieces ty (operand_in names.now operand) (name_in names.now label))) }
 {
     out.extend_from_slice(b"[ ")?;
     put_operand(out, names, ty, operand)?;
@@ -92,7 +95,9 @@ fn put_entries(
     requires operands { AllByRecursion (IsOperand ty) (map (operand_in names.now) operands.now) }
     requires labels { AllByRecursion IsName (map (name_in names.now) labels.now) }
     requires pairs { length operands.now ≡ length labels.now }
-    ensures { OnOk result (out.new.items ≡ out.old.items ++ text_of (with_commas (entries_of ty (map (operand_in names.now) operands.now) (map (name_in names.now) labels.now)))) }
+    ensures { OnOk result (out.new.items ≡ out.old.items
+        ++ text_of (with_commas (entries_of ty
+        (map (operand_in names.now) operands.now) (map (name_in names.now) labels.now)))) }
 {
     let [operand, operands @ ..] = operands else {
         return Ok(());
@@ -112,7 +117,9 @@ fn put_entries(
 #[tactic(auto, using(crate::proofs::Appended::text_of_both, std::proofs::lemmas::Grind::common_steps))]
 fn put_kind(out: &mut Vec<u8>, names: &Names, inst: &Inst) -> Result<(), AllocError>
     requires { IsBody (inst_in names.now inst.now) }
-    ensures { OnOk result (out.new.items ≡ out.old.items ++ text_of (kind_pieces inst.now.kind inst.now.ty (map (operand_in names.now) inst.now.args) (map (name_in names.now) inst.now.labels))) }
+    ensures { OnOk result (out.new.items ≡ out.old.items
+        ++ text_of (kind_pieces inst.now.kind inst.now.ty
+        (map (operand_in names.now) inst.now.args) (map (name_in names.now) inst.now.labels))) }
 {
     let operands = inst.args.as_slice();
     let labels = inst.labels.as_slice();
@@ -157,7 +164,8 @@ fn put_result(
     name: Option<ValueId>,
 ) -> Result<(), AllocError>
     requires { IsResult ty (option_map (name_in names.now) name) }
-    ensures { OnOk result (out.new.items ≡ out.old.items ++ text_of (result_pieces (option_map (name_in names.now) name))) }
+    ensures { OnOk result (out.new.items ≡ out.old.items
+        ++ text_of (result_pieces (option_map (name_in names.now) name))) }
 {
     if let Some(name) = name {
         put_local(out, names, name)?;
@@ -168,9 +176,10 @@ fn put_result(
 
 /// Appends an instruction and a line feed.
 #[tactic(auto, using(crate::proofs::Appended::inst_text, std::proofs::lemmas::Grind::common_steps))]
-pub fn put_inst(out: &mut Vec<u8>, names: &Names, inst: &Inst) -> Result<(), AllocError>
+pub(crate) fn put_inst(out: &mut Vec<u8>, names: &Names, inst: &Inst) -> Result<(), AllocError>
     requires { IsInst (inst_in names.now inst.now) }
-    ensures { OnOk result (out.new.items ≡ out.old.items ++ text_of (inst_pieces (inst_in names.now inst.now))) }
+    ensures { OnOk result (out.new.items ≡ out.old.items
+        ++ text_of (inst_pieces (inst_in names.now inst.now))) }
 {
     put_result(out, names, inst.ty, inst.result)?;
     put_kind(out, names, inst)?;

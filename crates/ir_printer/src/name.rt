@@ -10,7 +10,7 @@ use itoa::Buffer;
 use std::alloc::AllocError;
 
 /// Appends a number in digits.
-pub fn put_digits(out: &mut Vec<u8>, number: u64) -> Result<(), AllocError>
+pub(crate) fn put_digits(out: &mut Vec<u8>, number: u64) -> Result<(), AllocError>
     ensures { OnOk result (out.new.items ≡ out.old.items ++ decimal number) }
 {
     let mut buffer = Buffer::new();
@@ -92,7 +92,7 @@ fn put_quoted(out: &mut Vec<u8>, text: &[u8]) -> Result<(), AllocError>
 
 /// Appends a name, without what says of what it is one.
 #[tactic(auto, unfolding(crate::specs::Texts::name_text))]
-pub fn put_name(out: &mut Vec<u8>, name: &Name) -> Result<(), AllocError>
+pub(crate) fn put_name(out: &mut Vec<u8>, name: &Name) -> Result<(), AllocError>
     ensures { OnOk result (out.new.items ≡ out.old.items ++ name_text name.now) }
 {
     match name {

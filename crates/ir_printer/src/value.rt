@@ -15,9 +15,10 @@ use std::alloc::AllocError;
 
 /// Appends `%name`.
 #[tactic(auto, using(crate::proofs::Names::within_names))]
-pub fn put_local(out: &mut Vec<u8>, names: &Names, name: ValueId) -> Result<(), AllocError>
+pub(crate) fn put_local(out: &mut Vec<u8>, names: &Names, name: ValueId) -> Result<(), AllocError>
     requires { IsName (name_in names.now name) }
-    ensures { OnOk result (out.new.items ≡ out.old.items ++ (local_token (name_in names.now name)).text) }
+    ensures { OnOk result (out.new.items ≡ out.old.items
+        ++ (local_token (name_in names.now name)).text) }
 {
     out.push(b'%')?;
     put_name(out, names.get(name))
@@ -25,7 +26,7 @@ pub fn put_local(out: &mut Vec<u8>, names: &Names, name: ValueId) -> Result<(), 
 
 /// Appends a type.
 #[tactic(auto, unfolding(crate::specs::Print::type_word))]
-pub fn put_type(out: &mut Vec<u8>, ty: Ty) -> Result<(), AllocError>
+pub(crate) fn put_type(out: &mut Vec<u8>, ty: Ty) -> Result<(), AllocError>
     ensures { OnOk result (out.new.items ≡ out.old.items ++ type_word ty) }
 {
     match ty {
@@ -54,7 +55,7 @@ fn put_signed(out: &mut Vec<u8>, width: u32, number: u64) -> Result<(), AllocErr
 
 // Appends a number at its type.
 #[tactic(auto, unfolding(crate::specs::Print::number_token))]
-pub fn put_number(out: &mut Vec<u8>, ty: Ty, number: u64) -> Result<(), AllocError>
+pub(crate) fn put_number(out: &mut Vec<u8>, ty: Ty, number: u64) -> Result<(), AllocError>
     requires int { IsInt ty }
     requires fits { number < 2 ^ width_of ty }
     ensures { OnOk result (out.new.items ≡ out.old.items ++ (number_token ty number).text) }
@@ -68,7 +69,7 @@ pub fn put_number(out: &mut Vec<u8>, ty: Ty, number: u64) -> Result<(), AllocErr
 }
 
 /// Appends an operand at its type.
-pub fn put_operand(
+pub(crate) fn put_operand(
     out: &mut Vec<u8>,
     names: &Names,
     ty: Ty,
@@ -76,7 +77,8 @@ pub fn put_operand(
 ) -> Result<(), AllocError>
     requires int { IsInt ty }
     requires known { IsOperand ty (operand_in names.now operand) }
-    ensures { OnOk result (out.new.items ≡ out.old.items ++ (operand_token ty (operand_in names.now operand)).text) }
+    ensures { OnOk result (out.new.items ≡ out.old.items
+        ++ (operand_token ty (operand_in names.now operand)).text) }
 {
     match operand {
         Operand::Local(name) => put_local(out, names, name),
@@ -92,7 +94,9 @@ fn put_operands(
 ) -> Result<(), AllocError>
     requires int { IsInt ty }
     requires known { AllByRecursion (IsOperand ty) (map (operand_in names.now) operands.now) }
-    ensures { OnOk result (out.new.items ≡ out.old.items ++ text_of (with_commas (map (operand_pieces ty) (map (operand_in names.now) operands.now)))) }
+    ensures { OnOk result (out.new.items ≡ out.old.items
+        ++ text_of (with_commas
+        (map (operand_pieces ty) (map (operand_in names.now) operands.now)))) }
 {
     let [first, rest @ ..] = operands else {
         return Ok(());
@@ -106,7 +110,7 @@ fn put_operands(
 }
 
 /// Appends ` T V, V`.
-pub fn put_typed(
+pub(crate) fn put_typed(
     out: &mut Vec<u8>,
     names: &Names,
     ty: Ty,
@@ -114,7 +118,8 @@ pub fn put_typed(
 ) -> Result<(), AllocError>
     requires int { IsInt ty }
     requires known { AllByRecursion (IsOperand ty) (map (operand_in names.now) operands.now) }
-    ensures { OnOk result (out.new.items ≡ out.old.items ++ text_of (typed_pieces ty (map (operand_in names.now) operands.now))) }
+    ensures { OnOk result (out.new.items ≡ out.old.items
+        ++ text_of (typed_pieces ty (map (operand_in names.now) operands.now))) }
 {
     out.push(b' ')?;
     put_type(out, ty)?;
