@@ -4,8 +4,8 @@ use Rattle.forms.specs.declared.TokenKind.{TokenKind}
 use Rattle.forms.specs.declared.TokenKind.TheVariants.{Comma, RightBracket, LeftBrace, RightBrace, Less, Greater}
 use Rattle.forms.specs.declared.Around.{Around}
 use Rattle.forms.specs.declared.Around.TheVariants.{InArray, InStruct}
-use Rattle.forms.specs.Form.{Lexeme, Form, one, pair, either, mapped, many, Spells}
-use Rattle.forms.specs.Reading.{Terminal, any_of, nullable, first, after, decides, all_apart}
+use Rattle.forms.specs.Form.{Lexeme, Form, one, ahead, pair, either, mapped, many, Spells}
+use Rattle.forms.specs.Reading.{Terminal, any_of, mark_then, nullable, first, after, decides, all_apart}
 
 -- what a language chooses: its nodes N are such that the list of a type's nodes determines the type
 pub record TypeParts (N : Type 0) : Type 1 where
@@ -34,9 +34,9 @@ comma_then f = mapped (λ x. x.1) (pair (mark Comma) f)
 abbrev pub joined : {N : Type 0} → Form (List N) → Form (List N) → Form (List N)
 joined f g = mapped (λ x. x.0 ++ x.1) (pair f g)
 
--- `{`, or `<{` where it is packed
+-- `{`, or where it is packed `<` behind which `{` stands, as a leaf may begin with `<` too
 abbrev pub struct_head : {N : Type 0} → TypeParts N → Bool → Form (List N)
-struct_head l true = mapped (λ _. l.opening true ∷ []) (pair (mark Less) (mark LeftBrace))
+struct_head l true = mapped (λ _. l.opening true ∷ []) (ahead Less (mark LeftBrace))
 struct_head l false = mapped (λ _. l.opening false ∷ []) (mark LeftBrace)
 
 -- `}`, or `}>` where it is packed
@@ -70,7 +70,7 @@ SpellsMemory l a ts = (d : ℕ) × Spells (memory l d) a ts
 
 -- the tokens with which a struct begins, and that with which it ends
 abbrev pub struct_begins : List Terminal
-struct_begins = any_of LeftBrace ∷ any_of Less ∷ []
+struct_begins = any_of LeftBrace ∷ mark_then Less (any_of LeftBrace) ∷ []
 
 abbrev pub struct_ends : List Terminal
 struct_ends = any_of RightBrace ∷ []

@@ -1,11 +1,12 @@
 // What is left of a text's tokens, and the few functions that take tokens from it.
 
-ghost use Rattle.std.specs.Prelude.{◌≡◌, ◌≢◌, ◌∷◌, [], ◌-◌, ◌<◌, MatchOption, false, length, take, drop, IfOk, is_some};
+ghost use Rattle.std.specs.Prelude.{◌≡◌, ◌∷◌, [], ◌-◌, ◌<◌, MatchOption, false, length, take, drop, IfOk, is_some};
 ghost use Rattle.forms.specs.declared.TokenKind.TheVariants.{Word};
-ghost use Rattle.forms.specs.declared.cursor.SyntaxFault.TheVariants.{Memory};
+ghost use Rattle.forms.specs.declared.cursor.SyntaxFault.TheVariants.{Memory, NoReading};
 ghost use Rattle.forms.specs.Form.{one, exactly};
 ghost use Rattle.forms.specs.Reading.{next_in, this, any_of, read};
 ghost use Rattle.forms.specs.Gives.{Gives, left, mark};
+ghost use Rattle.forms.specs.View.{next_place};
 
 use crate::{Token, TokenKind};
 use std::alloc::{AllocError, AllocFailed};
@@ -56,7 +57,9 @@ fn part(text: &[u8], start: usize, end: usize) -> &[u8]
 
 impl<'t> Cursor<'t> {
     /// Where the next token starts, or the text's end.
-    pub fn place(self) -> u32 {
+    pub fn place(self) -> u32
+        ensures { result ≡ next_place self.entry.text.now self.entry.rest.now }
+    {
         match self.rest.first() {
             Some(token) => token.start,
             None => u32::try_from(self.text.len()).unwrap_or(u32::MAX),
@@ -65,7 +68,7 @@ impl<'t> Cursor<'t> {
 
     /// The refusal to read on here.
     pub fn refusal(self) -> SyntaxFault
-        ensures { result ≢ Memory }
+        ensures { result ≡ NoReading (next_place self.entry.text.now self.entry.rest.now) }
     {
         SyntaxFault::NoReading(self.place())
     }

@@ -2,6 +2,8 @@
 #![tactic(auto)]
 
 mod cursor;
+#[cfg(test)]
+mod tests;
 mod words;
 
 pub use cursor::{Cursor, SyntaxFault};

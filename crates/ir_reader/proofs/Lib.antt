@@ -3,3 +3,4 @@ pub mod Strings
 pub mod Lines
 pub mod Same
 pub mod Threads
+pub mod Parts

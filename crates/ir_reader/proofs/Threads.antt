@@ -3,14 +3,7 @@ use Rattle.std.proofs.Common.{◌≡◌, List, [], ◌∷◌, ◌++◌, Option, 
 use Rattle.forms.specs.Form.{Lexeme, Form, mapped}
 use Rattle.forms.specs.Reading.{◌>>=◌, read, read_pair}
 use Rattle.forms.specs.Walk.{walk, completed}
-
--- one part is completed, and then another, from what the first leaves
-abbrev pub thread : {A B C D S T U : Type 0} → (S → A → Option (C × T)) → (T → B → Option (D × U)) → S → A × B → Option ((C × D) × U)
-thread f g s p = f s p.0 >>= λ x. g x.1 p.1 >>= λ y. Some ((x.0, y.0), y.1)
-
--- the same of what is read
-abbrev pub threaded : {A B C D S T U : Type 0} → (S → A → Option (C × T)) → (T → B → Option (D × U)) → S → (List Lexeme → Option (A × List Lexeme)) → (List Lexeme → Option (B × List Lexeme)) → List Lexeme → Option (((C × D) × U) × List Lexeme)
-threaded f g s r q ts = completed (f s) (r ts) >>= λ x. completed (g x.0.1) (q x.1) >>= λ y. Some (((x.0.0, y.0.0), y.0.1), y.1)
+use Rattle.ir_reader.specs.Threads.{thread, threaded, renamed, renamed_before}
 
 abbrev second : {B C D T U : Type 0} → (T → B → Option (D × U)) → Option (C × T) → Option (B × List Lexeme) → Option (((C × D) × U) × List Lexeme)
 second g c o = c >>= λ x. completed (g x.1) o >>= λ y. Some (((x.0, y.0.0), y.0.1), y.1)
@@ -65,12 +58,6 @@ completed_mapped {A} f h g ts = by (read g ts)
 pub completed_alike : {A B R : Type 0} (f g : A → Option B) (r : Option (A × R)) → ((a : A) → f a ≡ g a) → completed f r ≡ completed g r
 completed_alike f g None h = refl
 completed_alike f g (Some x) h = ap (λ (o : Option _). o >>= λ b. Some (b, x.1)) (h x.0)
-
-abbrev renamed : {B C T : Type 0} → (B → C) → Option (B × T) → Option (C × T)
-renamed h o = o >>= λ x. Some (h x.0, x.1)
-
-abbrev renamed_before : {B C T R : Type 0} → (B → C) → Option ((B × T) × R) → Option ((C × T) × R)
-renamed_before h o = o >>= λ y. Some ((h y.0.0, y.0.1), y.1)
 
 -- a function of what was completed
 pub completed_then : {A B C T R : Type 0} (f : A → Option (B × T)) (h : B → C) (r : Option (A × R)) → completed (λ a. renamed h (f a)) r ≡ renamed_before h (completed f r)

@@ -1,2 +1,4 @@
 pub mod View
 pub mod Lines
+pub mod Threads
+pub mod Blocks

@@ -1,6 +1,7 @@
 //! Reads a module from a text, exactly as the grammar says.
 #![tactic(auto)]
 
+mod block;
 mod entries;
 mod inst;
 mod line;

@@ -1,3 +1,4 @@
 pub mod SameNames
 pub mod NameAt
 pub mod Decides
+mod Examples

@@ -1,4 +1,4 @@
-use Rattle.std.proofs.Common.{ℕ, List, Some, sym, ap, ◌∙◌, ◌≡◌, get_or}
+use Rattle.std.proofs.Common.{Some, sym, ap, ◌∙◌}
 use Rattle.forms.proofs.Tables.{entry_here, entry_next, same, other}
 use Rattle.forms.proofs.words.find.Goals as goal
 

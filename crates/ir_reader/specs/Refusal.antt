@@ -1,0 +1,30 @@
+-- Why a text is not read.
+use Rattle.std.specs.Prelude.{◌≡◌, ◌≤◌, ◌<◌, ◌⊎◌, ℕ, List, [], length}
+use Rattle.std.specs.Prelude.{slice_get, Some}
+use Rattle.forms.specs.declared.Token.{Token}
+use Rattle.forms.specs.Lexical.{Places, StopsAt}
+use Rattle.text_lex.specs.declared.TheConstants.{TEXT_LIMIT}
+use Rattle.text_lex.specs.declared.fault.TextFault.{TextFault}
+use Rattle.text_lex.specs.declared.fault.TextFault.TheVariants.{TextLimit, NoReading, Memory}
+use Rattle.ir_types.specs.declared.module.Module.{Module}
+use Rattle.ir_types.specs.Reads.{Reads}
+
+-- the text reads as no module
+abbrev pub HasNoReading : List ℕ → Type 0
+HasNoReading text = (m : Module) → Reads text m → ⊥
+
+-- a token of the text starts at this place
+pub record StartsToken (text : List ℕ) (place : ℕ) : Type 0 where
+  pub tokens : List Token
+  pub placed : Places (length text) text tokens []
+  pub starts : (i : ℕ) × (t : Token) × (slice_get tokens i ≡ Some t) × (t.start ≡ place)
+
+-- a token's start, the text's end, or the first place where no token begins
+abbrev pub IsStop : List ℕ → ℕ → Type 0
+IsStop text place = StartsToken text place ⊎ ((place ≡ length text) ⊎ StopsAt text place)
+
+-- a text has more bytes than the limit, or it reads as no module
+abbrev pub IsRefusal : List ℕ → TextFault → Type 0
+IsRefusal text (TextLimit size) = (size ≡ length text) × (TEXT_LIMIT < length text)
+IsRefusal text (NoReading place) = (length text ≤ TEXT_LIMIT) × HasNoReading text × IsStop text place
+IsRefusal text Memory = Unit {0}

@@ -1,0 +1,202 @@
+-- Worked examples of what names, numbers and texts stand for.
+use Rattle.std.proofs.Common.{◌≡◌, ℕ, ◌+◌, ◌%◌, ◌^◌, List, [], ◌∷◌, ◌++◌, map, codes, Option, Some, None, if◌then◌else◌, eqb, refl}
+use Rattle.forms.specs.declared.TokenKind.{TokenKind}
+use Rattle.forms.specs.Form.{Lexeme}
+use Rattle.forms.specs.Lexical.{kind_of, table}
+use Rattle.forms.specs.Reading.{◌>>=◌, read_whole}
+use Rattle.ir_types.specs.declared.name.Name.{Name}
+use Rattle.ir_types.specs.declared.name.Name.TheVariants.{Text, Number}
+use Rattle.ir_types.specs.declared.inst.Ty.TheVariants.{Int, Void}
+use Rattle.ir_types.specs.declared.inst.Pred.TheVariants.{Slt}
+use Rattle.ir_types.specs.declared.inst.InstKind.TheVariants.{Compare, Phi, Jump, Branch, Return}
+use Rattle.ir_types.specs.Written.{number_of, number_at, unescaped, name_behind, name_before}
+use Rattle.ir_types.specs.Tree.{local, number, InstTree, BlockTree, FunctionTree, WrittenFunction, WrittenModule}
+use Rattle.ir_types.specs.Grammar.{local_name, global_name, label, int_type, value, binary, predicates, compared, compare, entry_of_phi, phi, target, branch, ret, operation_words, operation, terminator_words, terminator, block, parameter, function, module_form}
+use Rattle.ir_types.specs.Numbered.{numbered_module}
+
+-- a string with a backslash and a quotation mark, which a literal here cannot have
+abbrev slash : ℕ
+slash = 92
+
+abbrev quoted : List ℕ → List ℕ
+quoted s = 34 ∷ s ++ 34 ∷ []
+
+-- ---- numbers
+
+record Numbers : Type 0 where
+  zero_digit : number_of (codes "0") ≡ 0
+  twelve : number_of (codes "12") ≡ 12
+  -- zeros in front change nothing
+  padded : number_of (codes "00012") ≡ 12
+  -- more digits than a machine's number has
+  long : number_of (codes "100000000000000000000000000000000000007") ≡ 10 ^ 38 + 7
+  one_bit : number_at 1 (codes "1") ≡ 1
+  -- minus one has all bits set
+  minus_one_bit : number_at 1 (codes "-1") ≡ 1
+  minus_one : number_at 32 (codes "-1") ≡ 4294967295
+  minus_zero : number_at 32 (codes "-0") ≡ 0
+  -- the greatest number of 32 bits, and one more
+  greatest : number_at 32 (codes "4294967295") ≡ 4294967295
+  beyond : number_at 32 (codes "4294967296") ≡ 0
+  -- the least signed number of 32 bits
+  least : number_at 32 (codes "-2147483648") ≡ 2147483648
+  minus_beyond : number_at 32 (codes "-4294967297") ≡ 4294967295
+  two_in_one_bit : number_at 1 (codes "2") ≡ 0
+  long_modulo : number_at 32 (codes "100000000000000000000000000000000000007") ≡ (10 ^ 38 + 7) % 2 ^ 32
+
+numbers : Numbers
+numbers = record { zero_digit = refl; twelve = refl; padded = refl; long = refl; one_bit = refl; minus_one_bit = refl; minus_one = refl; minus_zero = refl; greatest = refl; beyond = refl; least = refl; minus_beyond = refl; two_in_one_bit = refl; long_modulo = refl }
+
+-- ---- strings and names
+
+record Strings : Type 0 where
+  plain : unescaped (codes "a b") ≡ codes "a b"
+  -- `a\5Cb` has one backslash, and what it makes is no escape again
+  escaped_slash : unescaped (codes "a" ++ slash ∷ codes "5Cb") ≡ codes "a" ++ slash ∷ codes "b"
+  not_twice : unescaped (slash ∷ codes "5C41") ≡ slash ∷ codes "41"
+  -- two backslashes are one, and three are one and what stands behind it
+  two : unescaped (slash ∷ slash ∷ []) ≡ slash ∷ []
+  two_then_digits : unescaped (slash ∷ slash ∷ codes "41") ≡ slash ∷ codes "41"
+  three_then_digits : unescaped (slash ∷ slash ∷ slash ∷ codes "41") ≡ slash ∷ codes "A"
+  -- `\41` is A, in small letters too `\6a` is j
+  letter : unescaped (slash ∷ codes "41") ≡ codes "A"
+  small : unescaped (slash ∷ codes "6a" ++ codes "x") ≡ codes "jx"
+  greatest_byte : unescaped (slash ∷ codes "fF") ≡ 255 ∷ []
+  -- `\4` at the end, `\4g`, `\zz` and `\` at the end stand for themselves
+  one_digit : unescaped (slash ∷ codes "4") ≡ slash ∷ codes "4"
+  digit_and_letter : unescaped (slash ∷ codes "4g") ≡ slash ∷ codes "4g"
+  no_digits : unescaped (slash ∷ codes "zz") ≡ slash ∷ codes "zz"
+  at_end : unescaped (codes "a" ++ slash ∷ []) ≡ codes "a" ++ slash ∷ []
+
+strings : Strings
+strings = record { plain = refl; escaped_slash = refl; not_twice = refl; two = refl; two_then_digits = refl; three_then_digits = refl; letter = refl; small = refl; greatest_byte = refl; one_digit = refl; digit_and_letter = refl; no_digits = refl; at_end = refl }
+
+record Names : Type 0 where
+  bare : name_behind (codes "%x") ≡ Some (Text (codes "x"))
+  string : name_behind (codes "%" ++ quoted (codes "a b")) ≡ Some (Text (codes "a b"))
+  -- a name is the same with quotes and without
+  same : name_behind (codes "%" ++ quoted (codes "x")) ≡ name_behind (codes "%x")
+  escaped : name_behind (codes "@" ++ quoted (slash ∷ codes "22")) ≡ Some (Text (34 ∷ []))
+  empty : name_behind (codes "%" ++ quoted []) ≡ Some (Text [])
+  digits : name_behind (codes "%7") ≡ Some (Number 7)
+  -- zeros in front change nothing
+  padded : name_behind (codes "%007") ≡ Some (Number 7)
+  greatest : name_behind (codes "%4294967295") ≡ Some (Number 4294967295)
+  beyond : name_behind (codes "%4294967296") ≡ None
+  -- digits in a string are a text
+  quoted_digits : name_behind (codes "@" ++ quoted (codes "7")) ≡ Some (Text (codes "7"))
+  label_digits : name_before (codes "7:") ≡ Some (Number 7)
+  label_bare : name_before (codes "a:") ≡ Some (Text (codes "a"))
+  label_string : name_before (quoted (codes "q") ++ codes ":") ≡ Some (Text (codes "q"))
+  label_beyond : name_before (codes "4294967296:") ≡ None
+  -- a name may begin with a sign
+  label_sign : name_before (codes "-1:") ≡ Some (Text (codes "-1"))
+
+names : Names
+names = record { bare = refl; string = refl; same = refl; escaped = refl; empty = refl; digits = refl; padded = refl; greatest = refl; beyond = refl; quoted_digits = refl; label_digits = refl; label_bare = refl; label_string = refl; label_beyond = refl; label_sign = refl }
+
+-- ---- texts, in which a space stands between any two tokens
+
+abbrev token : List ℕ → Option TokenKind → List Lexeme
+token w None = []
+token w (Some k) = record { kind = k; text = w } ∷ []
+
+abbrev tokens : List ℕ → List ℕ → List Lexeme
+tokens w [] = token w (kind_of w)
+tokens w (c ∷ cs) = if eqb c 32 then token w (kind_of w) ++ tokens [] cs else tokens (w ++ c ∷ []) cs
+
+abbrev reading : List ℕ → Option WrittenModule
+reading s = read_whole module_form (tokens [] s)
+
+-- ---- how things without a name are numbered: the names of the parameters, then of each block and of its results
+
+abbrev result_names : List InstTree → List Name
+result_names [] = []
+result_names (i ∷ more) = elim i.result [ None ↦ result_names more | Some n ↦ n ∷ result_names more ]
+
+abbrev block_names : List BlockTree → List Name
+block_names [] = []
+block_names (b ∷ more) = b.name ∷ result_names b.insts ++ block_names more
+
+abbrev function_names : List FunctionTree → List (List Name)
+function_names fs = map (λ f. map (λ p. p.name) f.params ++ block_names f.body) fs
+
+abbrev names_in : List ℕ → Option (List (List Name))
+names_in s = reading s >>= numbered_module >>= λ m. Some (function_names m.functions)
+
+abbrev written_example : WrittenFunction
+written_example = record {
+  name = Text (codes "f");
+  ret = Int 32;
+  params = record { ty = Int 32; name = Some (Number 0) } ∷ record { ty = Int 1; name = Some (Number 1) } ∷ [];
+  body =
+      record { label = None; insts = record { kind = Branch; ty = Void; args = local (Number 1) ∷ []; labels = Number 3 ∷ Number 4 ∷ []; result = None } ∷ [] } ∷
+      record { label = Some (Number 3); insts = record { kind = Jump; ty = Void; args = []; labels = Number 4 ∷ []; result = None } ∷ [] } ∷
+      record {
+        label = Some (Number 4);
+        insts =
+            record { kind = Phi; ty = Int 32; args = local (Number 0) ∷ number 7 ∷ []; labels = Number 2 ∷ Number 3 ∷ []; result = Some (Number 5) } ∷
+            record { kind = Return (Int 32); ty = Void; args = local (Number 5) ∷ []; labels = []; result = None } ∷
+            [];
+      } ∷
+      [];
+}
+
+abbrev example : List ℕ
+example = codes "define i32 @f ( i32 %0 , i1 %1 ) { br i1 %1 , label %3 , label %4 3: br label %4 4: %5 = phi i32 [ %0 , %2 ] , [ 7 , %3 ] ret i32 %5 }"
+
+record Readings : Type 0 where
+  whole : reading example ≡ Some (record { functions = written_example ∷ [] })
+  -- the entry takes 2
+  numbers : names_in example ≡ Some ((Number 0 ∷ Number 1 ∷ Number 2 ∷ Number 3 ∷ Number 4 ∷ Number 5 ∷ []) ∷ [])
+  -- a module may have no function
+  none : reading [] ≡ Some (record { functions = [] })
+  -- an operation's operands are held at its type, and `true` is 1
+  operands : reading (codes "define i1 @f ( ) { %x = icmp slt i32 -1 , true ret i1 2 }") ≡ Some (record {
+    functions = record {
+      name = Text (codes "f");
+      ret = Int 1;
+      params = [];
+      body = record {
+        label = None;
+        insts =
+            record { kind = Compare Slt (Int 32); ty = Int 1; args = number 4294967295 ∷ number 1 ∷ []; labels = []; result = Some (Text (codes "x")) } ∷
+            record { kind = Return (Int 1); ty = Void; args = number 0 ∷ []; labels = []; result = None } ∷
+            [];
+      } ∷ [];
+    } ∷ [];
+  })
+  -- no block, no terminator, something behind the terminator that is no block
+  no_block : reading (codes "define i32 @f ( ) { }") ≡ None
+  no_terminator : reading (codes "define i32 @f ( ) { add i32 1 , 2 }") ≡ None
+  open_block : reading (codes "define i32 @f ( ) { ret i32 1 a: }") ≡ None
+  -- a comma too many, at each place where there may be one
+  parameter_comma : reading (codes "define i32 @f ( i32 , ) { ret i32 1 }") ≡ None
+  only_comma : reading (codes "define i32 @f ( , ) { ret i32 1 }") ≡ None
+  operand_comma : reading (codes "define i32 @f ( ) { add i32 1 , 2 , ret i32 1 }") ≡ None
+  entry_comma : reading (codes "define i32 @f ( ) { phi i32 [ 1 , %0 ] , ret i32 1 }") ≡ None
+  no_entries : reading (codes "define i32 @f ( ) { phi i32 ret i32 1 }") ≡ None
+  -- `br i1` has two targets
+  one_target : reading (codes "define i32 @f ( i1 %c ) { br i1 %c , label %a }") ≡ None
+  -- a type is i1 or i32, and a value no decimal fraction
+  other_type : reading (codes "define i64 @f ( ) { ret i64 1 }") ≡ None
+  fraction : reading (codes "define i32 @f ( ) { ret i32 1.5 }") ≡ None
+  -- a name has at most 32 bits
+  great_name : reading (codes "define i32 @f ( ) { ret i32 %4294967296 }") ≡ None
+  -- parameters first, then the entry, then the results and blocks in the text's order; `br` and `ret` take none
+  in_order : names_in (codes "define i32 @f ( i32 , i32 ) { add i32 %0 , %1 br label %x x: add i32 1 , 2 ret i32 %4 }")
+      ≡ Some ((Number 0 ∷ Number 1 ∷ Number 2 ∷ Number 3 ∷ Text (codes "x") ∷ Number 4 ∷ []) ∷ [])
+  -- the block behind a terminator needs no label
+  unnamed_block : names_in (codes "define i32 @f ( ) { br label %1 ret i32 0 }") ≡ Some ((Number 0 ∷ Number 1 ∷ []) ∷ [])
+  -- a written number counts on, a smaller one changes nothing, and each function counts from 0
+  written_number : names_in (codes "define i32 @f ( i32 %9 , i32 ) { ret i32 0 } define i32 @g ( i32 %a ) { %3 = add i32 1 , 2 %1 = add i32 1 , 2 add i32 1 , 2 ret i32 0 }")
+      ≡ Some ((Number 9 ∷ Number 10 ∷ Number 11 ∷ []) ∷ (Text (codes "a") ∷ Number 0 ∷ Number 3 ∷ Number 1 ∷ Number 4 ∷ []) ∷ [])
+  -- a number that is only used changes nothing
+  used_number : names_in (codes "define i32 @f ( ) { add i32 %9 , 2 ret i32 0 }") ≡ Some ((Number 0 ∷ Number 1 ∷ []) ∷ [])
+  -- the last number may be written, and then there is no next one
+  last_number : names_in (codes "define i32 @f ( ) { %4294967295 = add i32 1 , 2 ret i32 0 }") ≡ Some ((Number 0 ∷ Number 4294967295 ∷ []) ∷ [])
+  no_next : names_in (codes "define i32 @f ( ) { %4294967295 = add i32 1 , 2 add i32 1 , 2 ret i32 0 }") ≡ None
+
+readings : Readings
+unfolding table local_name global_name label int_type value binary predicates compared compare entry_of_phi phi target branch ret operation_words operation terminator_words terminator block parameter function module_form
+readings = record { whole = refl; numbers = refl; none = refl; operands = refl; no_block = refl; no_terminator = refl; open_block = refl; parameter_comma = refl; only_comma = refl; operand_comma = refl; entry_comma = refl; no_entries = refl; one_target = refl; other_type = refl; fraction = refl; great_name = refl; in_order = refl; unnamed_block = refl; written_number = refl; used_number = refl; last_number = refl; no_next = refl }

@@ -1,0 +1,5 @@
+use Rattle.vplanc.proofs.Refusing.{completes}
+use Rattle.vplanc.proofs.run.run.Goals as goal
+
+pub returns-clause-complete : goal.returns-clause-complete
+returns-clause-complete g c = completes _ _ _ _ _ _ _ _ c.answer-status.ensures.cause c.answer-status.ensures.write

@@ -1,0 +1,165 @@
+-- The answers of the program, with the cause of each, and what it leaves in its sinks.
+use Rattle.std.specs.Prelude.{◌≡◌, ℕ, ◌+◌, ◌<◌, ◌≤◌, ◌⊎◌, List, [], ◌∷◌, ◌++◌, length, take, IfSome, codes}
+use Rattle.std.specs.Fmt.{decimal}
+use Rattle.std.specs.declared.option.Option.{Option}
+use Rattle.std.specs.declared.option.Option.TheVariants.{None, Some}
+use Rattle.vplan_io.specs.Causes.{Rose, longest, and_then}
+use Rattle.vplan_io.specs.declared.LoadFault.{LoadFault}
+use Rattle.vplan_io.specs.declared.LoadFault.TheVariants.{Failed as LoadFailed, TooLong, Memory as LoadMemory}
+use Rattle.text_lex.specs.Layout.{text_of}
+use Rattle.text_lex.specs.declared.fault.TextFault.{TextFault}
+use Rattle.text_lex.specs.declared.fault.TextFault.TheVariants.{TextLimit, NoReading, Memory as TextMemory}
+use Rattle.ir_types.specs.declared.module.Module.{Module}
+use Rattle.ir_types.specs.Denotes.{tree_of}
+use Rattle.ir_types.specs.Reads.{Reads}
+use Rattle.ir_reader.specs.Refusal.{HasNoReading, IsStop}
+use Rattle.ir_printer.specs.Print.{module_pieces}
+use Rattle.vplanc.specs.declared.answer.Which.{Which}
+use Rattle.vplanc.specs.declared.answer.Which.TheVariants.{Module as TheModule, Out}
+use Rattle.vplanc.specs.declared.answer.Status.{Status}
+use Rattle.vplanc.specs.declared.answer.Status.TheVariants.{Done, BadWords, Text, ReadFault, WriteFault, Memory}
+
+-- the exit status
+abbrev pub code_of : Status → ℕ
+code_of Done = 0
+code_of BadWords = 2
+code_of (Text fault) = 3
+code_of (ReadFault which) = 6
+code_of (WriteFault which) = 7
+code_of Memory = 8
+
+-- the answer where the file is not loaded
+abbrev pub load_status : LoadFault → Status
+load_status LoadFailed = ReadFault TheModule
+load_status TooLong = Text (TextLimit (longest + 1))
+load_status LoadMemory = Memory
+
+-- the answer where its text is not read
+abbrev pub text_status : TextFault → Status
+text_status (TextLimit n) = Text (TextLimit n)
+text_status (NoReading place) = Text (NoReading place)
+text_status TextMemory = Memory
+
+abbrev pub name_of : Which → List ℕ
+name_of TheModule = codes "module"
+name_of Out = codes "out"
+
+-- a line of the notes
+abbrev pub line : List ℕ → List ℕ
+line text = codes "vplanc: " ++ text ++ 10 ∷ []
+
+-- the line of an answer
+abbrev pub line_of : Status → List ℕ
+line_of Done = []
+line_of BadWords = line (codes "words")
+line_of (Text (TextLimit n)) = line (codes "text: " ++ decimal n ++ codes " bytes")
+line_of (Text (NoReading place)) = line (codes "text: no reading at " ++ decimal place)
+line_of (Text TextMemory) = line (codes "memory")
+line_of (ReadFault which) = line (codes "read fault: " ++ name_of which)
+line_of (WriteFault which) = line (codes "write fault: " ++ name_of which)
+line_of Memory = line (codes "memory")
+
+-- a text within the limit that reads as a module
+pub record IsAccepted (text : List ℕ) : Type 0 where
+  pub short : length text ≤ longest
+  pub meant : Module
+  pub reads : Reads text meant
+
+-- a text within the limit that reads as no module, and where its reading stops
+pub record IsRefusedAt (text : List ℕ) (place : ℕ) : Type 0 where
+  pub short : length text ≤ longest
+  pub has_none : HasNoReading text
+  pub stop : IsStop text place
+
+-- the module that the file reads as, where the file is told
+abbrev pub IsMeant : Option (List ℕ) → Module → Type 0
+IsMeant told m = IfSome told (λ text. (length text ≤ longest) × Reads text m)
+
+-- what is printed of a file: the text of a module that the file reads as, which reads as that module too
+pub record IsPrinted (told : Option (List ℕ)) (printed : List ℕ) : Type 0 where
+  pub meant : Module
+  pub file_reads : IsMeant told meant
+  pub text_reads : Reads printed meant
+  pub exact : printed ≡ text_of (module_pieces (tree_of meant))
+
+-- The causes of the answers that speak of the file: what is told of it, its count of faults before and now, and the last load's length.
+abbrev pub FileCause : Option (List ℕ) → (before now last : ℕ) → Status → Type 0
+FileCause told before now last (Text (TextLimit n)) = (n ≡ longest + 1) × (last ≡ n) × IfSome told (λ text. longest < length text)
+FileCause told before now last (Text (NoReading place)) = IfSome told (λ text. IsRefusedAt text place)
+FileCause told before now last (Text TextMemory) = ⊥
+FileCause told before now last (ReadFault TheModule) = Rose before now
+FileCause told before now last (ReadFault Out) = ⊥
+FileCause told before now last BadWords = ⊥
+FileCause told before now last Done = IfSome told IsAccepted
+FileCause told before now last (WriteFault which) = IfSome told IsAccepted
+FileCause told before now last Memory = Unit {0}
+
+-- where the words give no command, that is the answer; else the answer has its cause in the file
+abbrev pub Cause : Option (List ℕ) → (List ℕ → Option (List ℕ)) → (before now : List ℕ → ℕ) → (last : ℕ) → Status → Type 0
+Cause None told before now last status = status ≡ BadWords
+Cause (Some file) told before now last status = FileCause (told file) (before file) (now file) last status
+
+-- only `out` has a write fault, and its count of faults rose
+abbrev pub WriteCause : (before now : ℕ) → Status → Type 0
+WriteCause before now (WriteFault TheModule) = ⊥
+WriteCause before now (WriteFault Out) = Rose before now
+WriteCause before now Done = Unit {0}
+WriteCause before now BadWords = Unit {0}
+WriteCause before now (Text fault) = Unit {0}
+WriteCause before now (ReadFault which) = Unit {0}
+WriteCause before now Memory = Unit {0}
+
+-- where nothing stands in the way, the program is done, or memory is short
+abbrev pub FileCompletes : Option (List ℕ) → (file_rose out_rose : Type 0) → Status → Type 0
+FileCompletes told file_rose out_rose status = IfSome told (λ text. IsAccepted text → ¬ file_rose → ¬ out_rose → (status ≡ Done) ⊎ (status ≡ Memory))
+
+abbrev pub Completes : Option (List ℕ) → (List ℕ → Option (List ℕ)) → (file_rose : List ℕ → Type 0) → (out_rose : Type 0) → Status → Type 0
+Completes None told file_rose out_rose status = Unit {0}
+Completes (Some file) told file_rose out_rose status = FileCompletes (told file) (file_rose file) out_rose status
+
+-- the answers that come before `out` has its turn
+abbrev pub IsBeforeOut : Status → Type 0
+IsBeforeOut Done = ⊥
+IsBeforeOut (WriteFault which) = ⊥
+IsBeforeOut BadWords = Unit {0}
+IsBeforeOut (Text fault) = Unit {0}
+IsBeforeOut (ReadFault which) = Unit {0}
+IsBeforeOut Memory = Unit {0}
+
+-- what `out` took of a text
+abbrev pub Delivered : (before now : Option (List ℕ)) → List ℕ → Status → Type 0
+Delivered before now text Done = now ≡ and_then before text
+Delivered before now text (WriteFault Out) = (n : ℕ) × (now ≡ and_then before (take n text))
+Delivered before now text (WriteFault TheModule) = ⊥
+Delivered before now text BadWords = ⊥
+Delivered before now text (Text fault) = ⊥
+Delivered before now text (ReadFault which) = ⊥
+Delivered before now text Memory = ⊥
+
+-- `out` took what is printed of the file
+pub record TookAll (told before now : Option (List ℕ)) : Type 0 where
+  pub printed : List ℕ
+  pub is_printed : IsPrinted told printed
+  pub taken : now ≡ and_then before printed
+
+-- `out` took the front of what is printed of the file
+pub record TookFront (told before now : Option (List ℕ)) : Type 0 where
+  pub printed : List ℕ
+  pub is_printed : IsPrinted told printed
+  pub count : ℕ
+  pub taken : now ≡ and_then before (take count printed)
+
+-- what `out` took before the answer: nothing before its turn, the front of the printed text at its fault, else all of it
+abbrev pub OutHolds : (told before now : Option (List ℕ)) → Status → Type 0
+OutHolds told before now Done = TookAll told before now
+OutHolds told before now (WriteFault Out) = TookFront told before now
+OutHolds told before now (WriteFault TheModule) = ⊥
+OutHolds told before now BadWords = now ≡ before
+OutHolds told before now (Text fault) = now ≡ before
+OutHolds told before now (ReadFault which) = now ≡ before
+OutHolds told before now Memory = now ≡ before
+
+-- the same for any words
+abbrev pub OutLeft : Option (List ℕ) → (List ℕ → Option (List ℕ)) → (before now : Option (List ℕ)) → Status → Type 0
+OutLeft None told before now status = now ≡ before
+OutLeft (Some file) told before now status = OutHolds (told file) before now status

@@ -1,0 +1,155 @@
+// Runs from memory: the status, and what `out` and the notes took.
+
+use crate::answer::Status;
+use crate::run::run;
+use std::alloc::Global;
+use std::process::Abort;
+use std::test::Fail;
+use vplan_io::{Shelf, SureShelf, SureTray, Tray};
+
+const EXAMPLE: &str = "define i32 @f(i32 %0, i1 %1) {
+  br i1 %1, label %3, label %4
+3:
+  br label %4
+4:
+  %5 = phi i32 [ %0, %2 ], [ 7, %3 ]
+  ret i32 %5
+}
+";
+
+const PRINTED: &str = "define i32 @f(i32 %0, i1 %1) {
+2:
+  br i1 %1, label %3, label %4
+
+3:
+  br label %4
+
+4:
+  %5 = phi i32 [ %0, %2 ], [ 7, %3 ]
+  ret i32 %5
+}
+";
+
+fn strings(alloc: Global, words: &[&str]) -> Result<Vec<String>, Fail> {
+    let mut given = Vec::new(alloc);
+    for word in words {
+        given.push(String::from_str(alloc, word)?)?;
+    }
+    Ok(given)
+}
+
+// The shelf with the one file `m`.
+fn shelf(alloc: Global, text: Vec<u8>) -> Result<Shelf, Fail> {
+    let files = vec![in alloc; (String::from_str(alloc, "m")?, text)]?;
+    Ok(Shelf::new(files, Vec::new(alloc)))
+}
+
+// Runs the words where `m` has that text and the listed puts into `out` fail, and compares.
+fn compare(
+    rt: &impl Abort,
+    alloc: Global,
+    words: &[&str],
+    text: Vec<u8>,
+    failing: Vec<u64>,
+    wanted: (u8, &str, &str),
+) -> Result<(), Fail> {
+    let (code, printed, line) = wanted;
+    let given = strings(alloc, words)?;
+    let mut files = shelf(alloc, text)?;
+    let mut out = Tray::with_room(alloc, 1000, failing)?;
+    let mut notes = Tray::with_room(alloc, 100, Vec::new(alloc))?;
+    let status = run(alloc, given.as_slice(), &mut files, &mut out, &mut notes);
+    assert_eq!(rt; status.code(), code);
+    assert_eq!(rt; out.bytes(), printed.as_bytes());
+    assert_eq!(rt; notes.bytes(), line.as_bytes());
+    Ok(())
+}
+
+#[test]
+fn prints_the_example(rt: HostRuntime) -> Result<(), Fail> {
+    let alloc = rt.alloc();
+    let text = Vec::from_slice(alloc, EXAMPLE.as_bytes())?;
+    compare(&rt, alloc, &["m"], text, Vec::new(alloc), (0, PRINTED, ""))?;
+    compare(
+        &rt,
+        alloc,
+        &["m"],
+        Vec::new(alloc),
+        Vec::new(alloc),
+        (0, "", ""),
+    )
+}
+
+#[test]
+fn refuses_a_text(rt: HostRuntime) -> Result<(), Fail> {
+    let alloc = rt.alloc();
+    let text = Vec::from_slice(alloc, b"define i32 @f() {")?;
+    let line = "vplanc: text: no reading at 17\n";
+    compare(&rt, alloc, &["m"], text, Vec::new(alloc), (3, "", line))
+}
+
+#[test]
+fn refuses_a_long_text(rt: HostRuntime) -> Result<(), Fail> {
+    let alloc = rt.alloc();
+    let text = vec![in alloc; b' '; 16_777_217]?;
+    let line = "vplanc: text: 16777217 bytes\n";
+    compare(&rt, alloc, &["m"], text, Vec::new(alloc), (3, "", line))
+}
+
+#[test]
+fn wants_a_file(rt: HostRuntime) -> Result<(), Fail> {
+    let alloc = rt.alloc();
+    let line = "vplanc: read fault: module\n";
+    compare(
+        &rt,
+        alloc,
+        &["n"],
+        Vec::new(alloc),
+        Vec::new(alloc),
+        (6, "", line),
+    )
+}
+
+#[test]
+fn wants_one_word(rt: HostRuntime) -> Result<(), Fail> {
+    let alloc = rt.alloc();
+    let wanted = (2, "", "vplanc: words\n");
+    compare(&rt, alloc, &[], Vec::new(alloc), Vec::new(alloc), wanted)?;
+    compare(
+        &rt,
+        alloc,
+        &["m", "m"],
+        Vec::new(alloc),
+        Vec::new(alloc),
+        wanted,
+    )?;
+    compare(&rt, alloc, &[""], Vec::new(alloc), Vec::new(alloc), wanted)?;
+    compare(
+        &rt,
+        alloc,
+        &["-x"],
+        Vec::new(alloc),
+        Vec::new(alloc),
+        wanted,
+    )
+}
+
+#[test]
+fn names_a_write_fault(rt: HostRuntime) -> Result<(), Fail> {
+    let alloc = rt.alloc();
+    let text = Vec::from_slice(alloc, EXAMPLE.as_bytes())?;
+    let line = "vplanc: write fault: out\n";
+    compare(&rt, alloc, &["m"], text, vec![in alloc; 1]?, (7, "", line))
+}
+
+#[test]
+fn takes_sure_files_and_sinks(rt: HostRuntime) -> Result<(), Fail> {
+    let alloc = rt.alloc();
+    let given = strings(alloc, &["m"])?;
+    let mut files = SureShelf::new(Vec::new(alloc));
+    let mut out = SureTray::new();
+    let mut notes = SureTray::new();
+    let status = run(alloc, given.as_slice(), &mut files, &mut out, &mut notes);
+    assert_eq!(rt; status, Status::Done);
+    Ok(())
+}
