@@ -1,0 +1,12 @@
+pub mod Escapes
+pub mod Names
+pub mod Numbers
+pub mod Sure
+pub mod Written
+pub mod Numbering
+pub mod Says
+pub mod Spelled
+pub mod Laid
+pub mod LaidOut
+pub mod Printed
+pub mod Appended

@@ -1,0 +1,141 @@
+-- What is printed of a name is that name.
+use Rattle.std.proofs.Common.{◌≡◌, ◌<◌, ◌+◌, ◌-◌, ◌*◌, ◌^◌, ℕ, zero, suc, Bool, true, false, eqb, List, [], ◌∷◌, length, Option, Some, cond, refl, ◌∙◌, subst, append_assoc, arith, inl, inr}
+use Rattle.std.specs.Prelude.{nat_lt, decimal}
+use Rattle.std.proofs.lemmas.Bool.{and_parts, eqb-true}
+use Rattle.std.proofs.lemmas.Bool.Decides.{nat_tests}
+use Rattle.std.proofs.lemmas.Option.{cond_some}
+use Rattle.forms.specs.declared.TokenKind.TheVariants.{Local, Global, Label}
+use Rattle.forms.specs.Lexical.{kind_of, is_digit, begins_name}
+use Rattle.text_lex.specs.Names.{is_plain_name, is_digits}
+use Rattle.text_lex.specs.Numbers.{number_behind}
+use Rattle.forms.proofs.Begins.{test}
+use Rattle.text_lex.proofs.Decimals.{decimal_digits, number_of-decimal}
+use Rattle.text_lex.proofs.Printed.{local_named, local_quoted, local_numbered, global_named, global_quoted, global_numbered, label_named, label_quoted, label_numbered}
+use Rattle.ir_types.specs.declared.name.Name.{Name}
+use Rattle.ir_types.specs.declared.name.Name.TheVariants.{Text, Number}
+use Rattle.ir_types.specs.Names.{name_at}
+use Rattle.ir_types.specs.Written.{number_from, number_of, numbered_name, name_of, name_behind, name_before, without_last, unescaped}
+use Rattle.ir_printer.specs.Texts.{escaped, quoted, name_text}
+use Rattle.ir_printer.specs.Print.{local_token, global_token, label_token}
+use Rattle.ir_printer.specs.Printable.{IsName}
+use Rattle.ir_printer.proofs.Escapes.{unescaped-escaped, is_quotable-escaped, without_last-append}
+
+-- ---- a name is read as it was printed
+
+same_number : (n : ℕ) (ds : List ℕ) → number_from n ds ≡ number_behind n ds
+same_number n [] = refl
+same_number n (d ∷ ds) = same_number (n * 10 + (d - 48)) ds
+
+pub number_of_digits : (n : ℕ) → n < 10 ^ 64 → number_of (decimal n) ≡ n
+number_of_digits n lt = same_number 0 (decimal n) ∙ number_of-decimal n lt
+
+numbered_again : (n : ℕ) → n < 2 ^ 32 → numbered_name n ≡ Some (Number n)
+numbered_again n lt = let t : nat_lt n (2 ^ 32) ≡ true = grind (arith, nat_tests) in rw t refl
+
+digit_no_name : (c : ℕ) → is_digit c ≡ true → begins_name c ≡ false
+digit_no_name c h = grind (arith, nat_tests)
+
+digits_named : (ds : List ℕ) → is_digits ds ≡ true → name_of ds ≡ numbered_name (number_of ds)
+digits_named [] h = absurd cc
+digits_named (d ∷ ds) h =
+    let a = and_parts (is_digit d) _ h in
+    let q : eqb d 34 ≡ false = let e = a.0 in grind (arith, nat_tests) in
+    rw (q, a.0) refl
+
+name_no_quote : (c : ℕ) → begins_name c ≡ true → eqb c 34 ≡ false
+name_no_quote c h = elim (test (eqb c 34)) [
+  | inr n ↦ n
+  | inl y ↦ absurd (let e = eqb-true c 34 y in let f : begins_name 34 ≡ true = rw e at h in cc)
+]
+
+name_no_digit : (c : ℕ) → begins_name c ≡ true → is_digit c ≡ false
+name_no_digit c h = elim (test (is_digit c)) [
+  | inr n ↦ n
+  | inl y ↦ absurd (let n = digit_no_name c y in cc)
+]
+
+plain_named : (s : List ℕ) → is_plain_name s ≡ true → name_of s ≡ Some (Text s)
+plain_named [] h = absurd cc
+plain_named (c ∷ cs) h =
+    let a = and_parts (begins_name c) _ h in
+    rw (name_no_quote c a.0, name_no_digit c a.0) refl
+
+quoted_named : (s : List ℕ) → name_of (quoted s) ≡ Some (Text s)
+quoted_named s = rw (without_last-append (escaped s) 34, unescaped-escaped s) refl
+
+pub name_again : (n : Name) → IsName n → name_of (name_text n) ≡ Some n
+unfolding name_text
+name_again (Number n) h = digits_named (decimal n) (decimal_digits n (omega arith)) ∙ rw (number_of_digits n (omega arith)) (numbered_again n h)
+name_again (Text s) h = elim (test (is_plain_name s)) [
+  | inl y ↦ rw y (plain_named s y)
+  | inr n ↦ rw n (quoted_named s)
+]
+
+pub local_again : (n : Name) → IsName n → name_behind (local_token n).text ≡ Some n
+local_again n h = name_again n h
+
+pub global_again : (n : Name) → IsName n → name_behind (global_token n).text ≡ Some n
+global_again n h = name_again n h
+
+pub label_again : (n : Name) → IsName n → name_before (label_token n).text ≡ Some n
+label_again n h = rw (without_last-append (name_text n) 58) (name_again n h)
+
+-- ---- its text is a token
+
+pub local_kind : (n : Name) → IsName n → kind_of (local_token n).text ≡ Some Local
+unfolding name_text
+local_kind (Number n) h = local_numbered (decimal n) (decimal_digits n (omega arith))
+local_kind (Text s) h = elim (test (is_plain_name s)) [
+  | inl y ↦ rw y (local_named s y)
+  | inr n ↦ rw n (local_quoted (escaped s) (is_quotable-escaped s))
+]
+
+pub global_kind : (n : Name) → IsName n → kind_of (global_token n).text ≡ Some Global
+unfolding name_text
+global_kind (Number n) h = global_numbered (decimal n) (decimal_digits n (omega arith))
+global_kind (Text s) h = elim (test (is_plain_name s)) [
+  | inl y ↦ rw y (global_named s y)
+  | inr n ↦ rw n (global_quoted (escaped s) (is_quotable-escaped s))
+]
+
+pub label_kind : (n : Name) → IsName n → kind_of (label_token n).text ≡ Some Label
+unfolding name_text
+label_kind (Number n) h = label_numbered (decimal n) (decimal_digits n (omega arith))
+label_kind (Text s) h = elim (test (is_plain_name s)) [
+  | inl y ↦ rw y (label_named s y)
+  | inr n ↦ rw (n, append_assoc (escaped s) (34 ∷ []) (58 ∷ [])) (label_quoted (escaped s) (is_quotable-escaped s))
+]
+
+-- ---- a name that is read is one
+
+by_test : (b : Bool) (x y : Option Name) (n : Name) → cond b x y ≡ Some n → (x ≡ Some n → IsName n) → (y ≡ Some n → IsName n) → IsName n
+by_test true x y n e f g = f e
+by_test false x y n e f g = g e
+
+is_text : (s : List ℕ) (n : Name) → Some (Text s) ≡ Some n → IsName n
+is_text s (Text t) e = tt
+is_text s (Number k) e = absurd cc
+
+is_number : (k : ℕ) (n : Name) → numbered_name k ≡ Some n → IsName n
+is_number k n e =
+    let c = cond_some (nat_lt k (2 ^ 32)) (Number k) n e in
+    let lt : k < 2 ^ 32 = let t = c.0 in grind (arith, nat_tests) in
+    subst IsName c.1 lt
+
+pub named_is : (s : List ℕ) (n : Name) → name_of s ≡ Some n → IsName n
+named_is [] n e = absurd cc
+named_is (c ∷ cs) n e = by_test (eqb c 34) _ _ n e (is_text (unescaped (without_last cs)) n) (λ f. by_test (is_digit c) _ _ n f (is_number (number_of (c ∷ cs)) n) (is_text (c ∷ cs) n))
+
+pub behind_is : (s : List ℕ) (n : Name) → name_behind s ≡ Some n → IsName n
+behind_is [] n e = absurd cc
+behind_is (c ∷ cs) n e = named_is cs n e
+
+pub before_is : (s : List ℕ) (n : Name) → name_before s ≡ Some n → IsName n
+before_is s n e = named_is (without_last s) n e
+
+-- ---- a name at a place stands in the table
+
+pub within_names : (ns : List Name) (i : ℕ) → IsName (name_at ns i) → i < length ns
+within_names [] i h = absurd (omega arith)
+within_names (n ∷ ns) zero h = omega arith
+within_names (n ∷ ns) (suc i) h = omega (arith, within_names ns i h)

@@ -1,0 +1,87 @@
+-- What holds of every value that a form spells.
+use Rattle.std.proofs.Common.{◌≡◌, ◌<◌, ℕ, List, [], ◌∷◌, length, Option, Some, None, subst, arith, inl, inr}
+use Rattle.std.specs.List.{AllByRecursion}
+use Rattle.forms.specs.declared.TokenKind.{TokenKind}
+use Rattle.forms.specs.declared.TokenKind.TheVariants.{Comma}
+use Rattle.forms.specs.Form.{Lexeme, Form, Spells, one, ahead, pair, either, mapped, made, optional, many, by_word}
+use Rattle.ir_types.specs.Grammar.{word, behind, after_mark, between, marked, some, commas, list, or_none}
+
+pub record Sure {A : Type 0} (f : Form A) (P : A → Type 0) : Type 0 where
+  pub known : (a : A) (ts : List Lexeme) → Spells f a ts → P a
+
+pub one_sure : (k : TokenKind) → Sure (one k) (λ s. Unit {0})
+one_sure k = record { known = λ a ts h. tt }
+
+pub pair_sure : {A B : Type 0} {P : A → Type 0} {Q : B → Type 0} {f : Form A} {g : Form B} → Sure f P → Sure g Q → Sure (pair f g) (λ x. P x.0 × Q x.1)
+pair_sure p q = record { known = λ a ts h. (p.known a.0 h.0 h.3, q.known a.1 h.1 h.4) }
+
+pub either_sure : {A : Type 0} {P : A → Type 0} {f g : Form A} → Sure f P → Sure g P → Sure (either f g) P
+either_sure p q = record { known = λ a ts h. elim h [ inl x ↦ p.known a ts x | inr x ↦ q.known a ts x ] }
+
+pub mapped_sure : {A B : Type 0} {P : A → Type 0} {Q : B → Type 0} {m : A → B} {f : Form A} → Sure f P → ((a : A) → P a → Q (m a)) → Sure (mapped m f) Q
+mapped_sure {A} {B} {P} {Q} p q = record { known = λ b ts h. subst Q h.1 (q h.0 (p.known h.0 ts h.2)) }
+
+pub made_sure : {A B : Type 0} {P : A → Type 0} {Q : B → Type 0} {m : A → Option B} {f : Form A} → Sure f P → ((a : A) (b : B) → P a → m a ≡ Some b → Q b) → Sure (made m f) Q
+made_sure p q = record { known = λ b ts h. q h.0 b (p.known h.0 ts h.2) h.1 }
+
+-- a word's value
+pub word_sure : {A : Type 0} {P : A → Type 0} (w : List ℕ) (a : A) → P a → Sure (word w a) P
+word_sure {A} {P} w a p = record { known = λ b ts h. subst P h.1 p }
+
+pub ahead_sure : {A : Type 0} {P : A → Type 0} {f : Form A} (k : TokenKind) → Sure f P → Sure (ahead k f) (λ x. P x.1)
+ahead_sure k p = record { known = λ a ts h. p.known a.1 h.0 h.2 }
+
+abbrev pub IsThere : {A : Type 0} → (A → Type 0) → Option A → Type 0
+IsThere P None = Unit {0}
+IsThere P (Some a) = P a
+
+if_there : {A : Type 0} {P : A → Type 0} {f : Form A} → Sure f P → (o : Option A) (ts : List Lexeme) → Spells (optional f) o ts → IsThere P o
+if_there p None ts h = tt
+if_there p (Some a) ts h = p.known a ts h
+
+pub optional_sure : {A : Type 0} {P : A → Type 0} {f : Form A} → Sure f P → Sure (optional f) (IsThere P)
+optional_sure p = record { known = if_there p }
+
+pub by_word_sure : {K A : Type 0} {P : A → Type 0} {table : List (List ℕ × K)} {f : K → Form A} → ((k : K) → Sure (f k) P) → Sure (by_word table f) P
+by_word_sure p = record { known = λ a ts h. (p h.1).known a h.2 h.5 }
+
+in_order : {A : Type 0} {P : A → Type 0} {f : Form A} → Sure f P → (items : List A) (ts : List Lexeme) → Spells (many f) items ts → AllByRecursion P items
+in_order p [] ts h = tt
+in_order p (a ∷ more) ts h = (p.known a h.0 h.3, in_order p more h.1 h.4)
+
+pub many_sure : {A : Type 0} {P : A → Type 0} {f : Form A} → Sure f P → Sure (many f) (AllByRecursion P)
+many_sure p = record { known = in_order p }
+
+-- ---- the forms of the grammar
+
+pub behind_sure : {A : Type 0} {P : A → Type 0} {f : Form A} (w : List ℕ) → Sure f P → Sure (behind w f) P
+behind_sure {A} {P} w p = record { known = λ a ts h. subst P h.1 (p.known h.0.1 h.2.1 h.2.4) }
+
+pub after_mark_sure : {A : Type 0} {P : A → Type 0} {f : Form A} (k : TokenKind) → Sure f P → Sure (after_mark k f) P
+after_mark_sure {A} {P} k p = record { known = λ a ts h. subst P h.1 (p.known h.0.1 h.2.1 h.2.4) }
+
+pub between_sure : {A : Type 0} {P : A → Type 0} {f : Form A} (o c : TokenKind) → Sure f P → Sure (between o c f) P
+between_sure {A} {P} o c p = record { known = λ a ts h. subst P h.1 (p.known h.0.1.0 h.2.4.0 h.2.4.3) }
+
+pub marked_sure : {A : Type 0} {P : A → Type 0} {f : Form A} (k : TokenKind) → Sure f P → Sure (marked k f) P
+marked_sure {A} {P} k p = record { known = λ a ts h. subst P h.1 (p.known h.0.1 h.2.0 h.2.2) }
+
+-- at least one, each of which is so
+abbrev pub Filled : {A : Type 0} → (A → Type 0) → List A → Type 0
+Filled P xs = (0 < length xs) × AllByRecursion P xs
+
+filled : {A : Type 0} (P : A → Type 0) (a : A) (more : List A) → P a → AllByRecursion P more → Filled P (a ∷ more)
+filled P a more p q = (omega arith, (p, q))
+
+pub some_sure : {A : Type 0} {P : A → Type 0} {f : Form A} → Sure f P → Sure (some f) (Filled P)
+some_sure {A} {P} p = mapped_sure {Q = Filled P} (pair_sure p (many_sure p)) (λ x h. filled P x.0 x.1 h.0 h.1)
+
+pub commas_sure : {A : Type 0} {P : A → Type 0} {f : Form A} → Sure f P → Sure (commas f) (Filled P)
+commas_sure {A} {P} p = mapped_sure {Q = Filled P} (pair_sure p (many_sure (marked_sure Comma p))) (λ x h. filled P x.0 x.1 h.0 h.1)
+
+all_or_none : {A : Type 0} (P : A → Type 0) (o : Option (List A)) → IsThere (Filled P) o → AllByRecursion P (or_none o)
+all_or_none P None h = tt
+all_or_none P (Some xs) h = h.1
+
+pub list_sure : {A : Type 0} {P : A → Type 0} {f : Form A} → Sure f P → Sure (list f) (AllByRecursion P)
+list_sure {A} {P} p = mapped_sure {Q = AllByRecursion P} (optional_sure (commas_sure p)) (all_or_none P)

@@ -1,0 +1,5 @@
+use Rattle.ir_printer.proofs.Names.{within_names}
+use Rattle.ir_printer.proofs.function.put_block.Goals as goal
+
+pub get-requires : goal.get-requires
+get-requires c = within_names c.args.names.now c.args.block.now.name.0 c.requires.name

@@ -1,0 +1,15 @@
+use Rattle.std.proofs.Common.{arith, ◌∷◌, []}
+use Rattle.ir_types.specs.Denotes.{block_in}
+use Rattle.ir_printer.specs.Print.{line_feed, block_pieces}
+use Rattle.ir_printer.specs.Printable.{IsBlock}
+use Rattle.ir_printer.proofs.Appended.{behind_first, known_from, printed_next, printed_separated}
+use Rattle.ir_printer.proofs.function.put_blocks.Goals as goal
+
+pub loop-block-preserved : goal.loop-block-preserved
+loop-block-preserved c = record {
+  known = (known_from (block_in c.args.names.now) IsBlock (behind_first c.args.blocks.now) c.loop-block.block-index c.block-item.result (omega arith) c.block-item.is c.loop-block.invariant.known).1;
+  printed = printed_next (block_in c.args.names.now) block_pieces (line_feed ∷ []) (behind_first c.args.blocks.now) c.loop-block.block-index c.block-item.result _ _ _ _ (omega arith) c.block-item.is c.in_ok-push.ensures.items c.in_ok-put_block-2.ensures c.loop-block.invariant.printed;
+}
+
+pub returns : goal.returns
+returns c = printed_separated (block_in c.args.names.now) block_pieces (line_feed ∷ []) c.args.blocks.now c.first-item.result c.loop-block.block-index _ _ _ (omega arith) c.first-item.is (omega arith) c.in_ok-put_block.ensures c.loop-block.invariant.printed

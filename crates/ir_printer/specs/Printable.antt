@@ -1,0 +1,98 @@
+-- Which trees some text says.
+use Rattle.std.specs.Prelude.{◌≡◌, ◌<◌, ◌^◌, ℕ, ◌⊎◌, List, [], ◌∷◌, length, map, Option, Some, None}
+use Rattle.std.specs.List.{AllByRecursion}
+use Rattle.ir_types.specs.declared.name.Name.{Name}
+use Rattle.ir_types.specs.declared.name.Name.TheVariants.{Text, Number}
+use Rattle.ir_types.specs.declared.inst.Ty.{Ty}
+use Rattle.ir_types.specs.declared.inst.Ty.TheVariants.{Int, Void}
+use Rattle.ir_types.specs.declared.inst.InstKind.{InstKind}
+use Rattle.ir_types.specs.declared.inst.InstKind.TheVariants.{Binary, Compare, Phi, Jump, Branch, Return}
+use Rattle.ir_types.specs.Grammar.{width_of}
+use Rattle.ir_types.specs.Tree.{OperandTree, local, number, InstTree, BlockTree, ParamTree, FunctionTree, ModuleTree}
+
+-- a number as a name has 32 bits
+abbrev pub IsName : Name → Type 0
+IsName (Text s) = Unit {0}
+IsName (Number n) = n < 2 ^ 32
+
+-- the types that are written
+abbrev pub IsInt : Ty → Type 0
+IsInt (Int w) = (w ≡ 1) ⊎ (w ≡ 32)
+IsInt Void = ⊥
+
+abbrev pub IsOperand : Ty → OperandTree → Type 0
+IsOperand t (local n) = IsName n
+IsOperand t (number v) = v < 2 ^ width_of t
+
+-- the type at which an instruction's operands are written
+abbrev pub operand_type : InstKind → Ty → Ty
+operand_type (Binary op) t = t
+operand_type (Compare p u) t = u
+operand_type Phi t = t
+operand_type Jump t = Int 1
+operand_type Branch t = Int 1
+operand_type (Return u) t = u
+
+-- how many operands and labels an instruction has, and which result's type where it has no choice
+abbrev pub HasShape : InstKind → Ty → ℕ → ℕ → Type 0
+HasShape (Binary op) t args labels = (args ≡ 2) × (labels ≡ 0)
+HasShape (Compare p u) t args labels = (args ≡ 2) × (labels ≡ 0) × (t ≡ Int 1)
+HasShape Phi t args labels = (args ≡ labels) × (0 < args)
+HasShape Jump t args labels = (args ≡ 0) × (labels ≡ 1) × (t ≡ Void)
+HasShape Branch t args labels = (args ≡ 1) × (labels ≡ 2) × (t ≡ Void)
+HasShape (Return u) t args labels = (args ≡ 1) × (labels ≡ 0) × (t ≡ Void)
+
+-- an instruction but for its result's name
+pub record IsBody (i : InstTree) : Type 0 where
+  pub shape : HasShape i.kind i.ty (length i.args) (length i.labels)
+  pub at : IsInt (operand_type i.kind i.ty)
+  pub args : AllByRecursion (IsOperand (operand_type i.kind i.ty)) i.args
+  pub labels : AllByRecursion IsName i.labels
+
+abbrev pub IsNameThere : Option Name → Type 0
+IsNameThere None = Unit {0}
+IsNameThere (Some n) = IsName n
+
+-- what has a type has a name
+abbrev pub IsResult : Ty → Option Name → Type 0
+IsResult (Int w) None = ⊥
+IsResult Void None = Unit {0}
+IsResult t (Some n) = IsName n
+
+pub record IsInst (i : InstTree) : Type 0 where
+  pub body : IsBody i
+  pub result : IsResult i.ty i.result
+
+-- whether it ends a block
+abbrev pub IsTerminator : InstKind → Type 0
+IsTerminator (Binary op) = ⊥
+IsTerminator (Compare p u) = ⊥
+IsTerminator Phi = ⊥
+IsTerminator Jump = Unit {0}
+IsTerminator Branch = Unit {0}
+IsTerminator (Return u) = Unit {0}
+
+-- a terminator is the last instruction, and no other is one
+abbrev pub EndsOnce : List InstKind → Type 0
+EndsOnce [] = ⊥
+EndsOnce (k ∷ []) = IsTerminator k
+EndsOnce (k ∷ l ∷ ks) = (¬ IsTerminator k) × EndsOnce (l ∷ ks)
+
+pub record IsBlock (b : BlockTree) : Type 0 where
+  pub name : IsName b.name
+  pub insts : AllByRecursion IsInst b.insts
+  pub ending : EndsOnce (map (λ i. i.kind) b.insts)
+
+pub record IsParam (p : ParamTree) : Type 0 where
+  pub ty : IsInt p.ty
+  pub name : IsName p.name
+
+pub record IsFunction (f : FunctionTree) : Type 0 where
+  pub name : IsName f.name
+  pub ret : IsInt f.ret
+  pub params : AllByRecursion IsParam f.params
+  pub blocks : AllByRecursion IsBlock f.body
+  pub some : 0 < length f.body
+
+abbrev pub IsModule : ModuleTree → Type 0
+IsModule m = AllByRecursion IsFunction m.functions
