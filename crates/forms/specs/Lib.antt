@@ -1,4 +1,5 @@
 pub mod Lexical
+pub mod Numbers
 pub mod Form
 pub mod Reading
 pub mod View

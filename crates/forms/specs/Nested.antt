@@ -1,10 +1,10 @@
 -- Types nested to any depth, as their nodes in prefix order.
 use Rattle.std.specs.Prelude.{◌≡◌, ℕ, zero, suc, Bool, true, false, List, [], ◌∷◌, ◌++◌}
-use Rattle.forms.specs.declared.TokenKind.{TokenKind}
 use Rattle.forms.specs.declared.TokenKind.TheVariants.{Comma, RightBracket, LeftBrace, RightBrace, Less, Greater}
 use Rattle.forms.specs.declared.Around.{Around}
 use Rattle.forms.specs.declared.Around.TheVariants.{InArray, InStruct}
-use Rattle.forms.specs.Form.{Lexeme, Form, one, ahead, pair, either, mapped, many, Spells}
+use Rattle.forms.specs.Form.{Lexeme, Form, ahead, pair, either, mapped, many, Spells}
+pub use Rattle.forms.specs.Gives.{mark}
 use Rattle.forms.specs.Reading.{Terminal, any_of, mark_then, nullable, first, after, decides, all_apart}
 
 -- what a language chooses: its nodes N are such that the list of a type's nodes determines the type
@@ -21,10 +21,6 @@ pub record TypeParts (N : Type 0) : Type 1 where
 abbrev pub concat : {A : Type 0} → List (List A) → List A
 concat [] = []
 concat (x ∷ xs) = x ++ concat xs
-
--- a token of this kind
-abbrev pub mark : TokenKind → Form (Unit {0})
-mark k = mapped (λ _. tt) (one k)
 
 -- a form behind a comma
 abbrev pub comma_then : {A : Type 0} → Form A → Form A

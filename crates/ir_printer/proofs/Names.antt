@@ -1,5 +1,5 @@
 -- What is printed of a name is that name.
-use Rattle.std.proofs.Common.{◌≡◌, ◌<◌, ◌+◌, ◌-◌, ◌*◌, ◌^◌, ℕ, zero, suc, Bool, true, false, eqb, List, [], ◌∷◌, length, Option, Some, cond, refl, ◌∙◌, subst, append_assoc, arith, inl, inr}
+use Rattle.std.proofs.Common.{◌≡◌, ◌<◌, ◌^◌, ℕ, zero, suc, Bool, true, false, eqb, List, [], ◌∷◌, length, Option, Some, cond, refl, ◌∙◌, subst, append_assoc, arith, inl, inr}
 use Rattle.std.specs.Prelude.{nat_lt, decimal}
 use Rattle.std.proofs.lemmas.Bool.{and_parts, eqb-true}
 use Rattle.std.proofs.lemmas.Bool.Decides.{nat_tests}
@@ -7,27 +7,19 @@ use Rattle.std.proofs.lemmas.Option.{cond_some}
 use Rattle.forms.specs.declared.TokenKind.TheVariants.{Local, Global, Label}
 use Rattle.forms.specs.Lexical.{kind_of, is_digit, begins_name}
 use Rattle.text_lex.specs.Names.{is_plain_name, is_digits}
-use Rattle.text_lex.specs.Numbers.{number_behind}
 use Rattle.forms.proofs.Begins.{test}
 use Rattle.text_lex.proofs.Decimals.{decimal_digits, number_of-decimal}
 use Rattle.text_lex.proofs.Printed.{local_named, local_quoted, local_numbered, global_named, global_quoted, global_numbered, label_named, label_quoted, label_numbered}
 use Rattle.ir_types.specs.declared.name.Name.{Name}
 use Rattle.ir_types.specs.declared.name.Name.TheVariants.{Text, Number}
 use Rattle.ir_types.specs.Names.{name_at}
-use Rattle.ir_types.specs.Written.{number_from, number_of, numbered_name, name_of, name_behind, name_before, without_last, unescaped}
+use Rattle.ir_types.specs.Written.{number_of, numbered_name, name_of, name_behind, name_before, without_last, unescaped}
 use Rattle.ir_printer.specs.Texts.{escaped, quoted, name_text}
 use Rattle.ir_printer.specs.Print.{local_token, global_token, label_token}
 use Rattle.ir_printer.specs.Printable.{IsName}
 use Rattle.ir_printer.proofs.Escapes.{unescaped-escaped, is_quotable-escaped, without_last-append}
 
 -- ---- a name is read as it was printed
-
-same_number : (n : ℕ) (ds : List ℕ) → number_from n ds ≡ number_behind n ds
-same_number n [] = refl
-same_number n (d ∷ ds) = same_number (n * 10 + (d - 48)) ds
-
-pub number_of_digits : (n : ℕ) → n < 10 ^ 64 → number_of (decimal n) ≡ n
-number_of_digits n lt = same_number 0 (decimal n) ∙ number_of-decimal n lt
 
 numbered_again : (n : ℕ) → n < 2 ^ 32 → numbered_name n ≡ Some (Number n)
 numbered_again n lt = let t : nat_lt n (2 ^ 32) ≡ true = grind (arith, nat_tests) in rw t refl
@@ -65,7 +57,7 @@ quoted_named s = rw (without_last-append (escaped s) 34, unescaped-escaped s) re
 
 pub name_again : (n : Name) → IsName n → name_of (name_text n) ≡ Some n
 unfolding name_text
-name_again (Number n) h = digits_named (decimal n) (decimal_digits n (omega arith)) ∙ rw (number_of_digits n (omega arith)) (numbered_again n h)
+name_again (Number n) h = digits_named (decimal n) (decimal_digits n (omega arith)) ∙ rw (number_of-decimal n (omega arith)) (numbered_again n h)
 name_again (Text s) h = elim (test (is_plain_name s)) [
   | inl y ↦ rw y (plain_named s y)
   | inr n ↦ rw n (quoted_named s)

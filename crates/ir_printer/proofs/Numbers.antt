@@ -11,7 +11,7 @@ use Rattle.text_lex.proofs.Decimals.{decimal_digits}
 use Rattle.text_lex.proofs.Printed.{number_digits, number_negative}
 use Rattle.ir_types.specs.Written.{number_of, number_at}
 use Rattle.ir_printer.specs.Texts.{signed_text}
-use Rattle.ir_printer.proofs.Names.{number_of_digits}
+use Rattle.text_lex.proofs.Decimals.{number_of-decimal}
 
 digits_at : (w : ℕ) (ds : List ℕ) → is_digits ds ≡ true → number_at w ds ≡ number_of ds % 2 ^ w
 digits_at w [] h = absurd cc
@@ -24,10 +24,10 @@ digits_at w (d ∷ ds) h =
 pub signed_again : (v : ℕ) → v < 2 ^ 32 → number_at 32 (signed_text 32 v) ≡ v
 unfolding signed_text
 signed_again v lt = elim (test (nat_lt v (2 ^ 31))) [
-  | inl y ↦ rw y (digits_at 32 (decimal v) (decimal_digits v (omega arith)) ∙ rw (number_of_digits v (omega arith)) (omega arith))
+  | inl y ↦ rw y (digits_at 32 (decimal v) (decimal_digits v (omega arith)) ∙ rw (number_of-decimal v (omega arith)) (omega arith))
   | inr n ↦
       let ge : 2 ^ 31 ≤ v = grind (arith, nat_tests) in
-      let d = number_of_digits (2 ^ 32 - v) (omega arith) in
+      let d = number_of-decimal (2 ^ 32 - v) (omega arith) in
       rw (n, d) (omega arith)
 ]
 

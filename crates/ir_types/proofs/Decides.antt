@@ -1,5 +1,5 @@
 -- One token ahead decides what the grammar reads; where a comma or a name with `=` leads, what stands behind it.
-use Rattle.std.proofs.Common.{◌≡◌, Bool, true, false, refl}
+use Rattle.std.proofs.Common.{◌≡◌, true, false, refl}
 use Rattle.forms.specs.Reading.{decides, nullable}
 use Rattle.ir_types.specs.Grammar.{local_name, global_name, label, int_type, value, binary, predicates, compared, compare, entry_of_phi, phi, target, branch, ret, operation_words, operation, terminator_words, terminator, line, block, parameter, function, module_form}
 

@@ -1,5 +1,5 @@
 -- Which tree a module denotes: each position replaced by what it names.
-use Rattle.std.specs.Prelude.{◌≡◌, ℕ, List, map, Option}
+use Rattle.std.specs.Prelude.{◌≡◌, List, map}
 use Rattle.std.specs.Option.{option_map}
 use Rattle.std.specs.List.{AllByRecursion}
 use Rattle.ir_types.specs.declared.name.Name.{Name}

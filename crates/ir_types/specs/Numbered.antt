@@ -1,5 +1,5 @@
 -- Things without a name take numbers: parameters first, then the blocks in the text's order, each before its results.
-use Rattle.std.specs.Prelude.{ℕ, ◌+◌, ◌^◌, max, nat_lt, List, Option, Some, None, if◌then◌else◌}
+use Rattle.std.specs.Prelude.{ℕ, ◌+◌, ◌^◌, max, nat_lt, Option, Some, None, if◌then◌else◌}
 use Rattle.forms.specs.Reading.{◌>>=◌}
 use Rattle.forms.specs.Walk.{walk}
 use Rattle.ir_types.specs.declared.name.Name.{Name}

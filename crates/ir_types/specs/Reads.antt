@@ -1,5 +1,5 @@
 -- Which module a text reads as.
-use Rattle.std.specs.Prelude.{◌≡◌, ℕ, List, Option, Some}
+use Rattle.std.specs.Prelude.{◌≡◌, ℕ, List, Some}
 use Rattle.forms.specs.Form.{Lexeme, Spells}
 use Rattle.forms.specs.Lexical.{Lexes}
 use Rattle.ir_types.specs.declared.module.Module.{Module}

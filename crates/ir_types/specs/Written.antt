@@ -1,19 +1,11 @@
 -- What the bytes of names and numbers stand for.
-use Rattle.std.specs.Prelude.{ℕ, zero, suc, ◌+◌, ◌*◌, ◌-◌, ◌%◌, ◌^◌, Bool, true, false, ◌&&◌, ◌==◌, nat_lt, List, [], ◌∷◌, Option, Some, None, if◌then◌else◌}
+use Rattle.std.specs.Prelude.{ℕ, zero, suc, ◌+◌, ◌*◌, ◌-◌, ◌%◌, ◌^◌, ◌&&◌, ◌==◌, nat_lt, List, [], ◌∷◌, Option, Some, None, if◌then◌else◌}
 use Rattle.ir_types.specs.declared.name.Name.{Name}
 use Rattle.ir_types.specs.declared.name.Name.TheVariants.{Text, Number}
 use Rattle.forms.specs.Lexical.{is_digit, is_hex}
+pub use Rattle.forms.specs.Numbers.{number_from, number_of}
 
 -- ---- numbers
-
--- the number that further digits make of one
-abbrev pub number_from : ℕ → List ℕ → ℕ
-number_from n [] = n
-number_from n (d ∷ ds) = number_from (n * 10 + (d - 48)) ds
-
--- the number that decimal digits stand for
-abbrev pub number_of : List ℕ → ℕ
-number_of ds = number_from 0 ds
 
 -- minus n, modulo 2^w
 abbrev pub negated : ℕ → ℕ → ℕ

@@ -7,11 +7,11 @@ use Rattle.std.specs.Fmt.{decimal}
 use Rattle.forms.specs.Lexical.{is_digit}
 use Rattle.text_lex.specs.Neighbours.{all_of}
 use Rattle.text_lex.specs.Names.{all_digits, is_digits}
-use Rattle.text_lex.specs.Numbers.{number_behind, number_of}
+use Rattle.forms.specs.Numbers.{number_from, number_of}
 
-number_behind-append : (n d : ℕ) (ds : List ℕ) → number_behind n (ds ++ d ∷ []) ≡ number_behind n ds * 10 + (d - 48)
-number_behind-append n d [] = refl
-number_behind-append n d (c ∷ ds) = number_behind-append (n * 10 + (c - 48)) d ds
+number_from-append : (n d : ℕ) (ds : List ℕ) → number_from n (ds ++ d ∷ []) ≡ number_from n ds * 10 + (d - 48)
+number_from-append n d [] = refl
+number_from-append n d (c ∷ ds) = number_from-append (n * 10 + (c - 48)) d ds
 
 all_digits-append : (d : ℕ) (ds : List ℕ) → all_digits ds ≡ true → is_digit d ≡ true → all_digits (ds ++ d ∷ []) ≡ true
 all_digits-append d [] h e = and_from (is_digit d) true e refl
@@ -39,7 +39,7 @@ one n lt = record { digits = and_from (is_digit (48 + n)) true (digit_is n lt) r
 more : (n : ℕ) (ds : List ℕ) → 10 ≤ n → Writes (n / 10) ds → Writes n (ds ++ ((48 + n % 10) ∷ []))
 more n ds le w = record {
   digits = is_digits-append (48 + n % 10) ds w.digits (digit_is (n % 10) (omega arith));
-  value = number_behind-append 0 (48 + n % 10) ds ∙ (let v = w.value in omega arith);
+  value = number_from-append 0 (48 + n % 10) ds ∙ (let v = w.value in omega arith);
 }
 
 written : (n : ℕ) → n < 10 ^ 64 → Writes n (decimal n)

@@ -4,4 +4,3 @@ pub mod Spelling
 pub mod Fault
 pub mod Layout
 pub mod Names
-pub mod Numbers
