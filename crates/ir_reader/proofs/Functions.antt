@@ -1,9 +1,11 @@
 -- The parts of a function, read one behind the other.
-use Rattle.std.proofs.Common.{◌≡◌, ℕ, Bool, true, false, cond, List, [], ◌∷◌, ◌++◌, Option, Some, None, refl, sym, ap, ◌∙◌}
+use Rattle.std.proofs.Common.{◌≡◌, ℕ, Bool, true, false, cond, ◌||◌, List, [], ◌∷◌, ◌++◌, Option, Some, None, refl, sym, ap, ◌∙◌}
 use Rattle.forms.specs.Form.{Lexeme}
-use Rattle.forms.specs.Reading.{◌>>=◌, opens, read}
+use Rattle.forms.specs.declared.TokenKind.TheVariants.{Label}
+use Rattle.forms.specs.Reading.{◌>>=◌, opens, read, any_of, next_in, fits, first}
 use Rattle.ir_types.specs.Tree.{WrittenParam}
-use Rattle.ir_types.specs.Grammar.{parameter, int_type, commas, list, or_none}
+use Rattle.ir_reader.proofs.Lines.{fits_append, or_nothing}
+use Rattle.ir_types.specs.Grammar.{parameter, int_type, commas, list, or_none, block, label, line, operation, terminator}
 
 abbrev Params : Type 0
 Params = Option (List WrittenParam × List Lexeme)
@@ -27,3 +29,11 @@ list_some ts e = ap (λ (b : Bool). all_of (cond b (some_of (read (commas parame
 pub list_none : (ts : List Lexeme) → opens parameter ts ≡ false → read (list parameter) ts ≡ Some ([], ts)
 unfolding parameter int_type
 list_none ts e = ap (λ (b : Bool). all_of (cond b (some_of (read (commas parameter) ts)) (Some (None, ts)))) e
+
+-- with which tokens a block begins
+pub block_begins : (ts : List Lexeme) → opens block ts ≡ (next_in (any_of Label ∷ []) ts || (opens (line operation) ts || opens (line terminator) ts))
+unfolding block label
+block_begins [] = refl
+block_begins (t ∷ ts) =
+    ap (λ (b : Bool). fits (t ∷ ts) (any_of Label) || b) (fits_append (t ∷ ts) (first (line operation)) (first (line terminator)))
+    ∙ ap (λ (b : Bool). b || (opens (line operation) (t ∷ ts) || opens (line terminator) (t ∷ ts))) (sym (or_nothing (fits (t ∷ ts) (any_of Label))))

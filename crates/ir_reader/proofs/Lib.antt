@@ -6,3 +6,4 @@ pub mod Threads
 pub mod Parts
 pub mod Starts
 pub mod Functions
+pub mod Bodies

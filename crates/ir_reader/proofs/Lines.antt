@@ -124,7 +124,7 @@ pub last_next : (t : Lexeme) (ts : List Lexeme) → opens (form_at Last) (t ∷ 
 unfolding terminator
 last_next t ts = word_next terminator_words t ts
 
-fits_append : (ts : List Lexeme) (a b : List Terminal) → fits_one ts (a ++ b) ≡ (fits_one ts a || fits_one ts b)
+pub fits_append : (ts : List Lexeme) (a b : List Terminal) → fits_one ts (a ++ b) ≡ (fits_one ts a || fits_one ts b)
 fits_append ts [] b = refl
 fits_append ts (s ∷ a) b = ap (λ (x : Bool). fits ts s || x) (fits_append ts a b) ∙ assoc (fits ts s) (fits_one ts a) (fits_one ts b)
   where
@@ -132,7 +132,7 @@ fits_append ts (s ∷ a) b = ap (λ (x : Bool). fits ts s || x) (fits_append ts 
     assoc true y z = refl
     assoc false y z = refl
 
-or_nothing : (x : Bool) → (x || false) ≡ x
+pub or_nothing : (x : Bool) → (x || false) ≡ x
 or_nothing true = refl
 or_nothing false = refl
 

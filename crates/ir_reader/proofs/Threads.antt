@@ -62,6 +62,20 @@ pub completed_alike : {A B R : Type 0} (f g : A → Option B) (r : Option (A × 
 completed_alike f g None h = refl
 completed_alike f g (Some x) h = ap (λ (o : Option _). o >>= λ b. Some (b, x.1)) (h x.0)
 
+abbrev pub mapped_some : {P Q : Type 0} → (P → Q) → Option P → Option Q
+mapped_some h o = o >>= λ x. Some (h x)
+
+abbrev pub mapped_first : {P Q R : Type 0} → (P → Q) → Option (P × R) → Option (Q × R)
+mapped_first h o = o >>= λ x. Some (h x.0, x.1)
+
+pub completed_some_of : {A P Q R : Type 0} (f : A → Option P) (h : P → Q) (r : Option (A × R)) → completed (λ a. mapped_some h (f a)) r ≡ mapped_first h (completed f r)
+completed_some_of f h None = refl
+completed_some_of {A} {P} {Q} {R} f h (Some x) = by (f x.0)
+  where
+    by : (o : Option P) → (mapped_some h o >>= λ b. Some (b, x.1)) ≡ mapped_first h (o >>= λ b. Some (b, x.1))
+    by None = refl
+    by (Some y) = refl
+
 -- a function of what was completed
 pub completed_then : {A B C T R : Type 0} (f : A → Option (B × T)) (h : B → C) (r : Option (A × R)) → completed (λ a. renamed h (f a)) r ≡ renamed_before h (completed f r)
 completed_then f h None = refl

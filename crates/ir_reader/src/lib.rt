@@ -3,6 +3,7 @@
 
 mod block;
 mod entries;
+mod function;
 mod inst;
 mod line;
 mod names;

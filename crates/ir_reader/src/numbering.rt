@@ -13,6 +13,7 @@ use forms::{Cursor, SyntaxFault};
 use ir_types::{Name, Names, Ty, ValueId};
 
 /// How far a function's numbers are taken: the next one, 2^32 where none is left.
+#[derive(Drop)]
 pub struct Numbering {
     pub next: u64,
     ghost within: { next ≤ 2 ^ 32 },
