@@ -76,3 +76,41 @@ body_is t n ts =
     by : (o : Option ((List ParamTree × ℕ) × List Lexeme)) → (o >>= λ p. finished t n p.0.0 (between_read LeftBrace RightBrace (walk numbered_block p.0.1) (read (some block)) p.1)) ≡ mapped_first (ended t n) (o >>= λ p. put_beside p.0.0 (completed (walk numbered_block p.0.1) (read in_braces p.1)))
     by None = refl
     by (Some p) = ap (finished t n p.0.0) (between_is LeftBrace RightBrace (walk numbered_block p.0.1) (some block) p.1) ∙ finished_is t n p.0.0 (completed (walk numbered_block p.0.1) (read in_braces p.1))
+
+-- ---- the head
+
+abbrev Bodies : Type 0
+Bodies = Option (Written × List Lexeme)
+
+abbrev after_name : Name → Bodies → Option ((Name × Written) × List Lexeme)
+after_name n o = o >>= λ y. Some ((n, y.0), y.1)
+
+abbrev after_type : Ty → Option ((Name × Written) × List Lexeme) → Option ((Ty × (Name × Written)) × List Lexeme)
+after_type t o = o >>= λ y. Some ((t, y.0), y.1)
+
+abbrev after_word : Unit {0} → Option ((Ty × (Name × Written)) × List Lexeme) → Option ((Unit {0} × (Ty × (Name × Written))) × List Lexeme)
+after_word u o = o >>= λ y. Some ((u, y.0), y.1)
+
+abbrev without_word : Option ((Unit {0} × (Ty × (Name × Written))) × List Lexeme) → Option ((Ty × (Name × Written)) × List Lexeme)
+without_word o = o >>= λ x. Some (x.0.1, x.1)
+
+abbrev as_function : Option ((Unit {0} × (Ty × (Name × Written))) × List Lexeme) → Option (WrittenFunction × List Lexeme)
+as_function o = without_word o >>= λ x. Some (function_tree x.0, x.1)
+
+headed : (u : Unit {0}) (t : Ty) (n : Name) (o : Bodies) → completed (λ x. numbered_function tt (function_tree (t, (n, x)))) o ≡ completed (numbered_function tt) (as_function (after_word u (after_type t (after_name n o))))
+headed u t n None = refl
+headed u t n (Some x) = refl
+
+pub function_is : (ts : List Lexeme) → function_read ts ≡ completed (numbered_function tt) (read function ts)
+unfolding function
+function_is ts = by_word (read (exactly Word (codes "define")) ts)
+  where
+    by_name : (u : Unit {0}) (t : Ty) (o : Option (Name × List Lexeme)) → (o >>= λ g. body_read t g.0 g.1) ≡ completed (numbered_function tt) (as_function (after_word u (after_type t (o >>= λ g. after_name g.0 (read (pair in_parens in_braces) g.1)))))
+    by_name u t None = refl
+    by_name u t (Some g) = body_is t g.0 g.1 ∙ headed u t g.0 (read (pair in_parens in_braces) g.1)
+    by_type : (u : Unit {0}) (o : Option (Ty × List Lexeme)) → (o >>= λ t. read global_name t.1 >>= λ g. body_read t.0 g.0 g.1) ≡ completed (numbered_function tt) (as_function (after_word u (o >>= λ t. after_type t.0 (read global_name t.1 >>= λ g. after_name g.0 (read (pair in_parens in_braces) g.1)))))
+    by_type u None = refl
+    by_type u (Some t) = by_name u t.0 (read global_name t.1)
+    by_word : (o : Option (Unit {0} × List Lexeme)) → (o >>= λ d. read int_type d.1 >>= λ t. read global_name t.1 >>= λ g. body_read t.0 g.0 g.1) ≡ completed (numbered_function tt) (as_function (o >>= λ d. after_word d.0 (read int_type d.1 >>= λ t. after_type t.0 (read global_name t.1 >>= λ g. after_name g.0 (read (pair in_parens in_braces) g.1)))))
+    by_word None = refl
+    by_word (Some d) = by_type d.0 (read int_type d.1)

@@ -1,6 +1,7 @@
 // Functions, and the modules that they make.
 
 ghost use Rattle.std.specs.Prelude.{◌≡◌, [], ℕ, List, map, IfOk};
+ghost use Rattle.std.specs.List.{AllByRecursion};
 ghost use Rattle.forms.specs.View.{Extends};
 ghost use Rattle.forms.specs.declared.TokenKind.TheVariants.{LeftParen, RightParen, LeftBrace, RightBrace};
 ghost use Rattle.forms.specs.Form.{many};
@@ -132,4 +133,37 @@ fn function<'t>(
     ensures table { IfOk result (λ x. IsTable x.0.names) }
 {
     parts(alloc, tokens)
+}
+
+/// Whether a function stands next.
+#[tactic(auto, unfolding(ir_types::specs::Grammar::function))]
+fn begins_function(tokens: Cursor<'_>) -> bool
+    ensures { result ≡ opens function (left tokens.entry) }
+{
+    tokens.behind_word(b"define").is_some()
+}
+
+/// No functions, before the tokens. (A loop whose rest begins as a parameter isn't covered.)
+fn no_functions<'t>(alloc: Global, tokens: Cursor<'t>) -> (Vec<Function>, Cursor<'t>)
+    ensures functions { result.0.items ≡ [] }
+    ensures rest { result.1 ≡ tokens.entry }
+{
+    (Vec::new(alloc), tokens)
+}
+
+/// The functions, up to what begins none.
+pub fn functions<'t>(
+    alloc: Global,
+    tokens: Cursor<'t>,
+) -> Result<(Vec<Function>, Cursor<'t>), SyntaxFault>
+    ensures reads { Gives (λ x. ((map tree_of_function x.0.items, tt), left x.1)) result (completed (walk numbered_function tt) (read (many function) (left tokens.entry))) }
+    ensures tables { IfOk result (λ x. AllByRecursion (λ f. IsTable f.names) x.0.items) }
+{
+    let (mut functions, mut rest) = no_functions(alloc, tokens);
+    'more: while begins_function(rest) {
+        let (next, after) = function(alloc, rest)?;
+        functions.push(next)?;
+        rest = after;
+    }
+    Ok((functions, rest))
 }
