@@ -13,11 +13,15 @@ use Rattle.ir_types.specs.Reads.{Reads}
 abbrev pub HasNoReading : List ℕ → Type 0
 HasNoReading text = (m : Module) → Reads text m → ⊥
 
+-- one of the tokens starts at this place
+abbrev pub StartsAt : List Token → ℕ → Type 0
+StartsAt tokens place = (i : ℕ) × (t : Token) × (slice_get tokens i ≡ Some t) × (t.start ≡ place)
+
 -- a token of the text starts at this place
 pub record StartsToken (text : List ℕ) (place : ℕ) : Type 0 where
   pub tokens : List Token
   pub placed : Places (length text) text tokens []
-  pub starts : (i : ℕ) × (t : Token) × (slice_get tokens i ≡ Some t) × (t.start ≡ place)
+  pub starts : StartsAt tokens place
 
 -- a token's start, the text's end, or the first place where no token begins
 abbrev pub IsStop : List ℕ → ℕ → Type 0

@@ -1,5 +1,17 @@
-//! Reads a module from a text, exactly as the grammar says.
+//! Reads a module from a text, exactly as the grammar says: from left to right, with one place in the tokens.
 #![tactic(auto)]
+
+ghost use Rattle.std.specs.Prelude.{◌≡◌, ◌≤◌, ◌<◌, ◌⊎◌, ℕ, length, slice_get, Some, IfOk, OnOk, IfErr};
+ghost use Rattle.std.specs.List.{AllByRecursion};
+ghost use Rattle.forms.specs.declared.Token.{Token};
+ghost use Rattle.forms.specs.Reading.{◌>>=◌, read_whole};
+ghost use Rattle.forms.specs.Gives.{Gives, left};
+ghost use Rattle.ir_types.specs.Names.{IsTable};
+ghost use Rattle.ir_types.specs.Denotes.{tree_of};
+ghost use Rattle.ir_types.specs.Grammar.{module_form};
+ghost use Rattle.ir_types.specs.Numbered.{numbered_module};
+ghost use Rattle.ir_types.specs.Reads.{Reads};
+ghost use Rattle.ir_reader.specs.Refusal.{IsRefusal, StartsAt};
 
 mod block;
 mod entries;
@@ -12,3 +24,60 @@ mod numbers;
 mod param;
 mod value;
 mod words;
+
+use crate::function::functions;
+use forms::{Cursor, SyntaxFault, Token};
+use ir_types::Module;
+use lists::Items;
+use std::alloc::Global;
+use text_lex::{TEXT_LIMIT, TextFault, lex};
+
+/// The module that all of the tokens spell.
+fn module_of(alloc: Global, tokens: Cursor<'_>) -> Result<Module, SyntaxFault>
+    ensures says { Gives tree_of result (read_whole module_form (left tokens.entry) >>= numbered_module) }
+    ensures tables { IfOk result (λ m. AllByRecursion (λ f. IsTable f.names) m.functions) }
+{
+    let (functions, rest) = functions(alloc, tokens)?;
+    if rest.rest.is_empty() {
+        Ok(Module {
+            functions: Items::from_vec(functions),
+        })
+    } else {
+        Err(rest.refusal())
+    }
+}
+
+/// The place, where a token starts there, and else the end.
+fn stop(tokens: &[Token], place: u32, end: u32) -> u32
+    ensures { StartsAt tokens.now result ⊎ (result ≡ end) }
+{
+    for token in tokens {
+        if token.start == place {
+            return place;
+        }
+    }
+    end
+}
+
+/// The module that the text reads as. The place of `NoReading` is that of the first token at which reading from left to right
+/// stops, or the text's length; where no token begins somewhere, it is the first such place.
+pub fn read_module(alloc: Global, text: &[u8]) -> Result<Module, TextFault>
+    ensures module { IfOk result (λ m. Reads text.now m) }
+    ensures within { OnOk result (length text.now ≤ TEXT_LIMIT) }
+    ensures too_long { TEXT_LIMIT < length text.now → result ≡ Err (TextFault.TextLimit (length text.now)) }
+    ensures fault { IfErr result (IsRefusal text.now) }
+{
+    let tokens = lex(alloc, text)?;
+    let cursor = Cursor {
+        text,
+        rest: tokens.as_slice(),
+    };
+    match module_of(alloc, cursor) {
+        Ok(module) => Ok(module),
+        Err(SyntaxFault::NoReading(place)) => {
+            let end = text.len() as u32;
+            Err(TextFault::NoReading(stop(tokens.as_slice(), place, end)))
+        }
+        Err(SyntaxFault::Memory) => Err(TextFault::Memory),
+    }
+}
