@@ -7,3 +7,5 @@ pub mod Parts
 pub mod Starts
 pub mod Functions
 pub mod Bodies
+pub mod Whole
+pub mod Exact

@@ -2,16 +2,16 @@
 use Rattle.std.specs.Prelude.{ℕ, List, map, codes, Option, Some}
 use Rattle.forms.specs.declared.TokenKind.TheVariants.{Word, LeftParen, RightParen, LeftBrace, RightBrace}
 use Rattle.forms.specs.Form.{Lexeme, exactly}
-use Rattle.forms.specs.Reading.{◌>>=◌, read}
+use Rattle.forms.specs.Reading.{◌>>=◌, read, read_whole}
 use Rattle.forms.specs.Walk.{walk}
 use Rattle.ir_types.specs.declared.name.Name.{Name}
 use Rattle.ir_types.specs.declared.inst.Ty.{Ty}
 use Rattle.ir_types.specs.declared.module.Param.{Param}
 use Rattle.ir_types.specs.declared.module.Block.{Block}
-use Rattle.ir_types.specs.Tree.{ParamTree, BlockTree, FunctionTree}
+use Rattle.ir_types.specs.Tree.{ParamTree, BlockTree, FunctionTree, ModuleTree}
 use Rattle.ir_types.specs.Denotes.{param_in, block_in}
-use Rattle.ir_types.specs.Grammar.{int_type, global_name, parameter, list, some, block}
-use Rattle.ir_types.specs.Numbered.{numbered_param, numbered_block}
+use Rattle.ir_types.specs.Grammar.{int_type, global_name, parameter, list, some, block, module_form}
+use Rattle.ir_types.specs.Numbered.{numbered_param, numbered_block, numbered_module}
 use Rattle.ir_reader.specs.Threads.{between_read}
 
 abbrev pub params_in : List Name → List Param → List ParamTree
@@ -37,3 +37,7 @@ function_read ts =
     read int_type d.1 >>= λ t.
     read global_name t.1 >>= λ g.
     body_read t.0 g.0 g.1
+
+-- the module that the tokens spell, numbered
+abbrev pub module_read : List Lexeme → Option ModuleTree
+module_read ts = read_whole module_form ts >>= numbered_module

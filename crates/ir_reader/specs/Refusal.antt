@@ -17,15 +17,15 @@ HasNoReading text = (m : Module) → Reads text m → ⊥
 abbrev pub StartsAt : List Token → ℕ → Type 0
 StartsAt tokens place = (i : ℕ) × (t : Token) × (slice_get tokens i ≡ Some t) × (t.start ≡ place)
 
--- a token of the text starts at this place
-pub record StartsToken (text : List ℕ) (place : ℕ) : Type 0 where
+-- the text has tokens, and the place is a token's start or the text's length
+pub record IsPlace (text : List ℕ) (place : ℕ) : Type 0 where
   pub tokens : List Token
   pub placed : Places (length text) text tokens []
-  pub starts : StartsAt tokens place
+  pub here : StartsAt tokens place ⊎ (place ≡ length text)
 
--- a token's start, the text's end, or the first place where no token begins
+-- where reading stops: at such a place, or where no token begins, in a text that has such a place
 abbrev pub IsStop : List ℕ → ℕ → Type 0
-IsStop text place = StartsToken text place ⊎ ((place ≡ length text) ⊎ StopsAt text place)
+IsStop text place = IsPlace text place ⊎ StopsAt text place
 
 -- a text has more bytes than the limit, or it reads as no module
 abbrev pub IsRefusal : List ℕ → TextFault → Type 0

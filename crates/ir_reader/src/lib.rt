@@ -4,13 +4,11 @@
 ghost use Rattle.std.specs.Prelude.{◌≡◌, ◌≤◌, ◌<◌, ◌⊎◌, ℕ, length, slice_get, Some, IfOk, OnOk, IfErr};
 ghost use Rattle.std.specs.List.{AllByRecursion};
 ghost use Rattle.forms.specs.declared.Token.{Token};
-ghost use Rattle.forms.specs.Reading.{◌>>=◌, read_whole};
 ghost use Rattle.forms.specs.Gives.{Gives, left};
 ghost use Rattle.ir_types.specs.Names.{IsTable};
 ghost use Rattle.ir_types.specs.Denotes.{tree_of};
-ghost use Rattle.ir_types.specs.Grammar.{module_form};
-ghost use Rattle.ir_types.specs.Numbered.{numbered_module};
 ghost use Rattle.ir_types.specs.Reads.{Reads};
+ghost use Rattle.ir_reader.specs.Functions.{module_read};
 ghost use Rattle.ir_reader.specs.Refusal.{IsRefusal, StartsAt};
 
 mod block;
@@ -34,16 +32,20 @@ use text_lex::{TEXT_LIMIT, TextFault, lex};
 
 /// The module that all of the tokens spell.
 fn module_of(alloc: Global, tokens: Cursor<'_>) -> Result<Module, SyntaxFault>
-    ensures says { Gives tree_of result (read_whole module_form (left tokens.entry) >>= numbered_module) }
+    ensures says { Gives tree_of result (module_read (left tokens.entry)) }
     ensures tables { IfOk result (λ m. AllByRecursion (λ f. IsTable f.names) m.functions) }
 {
-    let (functions, rest) = functions(alloc, tokens)?;
-    if rest.rest.is_empty() {
-        Ok(Module {
-            functions: Items::from_vec(functions),
-        })
-    } else {
-        Err(rest.refusal())
+    match functions(alloc, tokens) {
+        Ok((functions, rest)) => {
+            if rest.rest.is_empty() {
+                Ok(Module {
+                    functions: Items::from_vec(functions),
+                })
+            } else {
+                Err(rest.refusal())
+            }
+        }
+        Err(fault) => Err(fault),
     }
 }
 
@@ -67,7 +69,10 @@ pub fn read_module(alloc: Global, text: &[u8]) -> Result<Module, TextFault>
     ensures too_long { TEXT_LIMIT < length text.now → result ≡ Err (TextFault.TextLimit (length text.now)) }
     ensures fault { IfErr result (IsRefusal text.now) }
 {
-    let tokens = lex(alloc, text)?;
+    let tokens = match lex(alloc, text) {
+        Ok(tokens) => tokens,
+        Err(fault) => return Err(fault),
+    };
     let cursor = Cursor {
         text,
         rest: tokens.as_slice(),

@@ -82,12 +82,13 @@ fn with_result(inst: Inst, name: Option<ValueId>) -> Inst
     }
 }
 
-/// An instruction behind `%name =`, where `name` is the token.
+/// An instruction behind `%name =`, where `name` is the token at `start`.
 #[tactic(auto, using(crate::proofs::Lines::numbered_named))]
 fn named<'t>(
     alloc: Global,
     place: Place,
     name: &[u8],
+    start: Cursor<'_>,
     tokens: Cursor<'t>,
     names: &mut Names,
     numbering: &mut Numbering,
@@ -96,8 +97,8 @@ fn named<'t>(
     ensures reads { (v : List ℕ) → Gives (λ x. ((inst_in names.new x.0, numbering.new.next), left x.1)) result (completed (numbered_inst numbering.old.next) (named_so name.now v (read (form_at place) (left tokens.entry)))) }
     ensures stays { Stays inst_in names.new result }
 {
-    let written = result_name(alloc, name, tokens)?;
-    let id = named_id(Some(written), names, numbering, tokens)?;
+    let written = result_name(alloc, name, start)?;
+    let id = named_id(Some(written), names, numbering, start)?;
     let (inst, rest) = instruction(alloc, place, tokens, names)?;
     Ok((with_result(inst, Some(id)), rest))
 }
@@ -132,7 +133,7 @@ pub fn line<'t>(
     ensures stays { Stays inst_in names.new result }
 {
     match behind_result(tokens) {
-        Some((name, rest)) => named(alloc, place, name, rest, names, numbering),
+        Some((name, rest)) => named(alloc, place, name, tokens, rest, names, numbering),
         None => plain(alloc, place, tokens, names, numbering),
     }
 }
