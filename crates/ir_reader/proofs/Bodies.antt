@@ -1,5 +1,5 @@
 -- Reading a function part after part is reading it whole.
-use Rattle.std.proofs.Common.{◌≡◌, ℕ, List, [], ◌∷◌, ◌++◌, Option, Some, None, refl, sym, ap, ◌∙◌}
+use Rattle.std.proofs.Common.{◌≡◌, ℕ, List, Option, Some, None, refl, sym, ap, ◌∙◌}
 use Rattle.std.specs.Prelude.{codes}
 use Rattle.forms.specs.declared.TokenKind.TheVariants.{Word, LeftParen, RightParen, LeftBrace, RightBrace}
 use Rattle.forms.specs.Form.{Lexeme, Form, pair, exactly}
@@ -8,11 +8,11 @@ use Rattle.forms.specs.Walk.{walk, completed}
 use Rattle.ir_types.specs.declared.name.Name.{Name}
 use Rattle.ir_types.specs.declared.inst.Ty.{Ty}
 use Rattle.ir_types.specs.Tree.{ParamTree, BlockTree, FunctionTree, WrittenParam, WrittenBlock, WrittenFunction}
-use Rattle.ir_types.specs.Grammar.{int_type, global_name, parameter, list, some, block, between, behind, function, function_tree}
+use Rattle.ir_types.specs.Grammar.{int_type, global_name, parameter, list, some, block, between, function, function_tree}
 use Rattle.ir_types.specs.Numbered.{numbered_param, numbered_block, numbered_function}
-use Rattle.ir_reader.specs.Threads.{thread, threaded, between_read}
+use Rattle.ir_reader.specs.Threads.{thread, between_read}
 use Rattle.ir_reader.specs.Functions.{function_of, body_read, function_read}
-use Rattle.ir_reader.proofs.Threads.{thread_is, between_is, completed_alike, completed_mapped, completed_some_of, mapped_some, mapped_first}
+use Rattle.ir_reader.proofs.Threads.{thread_is, between_is, completed_alike, completed_some_of, mapped_some, mapped_first}
 
 abbrev Written : Type 0
 Written = List WrittenParam × List WrittenBlock
@@ -68,11 +68,12 @@ body_is t n ts =
     ap from (between_is LeftParen RightParen (walk numbered_param 0) (list parameter) ts)
     ∙ by (completed (walk numbered_param 0) (read in_parens ts))
     ∙ sym (completed_alike (λ x. numbered_function tt (function_tree (t, (n, x)))) (λ x. mapped_some (ended t n) (numbers 0 x)) (read (pair in_parens in_braces) ts) (function_numbers t n)
-      ∙ completed_some_of (numbers 0) (ended t n) (read (pair in_parens in_braces) ts)
-      ∙ ap (mapped_first (ended t n)) (thread_is (walk numbered_param) (walk numbered_block) 0 (read in_parens) (read in_braces) ts))
+    ∙ completed_some_of (numbers 0) (ended t n) (read (pair in_parens in_braces) ts)
+    ∙ ap (mapped_first (ended t n)) (thread_is (walk numbered_param) (walk numbered_block) 0 (read in_parens) (read in_braces) ts))
   where
     from : Option ((List ParamTree × ℕ) × List Lexeme) → Found
     from o = o >>= λ p. finished t n p.0.0 (between_read LeftBrace RightBrace (walk numbered_block p.0.1) (read (some block)) p.1)
+
     by : (o : Option ((List ParamTree × ℕ) × List Lexeme)) → (o >>= λ p. finished t n p.0.0 (between_read LeftBrace RightBrace (walk numbered_block p.0.1) (read (some block)) p.1)) ≡ mapped_first (ended t n) (o >>= λ p. put_beside p.0.0 (completed (walk numbered_block p.0.1) (read in_braces p.1)))
     by None = refl
     by (Some p) = ap (finished t n p.0.0) (between_is LeftBrace RightBrace (walk numbered_block p.0.1) (some block) p.1) ∙ finished_is t n p.0.0 (completed (walk numbered_block p.0.1) (read in_braces p.1))
@@ -108,9 +109,11 @@ function_is ts = by_word (read (exactly Word (codes "define")) ts)
     by_name : (u : Unit {0}) (t : Ty) (o : Option (Name × List Lexeme)) → (o >>= λ g. body_read t g.0 g.1) ≡ completed (numbered_function tt) (as_function (after_word u (after_type t (o >>= λ g. after_name g.0 (read (pair in_parens in_braces) g.1)))))
     by_name u t None = refl
     by_name u t (Some g) = body_is t g.0 g.1 ∙ headed u t g.0 (read (pair in_parens in_braces) g.1)
+
     by_type : (u : Unit {0}) (o : Option (Ty × List Lexeme)) → (o >>= λ t. read global_name t.1 >>= λ g. body_read t.0 g.0 g.1) ≡ completed (numbered_function tt) (as_function (after_word u (o >>= λ t. after_type t.0 (read global_name t.1 >>= λ g. after_name g.0 (read (pair in_parens in_braces) g.1)))))
     by_type u None = refl
     by_type u (Some t) = by_name u t.0 (read global_name t.1)
+
     by_word : (o : Option (Unit {0} × List Lexeme)) → (o >>= λ d. read int_type d.1 >>= λ t. read global_name t.1 >>= λ g. body_read t.0 g.0 g.1) ≡ completed (numbered_function tt) (as_function (o >>= λ d. after_word d.0 (read int_type d.1 >>= λ t. after_type t.0 (read global_name t.1 >>= λ g. after_name g.0 (read (pair in_parens in_braces) g.1)))))
     by_word None = refl
     by_word (Some d) = by_type d.0 (read int_type d.1)

@@ -1,11 +1,9 @@
 -- What the reader gives is what the text reads as.
-use Rattle.std.proofs.Common.{◌≡◌, ◌≤◌, ◌⊎◌, ℕ, List, [], length, Option, Some, None, refl, sym, ap, ◌∙◌, subst, inl, inr}
+use Rattle.std.proofs.Common.{◌≡◌, ℕ, List, Option, Some, None, refl, sym, ap, ◌∙◌, inr}
 use Rattle.std.specs.List.{AllByRecursion}
-use Rattle.forms.specs.declared.Token.{Token}
 use Rattle.forms.specs.Form.{Lexeme}
-use Rattle.forms.specs.Lexical.{Lexes, Places, StopsAt}
+use Rattle.forms.specs.Lexical.{Lexes}
 use Rattle.forms.specs.Reading.{◌>>=◌, read_whole}
-use Rattle.forms.specs.View.{lexemes}
 use Rattle.forms.proofs.Exact.{read_spells, spells_read}
 use Rattle.forms.proofs.Sound.{bind_some}
 use Rattle.text_lex.specs.declared.fault.TextFault.{TextFault}
@@ -20,7 +18,7 @@ use Rattle.ir_types.specs.Numbered.{numbered_module}
 use Rattle.ir_types.specs.Reads.{Reads}
 use Rattle.ir_types.proofs.Decides.{module_decides}
 use Rattle.ir_reader.specs.Functions.{module_read}
-use Rattle.ir_reader.specs.Refusal.{HasNoReading, IsStop, IsRefusal}
+use Rattle.ir_reader.specs.Refusal.{HasNoReading, IsRefusal}
 
 pub reads_from : (text : List ℕ) (ts : List Lexeme) (m : Module) → Lexes text ts → module_read ts ≡ Some (tree_of m) → AllByRecursion (λ f. IsTable f.names) m.functions → Reads text m
 reads_from text ts m lexes e tables =

@@ -4,15 +4,13 @@ use Rattle.std.specs.Option.{is_some}
 use Rattle.forms.specs.declared.TokenKind.{TokenKind}
 use Rattle.forms.specs.declared.TokenKind.TheVariants.{Local, Equal, Word}
 use Rattle.forms.specs.Form.{Lexeme, Form, by_word, kind_code, entry}
-use Rattle.forms.specs.Reading.{◌>>=◌, Terminal, this, any_of, mark_then, fits, fits_one, next_in, words_of, marks_then, read, read_by_word, opens}
-use Rattle.forms.specs.Walk.{completed}
+use Rattle.forms.specs.Reading.{◌>>=◌, Terminal, fits, fits_one, next_in, words_of, marks_then, read, opens}
 use Rattle.forms.proofs.Tables.{word_next}
 use Rattle.ir_types.specs.declared.name.Name.{Name}
 use Rattle.ir_types.specs.declared.inst.Ty.{Ty}
 use Rattle.ir_types.specs.declared.inst.Ty.TheVariants.{Int, Void}
 use Rattle.ir_types.specs.Tree.{InstTree}
-use Rattle.ir_types.specs.Written.{name_behind}
-use Rattle.ir_types.specs.Grammar.{line, named_by, with_result, without_result, operation, operation_words, operation_behind, terminator, terminator_words, terminator_behind}
+use Rattle.ir_types.specs.Grammar.{line, named_by, with_result, operation, operation_words, operation_behind, terminator, terminator_words, terminator_behind}
 use Rattle.ir_types.specs.Numbered.{numbered_inst, named_result, next_after}
 use Rattle.ir_reader.specs.Lines.{tok, result_next, Found, named_so, plainly, form_at}
 use Rattle.ir_reader.specs.declared.inst.Place.{Place}

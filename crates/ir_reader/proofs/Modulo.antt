@@ -1,8 +1,8 @@
 -- Decimal digits modulo 2^64, and modulo a lower power.
-use Rattle.std.proofs.Common.{◌≡◌, ℕ, ◌+◌, ◌*◌, ◌-◌, ◌/◌, ◌%◌, ◌^◌, ◌<◌, ◌≤◌, List, [], ◌∷◌, refl, sym, ap, ◌∙◌, arith}
+use Rattle.std.proofs.Common.{◌≡◌, ℕ, ◌+◌, ◌*◌, ◌-◌, ◌/◌, ◌%◌, ◌^◌, ◌<◌, ◌≤◌, List, [], ◌∷◌, ap, ◌∙◌, arith}
 use Rattle.std.proofs.lemmas.Nat.{mod-pow-add, mod-mul-add, pow-add, mod_below, pow_pos}
 use Rattle.std.proofs.Math.Nat.{mul-add-mod_self_right}
-use Rattle.ir_types.specs.Written.{number_from, number_of, negated}
+use Rattle.ir_types.specs.Written.{number_from, negated}
 
 -- a number counts only modulo 2^64
 pub same_from : (m n : ℕ) (ds : List ℕ) → m % 2 ^ 64 ≡ n % 2 ^ 64 → number_from m ds % 2 ^ 64 ≡ number_from n ds % 2 ^ 64

@@ -1,13 +1,13 @@
 -- Reading a block part after part is reading it whole.
 use Rattle.std.proofs.Common.{◌≡◌, ℕ, List, [], ◌∷◌, ◌++◌, Option, Some, None, refl, sym, ap, ◌∙◌}
-use Rattle.forms.specs.Form.{Lexeme, Form, pair, optional, many}
+use Rattle.forms.specs.Form.{Lexeme, pair, optional, many}
 use Rattle.forms.specs.Reading.{◌>>=◌, read}
 use Rattle.forms.specs.Walk.{walk, completed}
 use Rattle.ir_types.specs.declared.name.Name.{Name}
-use Rattle.ir_types.specs.Tree.{InstTree, BlockTree, WrittenBlock}
+use Rattle.ir_types.specs.Tree.{InstTree, BlockTree}
 use Rattle.ir_types.specs.Grammar.{label, line, operation, terminator, block, block_tree}
 use Rattle.ir_types.specs.Numbered.{named, numbered_inst, numbered_block}
-use Rattle.ir_reader.specs.Threads.{thread, threaded, renamed, renamed_before}
+use Rattle.ir_reader.specs.Threads.{thread, renamed, renamed_before}
 use Rattle.ir_reader.specs.Blocks.{block_of, block_read}
 use Rattle.ir_reader.proofs.Threads.{thread_is, completed_mapped, completed_alike, completed_then, walk-push}
 
@@ -47,6 +47,6 @@ unfolding block
 block_is next ts =
     let whole = pair (optional label) (pair (many (line operation)) (line terminator)) in
     sym (completed_mapped (numbered_block next) block_tree whole ts
-      ∙ completed_alike (λ x. numbered_block next (block_tree x)) (λ x. renamed block_of (thread named contents next x)) (read whole ts) (block_numbers next)
-      ∙ completed_then (thread named contents next) block_of (read whole ts)
-      ∙ ap (renamed_before block_of) (thread_is named contents next (read (optional label)) (read (pair (many (line operation)) (line terminator))) ts))
+    ∙ completed_alike (λ x. numbered_block next (block_tree x)) (λ x. renamed block_of (thread named contents next x)) (read whole ts) (block_numbers next)
+    ∙ completed_then (thread named contents next) block_of (read whole ts)
+    ∙ ap (renamed_before block_of) (thread_is named contents next (read (optional label)) (read (pair (many (line operation)) (line terminator))) ts))

@@ -1,5 +1,5 @@
 -- A list of at least one element, completed from left to right: how its reading begins.
-use Rattle.std.proofs.Common.{◌≡◌, List, [], ◌∷◌, ◌++◌, Option, Some, None, refl, sym, ap, ◌∙◌}
+use Rattle.std.proofs.Common.{◌≡◌, List, [], ◌∷◌, Option, Some, None, refl, ap, ◌∙◌}
 use Rattle.forms.specs.Form.{Lexeme, Form, pair, mapped, many}
 use Rattle.forms.specs.Reading.{◌>>=◌, read}
 use Rattle.forms.specs.Walk.{walk, completed}
@@ -21,6 +21,7 @@ read_others {A} f g ts = by (read f ts)
     each : (a : A) (o : Option (List A × List Lexeme)) → (beside a o >>= λ x. Some (x.0.0 ∷ x.0.1, x.1)) ≡ consed a o
     each a None = refl
     each a (Some y) = refl
+
     by : (r : Option (A × List Lexeme)) → ((r >>= λ x. beside x.0 (read (many g) x.1)) >>= λ x. Some (x.0.0 ∷ x.0.1, x.1)) ≡ (r >>= λ x. consed x.0 (read (many g) x.1))
     by None = refl
     by (Some x) = each x.0 (read (many g) x.1)

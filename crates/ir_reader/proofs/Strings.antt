@@ -27,7 +27,7 @@ unescapes_on front text i b whole lt seen e =
     let one : unescaped (drop i text) ≡ b.0 ∷ unescaped_behind b.1 (drop (i + 1) text) = ap unescaped rest ∙ ap (λ (x : ℕ × ℕ). x.0 ∷ unescaped_behind x.1 (drop (i + 1) text)) (sym is) in
     let there : i + 1 + b.1 ≡ i + (1 + b.1) = omega arith in
     let later : unescaped_behind b.1 (drop (i + 1) text) ≡ unescaped (drop (i + (1 + b.1)) text) =
-        behind_escape b.1 (drop (i + 1) text) ∙ ap unescaped (drop-drop b.1 (i + 1) text ∙ ap (λ n. drop n text) there) in
+    behind_escape b.1 (drop (i + 1) text) ∙ ap unescaped (drop-drop b.1 (i + 1) text ∙ ap (λ n. drop n text) there) in
     append_assoc front (b.0 ∷ []) _ ∙ sym (ap (λ (l : List ℕ). front ++ l) (one ∙ ap (λ (l : List ℕ). b.0 ∷ l) later)) ∙ e
 
 -- further digits make a number no less

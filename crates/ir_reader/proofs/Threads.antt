@@ -47,6 +47,7 @@ thread_is {A} {B} {C} {D} {S} {T} {U} f g s r q ts = by (r ts)
     each : (a : A) (o : Option (B × List Lexeme)) → completed (thread f g s) (with_first a o) ≡ second g (f s a) o
     each a None = sym (thread_none g (f s a))
     each a (Some y) = thread_some g (f s a) y.0 y.1
+
     by : (o : Option (A × List Lexeme)) → completed (thread f g s) (o >>= λ x. with_first x.0 (q x.1)) ≡ (completed (f s) o >>= λ x. completed (g x.0.1) (q x.1) >>= λ y. Some (((x.0.0, y.0.0), y.0.1), y.1))
     by None = refl
     by (Some a) = each a.0 (q a.1) ∙ sym (second_is g (f s a.0) q a.1)
@@ -141,6 +142,7 @@ between_is {A} {B} o c f g ts = by (read (mark o) ts)
     each : (u : Unit {0}) (r : Option (A × List Lexeme)) → (completed f r >>= λ x. ended x.0 (read (mark c) x.1)) ≡ completed f (only (outer u (r >>= λ x. inner x.0 (read (mark c) x.1))))
     each u None = refl
     each u (Some x) = sym (closes f u x.0 (read (mark c) x.1) (f x.0) refl ∙ then_closes c x.1 (f x.0))
+
     by : (m : Marked) → (m >>= λ m. completed f (read g m.1) >>= λ x. ended x.0 (read (mark c) x.1)) ≡ completed f (only (m >>= λ m. outer m.0 (read g m.1 >>= λ x. inner x.0 (read (mark c) x.1))))
     by None = refl
     by (Some m) = each m.0 (read g m.1)

@@ -1,5 +1,5 @@
 -- A block is read part after part.
-use Rattle.std.specs.Prelude.{ℕ, List, [], ◌∷◌, ◌++◌, map, Option, Some}
+use Rattle.std.specs.Prelude.{ℕ, List, [], ◌∷◌, ◌++◌, map, Option}
 use Rattle.std.specs.Global.{Vec}
 use Rattle.forms.specs.Form.{Lexeme, pair, optional, many}
 use Rattle.forms.specs.Reading.{read}

@@ -1,5 +1,5 @@
 -- A function is read part after part.
-use Rattle.std.specs.Prelude.{ℕ, List, map, codes, Option, Some}
+use Rattle.std.specs.Prelude.{List, map, codes, Option, Some}
 use Rattle.forms.specs.declared.TokenKind.TheVariants.{Word, LeftParen, RightParen, LeftBrace, RightBrace}
 use Rattle.forms.specs.Form.{Lexeme, exactly}
 use Rattle.forms.specs.Reading.{◌>>=◌, read, read_whole}

@@ -95,10 +95,7 @@ fn enclosed_blocks<'t>(
 }
 
 /// The parts of a function.
-fn parts<'t>(
-    alloc: Global,
-    tokens: Cursor<'t>,
-) -> Result<(Function, Cursor<'t>), SyntaxFault>
+fn parts<'t>(alloc: Global, tokens: Cursor<'t>) -> Result<(Function, Cursor<'t>), SyntaxFault>
     ensures reads { Gives (λ x. ((tree_of_function x.0, tt), left x.1)) result (function_read (left tokens.entry)) }
     ensures table { IfOk result (λ x. IsTable x.0.names) }
 {
@@ -125,10 +122,7 @@ fn parts<'t>(
 }
 
 /// A function.
-fn function<'t>(
-    alloc: Global,
-    tokens: Cursor<'t>,
-) -> Result<(Function, Cursor<'t>), SyntaxFault>
+fn function<'t>(alloc: Global, tokens: Cursor<'t>) -> Result<(Function, Cursor<'t>), SyntaxFault>
     ensures reads { Gives (λ x. ((tree_of_function x.0, tt), left x.1)) result (completed (numbered_function tt) (read function (left tokens.entry))) }
     ensures table { IfOk result (λ x. IsTable x.0.names) }
 {

@@ -20,6 +20,8 @@ mod names;
 mod numbering;
 mod numbers;
 mod param;
+#[cfg(test)]
+mod tests;
 mod value;
 mod words;
 

@@ -15,9 +15,9 @@ ghost use Rattle.ir_reader.specs.View.{Stays};
 ghost use Rattle.ir_reader.specs.Lines.{tok, result_next, named_so, plainly, form_at};
 
 use crate::inst::{Place, instruction};
-use crate::words::{operation_of, terminator_of};
 use crate::names::name_behind;
 use crate::numbering::{Numbering, named_id, result_id};
+use crate::words::{operation_of, terminator_of};
 use forms::{Cursor, SyntaxFault, TokenKind};
 use ir_types::{Inst, Name, Names, ValueId};
 use std::alloc::Global;

@@ -30,10 +30,7 @@ pub enum Written<'t> {
 
 /// The name of a local.
 #[tactic(auto, unfolding(ir_types::specs::Grammar::local_name))]
-pub fn local<'t>(
-    alloc: Global,
-    tokens: Cursor<'t>,
-) -> Result<(Name, Cursor<'t>), SyntaxFault>
+pub fn local<'t>(alloc: Global, tokens: Cursor<'t>) -> Result<(Name, Cursor<'t>), SyntaxFault>
     ensures { Gives (λ x. (x.0, left x.1)) result (read local_name (left tokens.entry)) }
 {
     let (token, rest) = tokens.one(TokenKind::Local)?;
@@ -45,10 +42,7 @@ pub fn local<'t>(
 
 /// The name of a symbol.
 #[tactic(auto, unfolding(ir_types::specs::Grammar::global_name))]
-pub fn global<'t>(
-    alloc: Global,
-    tokens: Cursor<'t>,
-) -> Result<(Name, Cursor<'t>), SyntaxFault>
+pub fn global<'t>(alloc: Global, tokens: Cursor<'t>) -> Result<(Name, Cursor<'t>), SyntaxFault>
     ensures { Gives (λ x. (x.0, left x.1)) result (read global_name (left tokens.entry)) }
 {
     let (token, rest) = tokens.one(TokenKind::Global)?;
@@ -60,10 +54,7 @@ pub fn global<'t>(
 
 /// The name of a block, before a colon.
 #[tactic(auto, unfolding(ir_types::specs::Grammar::label))]
-pub fn block_label<'t>(
-    alloc: Global,
-    tokens: Cursor<'t>,
-) -> Result<(Name, Cursor<'t>), SyntaxFault>
+pub fn block_label<'t>(alloc: Global, tokens: Cursor<'t>) -> Result<(Name, Cursor<'t>), SyntaxFault>
     ensures { Gives (λ x. (x.0, left x.1)) result (read label (left tokens.entry)) }
 {
     let (token, rest) = tokens.one(TokenKind::Label)?;

@@ -26,8 +26,7 @@ static OPERATIONS: [(&[u8], Operation); 3] = [
     (b"phi", Operation::Phi),
 ];
 
-static TERMINATORS: [(&[u8], Terminator); 2] =
-    [(b"br", Terminator::Br), (b"ret", Terminator::Ret)];
+static TERMINATORS: [(&[u8], Terminator); 2] = [(b"br", Terminator::Br), (b"ret", Terminator::Ret)];
 
 /// The predicate of the word.
 #[tactic(auto, unfolding(ir_types::specs::Grammar::predicates))]

@@ -1,11 +1,11 @@
 -- The cause of a refusal of the text, and that the causes leave nothing else.
-use Rattle.std.proofs.Common.{◌≡◌, ℕ, ◌⊎◌, List, refl, subst, sym, inl, inr, arith, IfSome, IfErr}
+use Rattle.std.proofs.Common.{◌≡◌, ◌≤◌, ℕ, ◌⊎◌, List, length, refl, subst, sym, inl, inr, arith, IfSome, IfErr}
 use Rattle.std.specs.declared.option.Option.{Option}
 use Rattle.std.specs.declared.option.Option.TheVariants.{None, Some}
 use Rattle.std.specs.declared.result.Result.{Result}
 use Rattle.std.specs.declared.result.Result.TheVariants.{Ok, Err}
 use Rattle.std.specs.Result.{IsErrAnd}
-use Rattle.vplan_io.specs.Causes.{Rose, IsWhole}
+use Rattle.vplan_io.specs.Causes.{Rose, longest, IsWhole}
 use Rattle.text_lex.specs.declared.fault.TextFault.{TextFault}
 use Rattle.text_lex.specs.declared.fault.TextFault.TheVariants.{TextLimit, NoReading, Memory as TextMemory}
 use Rattle.ir_reader.specs.Refusal.{IsRefusal}
@@ -20,11 +20,11 @@ told-of P None bytes e p = tt
 told-of P (Some file) bytes e p = subst P e p
 
 -- a text that is loaded and not read is refused, and never for its length
-refused-text : (told : Option (List ℕ)) (bytes : List ℕ) (before now last : ℕ) (fault : TextFault) → IsWhole told bytes → IsRefusal bytes fault → IsBeforeOut (text_status fault) × FileCause told before now last (text_status fault)
-refused-text told bytes before now last (TextLimit n) whole (size, long) = absurd (omega (arith, whole.short))
-refused-text told bytes before now last (NoReading place) whole (short, none, stop) =
-    (tt, told-of (λ text. IsRefusedAt text place) told bytes whole.same (record { short = short; has_none = none; stop = stop }))
-refused-text told bytes before now last TextMemory whole refusal = (tt, tt)
+refused-text : (told : Option (List ℕ)) (bytes : List ℕ) (before now last : ℕ) (fault : TextFault) → last ≡ length bytes → IsWhole told bytes → IsRefusal bytes fault → IsBeforeOut (text_status fault) × FileCause told before now last (text_status fault)
+refused-text told bytes before now last (TextLimit n) took whole (size, long) = absurd (omega (arith, whole.short))
+refused-text told bytes before now last (NoReading place) took whole (short, none, stop) =
+    (tt, (subst (λ n. n ≤ longest) (sym took) whole.short, told-of (λ text. IsRefusedAt text place) told bytes whole.same (record { short = short; has_none = none; stop = stop })))
+refused-text told bytes before now last TextMemory took whole refusal = (tt, tt)
 
 -- what holds of one status holds of an error that is that status
 if-err-is : {T : Type 0} (result : Result T Status) (status : Status) (Q : Status → Type 0) → IsErrAnd result (λ s. s ≡ status) → Q status → IfErr result Q
@@ -32,9 +32,9 @@ if-err-is (Ok value) status Q is q = absurd is
 if-err-is (Err error) status Q is q = subst Q (sym is) q
 
 -- so an error that is the status of such a fault has its cause
-pub refused-error : {T : Type 0} (result : Result T Status) (told : Option (List ℕ)) (bytes text : List ℕ) (before now last : ℕ) (fault : TextFault) → IsErrAnd result (λ s. s ≡ text_status fault) → IsWhole told bytes → text ≡ bytes → IsRefusal text fault → IfErr result (λ s. IsBeforeOut s × FileCause told before now last s)
-refused-error result told bytes text b n l fault is whole same refusal =
-    if-err-is result (text_status fault) (λ s. IsBeforeOut s × FileCause told b n l s) is (refused-text told bytes b n l fault whole (subst (λ t. IsRefusal t fault) same refusal))
+pub refused-error : {T : Type 0} (result : Result T Status) (told : Option (List ℕ)) (bytes text : List ℕ) (before now last : ℕ) (fault : TextFault) → IsErrAnd result (λ s. s ≡ text_status fault) → last ≡ length bytes → IsWhole told bytes → text ≡ bytes → IsRefusal text fault → IfErr result (λ s. IsBeforeOut s × FileCause told before now last s)
+refused-error result told bytes text b n l fault is took whole same refusal =
+    if-err-is result (text_status fault) (λ s. IsBeforeOut s × FileCause told b n l s) is (refused-text told bytes b n l fault took whole (subst (λ t. IsRefusal t fault) same refusal))
 
 -- an accepted file, with no fault, is printed, or memory is short
 accepted-done : (text : List ℕ) (before now last out_before out_now : ℕ) (status : Status) → FileCause (Some text) before now last status → WriteCause out_before out_now status → IsAccepted text → ¬ Rose before now → ¬ Rose out_before out_now → (status ≡ Done) ⊎ (status ≡ Memory)
@@ -42,7 +42,7 @@ accepted-done text b n l ob on Done cause write ok read wrote = inl refl
 accepted-done text b n l ob on Memory cause write ok read wrote = inr refl
 accepted-done text b n l ob on BadWords cause write ok read wrote = absurd cause
 accepted-done text b n l ob on (Text (TextLimit size)) cause write ok read wrote = absurd (omega (arith, ok.short, cause.2))
-accepted-done text b n l ob on (Text (NoReading place)) cause write ok read wrote = absurd (cause.has_none ok.meant ok.reads)
+accepted-done text b n l ob on (Text (NoReading place)) cause write ok read wrote = absurd (cause.1.has_none ok.meant ok.reads)
 accepted-done text b n l ob on (Text TextMemory) cause write ok read wrote = absurd cause
 accepted-done text b n l ob on (ReadFault TheModule) cause write ok read wrote = absurd (read cause)
 accepted-done text b n l ob on (ReadFault Out) cause write ok read wrote = absurd cause

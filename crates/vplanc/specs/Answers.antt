@@ -85,13 +85,13 @@ pub record IsPrinted (told : Option (List ℕ)) (printed : List ℕ) : Type 0 wh
 -- The causes of the answers that speak of the file: what is told of it, its count of faults before and now, and the last load's length.
 abbrev pub FileCause : Option (List ℕ) → (before now last : ℕ) → Status → Type 0
 FileCause told before now last (Text (TextLimit n)) = (n ≡ longest + 1) × (last ≡ n) × IfSome told (λ text. longest < length text)
-FileCause told before now last (Text (NoReading place)) = IfSome told (λ text. IsRefusedAt text place)
+FileCause told before now last (Text (NoReading place)) = (last ≤ longest) × IfSome told (λ text. IsRefusedAt text place)
 FileCause told before now last (Text TextMemory) = ⊥
 FileCause told before now last (ReadFault TheModule) = Rose before now
 FileCause told before now last (ReadFault Out) = ⊥
 FileCause told before now last BadWords = ⊥
-FileCause told before now last Done = IfSome told IsAccepted
-FileCause told before now last (WriteFault which) = IfSome told IsAccepted
+FileCause told before now last Done = (last ≤ longest) × IfSome told IsAccepted
+FileCause told before now last (WriteFault which) = (last ≤ longest) × IfSome told IsAccepted
 FileCause told before now last Memory = Unit {0}
 
 -- where the words give no command, that is the answer; else the answer has its cause in the file

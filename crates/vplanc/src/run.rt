@@ -1,7 +1,7 @@
 // All that the program does.
 
-ghost use Rattle.std.specs.Prelude.{◌≡◌, ◌≤◌, ◌↔◌, ℕ, List, None, map, take, string_bytes, IfOk, IfErr};
-ghost use Rattle.vplan_io.specs.Causes.{Rose, and_then};
+ghost use Rattle.std.specs.Prelude.{◌≡◌, ◌≤◌, ◌↔◌, ℕ, List, None, map, take, string_bytes, IfOk, OnOk, IfErr};
+ghost use Rattle.vplan_io.specs.Causes.{Rose, longest, and_then};
 ghost use Rattle.ir_types.specs.Reads.{Reads, IsReadable};
 ghost use Rattle.vplanc.specs.declared.answer.Status.TheVariants.{Done, BadWords};
 ghost use Rattle.vplanc.specs.Words.{command_of};
@@ -22,6 +22,7 @@ fn module_in<F: Files>(alloc: Global, file: &str, files: &mut F) -> Result<Modul
     ensures later { (name : List ℕ) → F.faults files.old name ≤ F.faults files.new name }
     ensures meant { IfOk result (IsMeant (F.told files.old file.now)) }
     ensures readable { IfOk result (λ m. IsReadable m) }
+    ensures short { OnOk result (F.last files.new ≤ longest) }
     ensures refused { IfErr result (λ s. IsBeforeOut s × FileCause (F.told files.old file.now) (F.faults files.old file.now) (F.faults files.new file.now) (F.last files.new) s) }
 {
     let bytes = files.load(alloc, file)?;
@@ -34,6 +35,7 @@ fn make<F: Files>(alloc: Global, file: &str, files: &mut F) -> Result<Vec<u8>, S
     ensures told { F.told files.new ≡ F.told files.old }
     ensures later { (name : List ℕ) → F.faults files.old name ≤ F.faults files.new name }
     ensures made { IfOk result (λ text. IsPrinted (F.told files.old file.now) text.items) }
+    ensures short { OnOk result (F.last files.new ≤ longest) }
     ensures refused { IfErr result (λ s. IsBeforeOut s × FileCause (F.told files.old file.now) (F.faults files.old file.now) (F.faults files.new file.now) (F.last files.new) s) }
 {
     let module = module_in(alloc, file, files)?;

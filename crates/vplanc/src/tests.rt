@@ -2,6 +2,8 @@
 
 use crate::answer::Status;
 use crate::run::run;
+use ir_printer::print_module;
+use ir_reader::read_module;
 use std::alloc::Global;
 use std::process::Abort;
 use std::test::Fail;
@@ -78,6 +80,19 @@ fn prints_the_example(rt: HostRuntime) -> Result<(), Fail> {
         Vec::new(alloc),
         (0, "", ""),
     )
+}
+
+#[test]
+fn prints_behind_what_is_there(rt: HostRuntime) -> Result<(), Fail> {
+    let alloc = rt.alloc();
+    let mut text = Vec::from_slice(alloc, b"; ")?;
+    match read_module(alloc, EXAMPLE.as_bytes()) {
+        Ok(module) => print_module(alloc, &module, &mut text)?,
+        Err(_) => rt.abort(),
+    }
+    assert_eq!(rt; text[..2], *b"; ".as_slice());
+    assert_eq!(rt; text[2..], *PRINTED.as_bytes());
+    Ok(())
 }
 
 #[test]

@@ -1,11 +1,11 @@
-use Rattle.std.proofs.Common.{◌≡◌, ℕ, List, length, map, eqb, Bool, true, false, Some, None, refl, sym, ap, ◌∙◌}
+use Rattle.std.proofs.Common.{◌≡◌, length, map, eqb, true, false, sym, ap, ◌∙◌}
 use Rattle.std.specs.Global.{Vec}
 use Rattle.forms.specs.declared.cursor.Cursor.{Cursor}
 use Rattle.ir_types.specs.declared.module.Function.{Function}
 use Rattle.forms.specs.Form.{many}
 use Rattle.forms.specs.Reading.{read}
 use Rattle.forms.specs.Walk.{walk, completed}
-use Rattle.forms.specs.Gives.{Gives, left}
+use Rattle.forms.specs.Gives.{left}
 use Rattle.forms.proofs.Viewed.{count_viewed}
 use Rattle.ir_types.specs.Denotes.{tree_of, tree_of_function}
 use Rattle.ir_types.specs.Grammar.{function}

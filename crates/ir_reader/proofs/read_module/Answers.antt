@@ -1,9 +1,5 @@
-use Rattle.std.proofs.Common.{◌≡◌, ◌⊎◌, List, length, Some, None, refl, sym, ap, ◌∙◌, subst, inl, inr, arith}
-use Rattle.forms.specs.declared.Token.{Token}
-use Rattle.forms.specs.Form.{Lexeme}
-use Rattle.forms.specs.Lexical.{Lexes}
+use Rattle.std.proofs.Common.{◌≡◌, ◌⊎◌, length, Some, None, inl}
 use Rattle.forms.specs.View.{lexemes}
-use Rattle.ir_types.specs.Reads.{Reads}
 use Rattle.ir_reader.specs.Functions.{module_read}
 use Rattle.ir_reader.specs.Refusal.{StartsAt}
 use Rattle.ir_reader.proofs.Exact.{reads_from, no_reading, bad_token}

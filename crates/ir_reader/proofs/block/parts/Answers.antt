@@ -1,12 +1,9 @@
-use Rattle.std.proofs.Common.{◌≡◌, List, [], ◌∷◌, ◌++◌, map, sym, ap, ◌∙◌, refl}
+use Rattle.std.proofs.Common.{◌≡◌, List, [], ◌∷◌, ◌++◌, sym, ap, ◌∙◌, refl}
 use Rattle.std.proofs.lemmas.List.{map_push}
-use Rattle.forms.specs.View.{Extends}
-use Rattle.ir_types.specs.declared.name.Name.{Name}
-use Rattle.ir_types.specs.declared.inst.Inst.{Inst}
 use Rattle.ir_types.specs.Tree.{InstTree}
 use Rattle.ir_types.specs.Denotes.{name_in, inst_in}
 use Rattle.ir_types.proofs.NameAt.{extends_trans}
-use Rattle.ir_reader.specs.Blocks.{insts_in, contents_in}
+use Rattle.ir_reader.specs.Blocks.{insts_in}
 use Rattle.ir_reader.proofs.block.parts.Goals as goal
 
 pub returns-clause-stays : goal.returns-clause-stays
@@ -20,5 +17,5 @@ returns-clause-stays c = λ later e.
     let kept = c.in_ok-insts.ensures.stays later e in
     let all : c.from_vec.result ≡ before ++ last ∷ [] = c.from_vec.ensures ∙ c.in_ok-push.ensures.items in
     let insts : insts_in later (before ++ last ∷ []) ≡ insts_in n (before ++ last ∷ []) =
-        map_push (inst_in later) before last ∙ ap (λ (x : List InstTree × InstTree). x.0 ++ x.1 ∷ []) kept ∙ sym (map_push (inst_in n) before last) in
+    map_push (inst_in later) before last ∙ ap (λ (x : List InstTree × InstTree). x.0 ++ x.1 ∷ []) kept ∙ sym (map_push (inst_in n) before last) in
     rw (all, name, insts) refl

@@ -1,7 +1,6 @@
-use Rattle.std.proofs.Common.{◌≡◌, List, [], ◌∷◌, ◌++◌, ◌<◌, length, map, refl, sym, ap, ◌∙◌, arith}
+use Rattle.std.proofs.Common.{◌≡◌, List, [], ◌∷◌, ◌++◌, refl, sym, ap, ◌∙◌, arith}
 use Rattle.std.proofs.lemmas.List.{map_push}
 use Rattle.forms.specs.declared.TokenKind.TheVariants.{Comma}
-use Rattle.forms.specs.View.{Extends}
 use Rattle.forms.specs.Reading.{read}
 use Rattle.forms.specs.Gives.{left}
 use Rattle.forms.proofs.Many.{shorter, goes_on}

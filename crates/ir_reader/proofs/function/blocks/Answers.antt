@@ -1,7 +1,5 @@
-use Rattle.std.proofs.Common.{◌≡◌, List, [], ◌∷◌, ◌++◌, ◌<◌, length, map, refl, sym, ap, ◌∙◌, arith}
+use Rattle.std.proofs.Common.{◌≡◌, List, [], ◌∷◌, ◌++◌, sym, ap, ◌∙◌, arith}
 use Rattle.std.proofs.lemmas.List.{map_push}
-use Rattle.forms.specs.View.{Extends}
-use Rattle.forms.specs.Form.{many}
 use Rattle.forms.specs.Reading.{read}
 use Rattle.forms.specs.Walk.{walk, completed}
 use Rattle.forms.specs.Gives.{left}

@@ -1,10 +1,7 @@
-use Rattle.std.proofs.Common.{◌≡◌, List, sym, ap, ◌∙◌, refl}
-use Rattle.forms.specs.View.{Extends}
-use Rattle.ir_types.specs.declared.name.Name.{Name}
+use Rattle.std.proofs.Common.{◌≡◌, sym, ap, ◌∙◌, refl}
 use Rattle.ir_types.specs.declared.inst.Ty.TheVariants.{Int}
-use Rattle.ir_types.specs.Denotes.{name_in, operand_in, inst_in}
-use Rattle.ir_types.specs.Tree.{OperandTree}
-use Rattle.ir_types.specs.Grammar.{WrittenValue, operand_at}
+use Rattle.ir_types.specs.Denotes.{name_in, operand_in}
+use Rattle.ir_types.specs.Grammar.{operand_at}
 use Rattle.ir_types.proofs.NameAt.{extends_trans}
 use Rattle.ir_reader.specs.View.{written_in}
 use Rattle.ir_reader.proofs.inst.conditional.Goals as goal

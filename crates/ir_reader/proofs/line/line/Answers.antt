@@ -1,4 +1,4 @@
-use Rattle.std.proofs.Common.{◌≡◌, ◌∷◌, ℕ, List, Option, sym, ap, ◌∙◌}
+use Rattle.std.proofs.Common.{◌≡◌, sym, ap, ◌∙◌}
 use Rattle.forms.specs.Reading.{read}
 use Rattle.forms.specs.Walk.{completed}
 use Rattle.forms.specs.Gives.{left}

@@ -1,4 +1,4 @@
-use Rattle.std.proofs.Common.{◌≡◌, ◌+◌, ◌≤◌, ◌++◌, ◌∷◌, [], List, ℕ, length, drop, arith, length-drop}
+use Rattle.std.proofs.Common.{◌+◌, arith, length-drop}
 use Rattle.ir_types.specs.Written.{unescaped}
 use Rattle.ir_reader.proofs.Strings.{unescapes_on}
 use Rattle.ir_reader.proofs.names.unescaped.Goals as goal

@@ -1,4 +1,4 @@
-use Rattle.std.proofs.Common.{sym, ap, ◌∙◌, ◌+◌, ◌%◌, ◌^◌, ◌-◌, ◌≡◌, ◌∷◌, ℕ, List, refl, arith}
+use Rattle.std.proofs.Common.{sym, ap, ◌∙◌, ◌%◌, ◌^◌, ◌-◌, ◌≡◌, ◌∷◌, refl, arith}
 use Rattle.ir_types.specs.Written.{number_at, number_of, negated}
 use Rattle.ir_reader.proofs.Modulo.{low_bits_of_minus}
 use Rattle.ir_reader.proofs.numbers.number_at.Goals as goal

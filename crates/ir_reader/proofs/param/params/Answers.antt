@@ -1,5 +1,4 @@
-use Rattle.std.proofs.Common.{sym, ap, ◌∙◌, refl}
-use Rattle.forms.specs.Reading.{read}
+use Rattle.std.proofs.Common.{sym, ap, ◌∙◌}
 use Rattle.forms.specs.Walk.{walk, completed}
 use Rattle.forms.specs.Gives.{left}
 use Rattle.ir_types.specs.Numbered.{numbered_param}
