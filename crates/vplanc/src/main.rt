@@ -9,6 +9,7 @@ mod tests;
 mod words;
 
 use crate::answer::Status;
+use crate::message::put_line;
 use crate::run::run;
 use std::env;
 use std::io::ErrorKind;
@@ -29,13 +30,16 @@ fn words_given(rt: &HostRuntime) -> Result<Vec<String>, Status> {
 }
 
 fn main(rt: HostRuntime) -> ExitCode {
+    let mut notes = Stream::new(rt.stderr());
     let words = match words_given(&rt) {
         Ok(words) => words,
-        Err(status) => return ExitCode::from(status.code()),
+        Err(status) => {
+            put_line(status, &mut notes);
+            return ExitCode::from(status.code());
+        }
     };
     let mut files = Folder::new(&rt);
     let mut out = Stream::new(rt.stdout());
-    let mut notes = Stream::new(rt.stderr());
     let status = run(
         rt.alloc(),
         words.as_slice(),
