@@ -8,17 +8,19 @@ pub record Lexeme : Type 0 where
   pub kind : TokenKind
   pub text : List ℕ
 
+-- the two texts are equal
 abbrev pub same_text : List ℕ → List ℕ → Bool
 same_text [] [] = true
 same_text [] (y ∷ ys) = false
 same_text (x ∷ xs) [] = false
 same_text (x ∷ xs) (y ∷ ys) = (x == y) && same_text xs ys
 
+-- the text is one of these
 abbrev pub is_one_of : List (List ℕ) → List ℕ → Bool
 is_one_of [] w = false
 is_one_of (v ∷ vs) w = same_text v w || is_one_of vs w
 
--- a number for each kind, by which a test can compare them
+-- a number for each kind, by which a test can compare them: different kinds have different numbers (proofs/Tokens.antt, `same_kind`)
 abbrev pub kind_code : TokenKind → ℕ
 kind_code Quoted = 0
 kind_code Local = 1
@@ -49,6 +51,7 @@ kind_code Decimal = 25
 kind_code Hexadecimal = 26
 kind_code NamedGroup = 27
 
+-- the kind is one of these
 abbrev pub has_kind : List TokenKind → TokenKind → Bool
 has_kind [] k = false
 has_kind (l ∷ ls) k = (kind_code l == kind_code k) || has_kind ls k
@@ -63,6 +66,7 @@ closer LeftBrace = Some RightBrace
 closer Less = Some Greater
 closer k = None
 
+-- tokens of this kind close something
 abbrev pub is_closer : TokenKind → Bool
 is_closer RightParen = true
 is_closer RightBracket = true
@@ -70,10 +74,12 @@ is_closer RightBrace = true
 is_closer Greater = true
 is_closer k = false
 
+-- what is awaited behind a token that closes: it must be the next that is awaited
 abbrev pub closed : List TokenKind → TokenKind → Option (List TokenKind)
 closed [] k = None
 closed (c ∷ s) k = if kind_code c == kind_code k then Some s else None
 
+-- what is awaited behind a token, which opens something where something closes it
 abbrev pub opened : List TokenKind → TokenKind → Option TokenKind → Option (List TokenKind)
 opened s k (Some c) = Some (c ∷ s)
 opened s k None = if is_closer k then closed s k else Some s
@@ -82,10 +88,12 @@ opened s k None = if is_closer k then closed s k else Some s
 abbrev pub step : List TokenKind → TokenKind → Option (List TokenKind)
 step s k = opened s k (closer k)
 
+-- nothing is awaited
 abbrev pub is_empty : List TokenKind → Bool
 is_empty [] = true
 is_empty (c ∷ s) = false
 
+-- there is something, and the test holds for it
 abbrev pub for_some : Option (List TokenKind) → (List TokenKind → Bool) → Bool
 for_some None p = false
 for_some (Some s) p = p s
@@ -101,10 +109,12 @@ pub record Stops : Type 0 where
   pub words : List (List ℕ)
   pub before_equal : List TokenKind
 
+-- the next token is `=`
 abbrev pub equal_next : List Lexeme → Bool
 equal_next [] = false
 equal_next (t ∷ ts) = kind_code t.kind == kind_code Equal
 
+-- the next token is a stop
 abbrev pub stops_at : Stops → List Lexeme → Bool
 stops_at st [] = false
 stops_at st (t ∷ ts) = (has_kind st.kinds t.kind || ((kind_code t.kind == kind_code Word) && is_one_of st.words t.text)) || (has_kind st.before_equal t.kind && equal_next ts)
@@ -114,6 +124,7 @@ abbrev pub runs : Stops → List TokenKind → List Lexeme → Bool
 runs st s [] = is_empty s
 runs st s (t ∷ ts) = not (is_empty s && stops_at st (t ∷ ts)) && for_some (step s t.kind) (λ u. runs st u ts)
 
+-- the texts of the tokens
 abbrev pub texts : List Lexeme → List (List ℕ)
 texts ts = map (λ t. t.text) ts
 
@@ -153,6 +164,7 @@ abbrev pub InOrder : {A : Type 0} → (A → List Lexeme → Type 0) → List A 
 InOrder P [] ts = ts ≡ []
 InOrder P (a ∷ more) ts = (x : List Lexeme) × (y : List Lexeme) × (ts ≡ x ++ y) × P a x × InOrder P more y
 
+-- the value where there is one, and no token where there is none
 abbrev pub IfThere : {A : Type 0} → (A → List Lexeme → Type 0) → Option A → List Lexeme → Type 0
 IfThere P None ts = ts ≡ []
 IfThere P (Some a) ts = P a ts
@@ -161,7 +173,7 @@ IfThere P (Some a) ts = P a ts
 abbrev pub IsLongest : {A : Type 0} → (A → List Lexeme → Type 0) → List Lexeme → List Lexeme → Type 0
 IsLongest {A} P front ts = (a : A) (longer more : List Lexeme) → ts ≡ longer ++ more → P a longer → length longer ≤ length front
 
--- what the table has for a word
+-- what the table has for a word: its first entry counts
 abbrev pub entry : {K : Type 0} → List (List ℕ × K) → List ℕ → Option K
 entry [] w = None
 entry (e ∷ es) w = if same_text w e.0 then Some e.1 else entry es w

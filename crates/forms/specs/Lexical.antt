@@ -9,12 +9,15 @@ use Rattle.forms.specs.declared.Part.{Part}
 use Rattle.forms.specs.declared.Part.TheVariants.{One, Perhaps, Run}
 use Rattle.forms.specs.declared.Token.{Token}
 
+-- `0` to `9`
 abbrev pub is_digit : ℕ → Bool
 is_digit c = nat_le 48 c && nat_le c 57
 
+-- `A` to `Z` and `a` to `z`
 abbrev pub is_letter : ℕ → Bool
 is_letter c = (nat_le 65 c && nat_le c 90) || (nat_le 97 c && nat_le c 122)
 
+-- a digit, `A` to `F` or `a` to `f`
 abbrev pub is_hex : ℕ → Bool
 is_hex c = is_digit c || ((nat_le 65 c && nat_le c 70) || (nat_le 97 c && nat_le c 102))
 
@@ -35,33 +38,85 @@ has Exponent c = (c == 101) || (c == 69)
 has Sign c = (c == 43) || (c == 45)
 has NotQuote c = not (c == 34)
 
+-- ---- the bytes that stand in many rows
+
+-- `"`
+abbrev quote : ℕ
+quote = 34
+
+-- `:`
+abbrev colon : ℕ
+colon = 58
+
+-- `-`
+abbrev minus : ℕ
+minus = 45
+
+-- `.`
+abbrev point : ℕ
+point = 46
+
+-- `0`
+abbrev zero_digit : ℕ
+zero_digit = 48
+
+-- `x`
+abbrev small_x : ℕ
+small_x = 120
+
+-- `c`
+abbrev small_c : ℕ
+small_c = 99
+
+-- `$`
+abbrev dollar : ℕ
+dollar = 36
+
+-- `%`
+abbrev percent : ℕ
+percent = 37
+
+-- `@`
+abbrev at_sign : ℕ
+at_sign = 64
+
+-- `!`
+abbrev bang : ℕ
+bang = 33
+
+-- `#`
+abbrev hash : ℕ
+hash = 35
+
+-- ---- tokens
+
 -- each kind of token, and the parts of which it consists
 unfoldable pub table : List (TokenKind × List Part)
 table =
-    (Label, One (Byte 34) ∷ Run NotQuote ∷ One (Byte 34) ∷ One (Byte 58) ∷ []) ∷
-    (Quoted, One (Byte 34) ∷ Run NotQuote ∷ One (Byte 34) ∷ []) ∷
-    (Label, One NameStart ∷ Run NamePart ∷ One (Byte 58) ∷ []) ∷
-    (Label, One Digit ∷ Run Digit ∷ One (Byte 58) ∷ []) ∷
-    (Number, Perhaps (Byte 45) ∷ One Digit ∷ Run Digit ∷ []) ∷
-    (Decimal, Perhaps (Byte 45) ∷ One Digit ∷ Run Digit ∷ One (Byte 46) ∷ One Digit ∷ Run Digit ∷ []) ∷
-    (Decimal, Perhaps (Byte 45) ∷ One Digit ∷ Run Digit ∷ One (Byte 46) ∷ One Digit ∷ Run Digit ∷ One Exponent ∷ Perhaps Sign ∷ One Digit ∷ Run Digit ∷ []) ∷
-    (Hexadecimal, One (Byte 48) ∷ One (Byte 120) ∷ One HexDigit ∷ Run HexDigit ∷ []) ∷
+    (Label, One (Byte quote) ∷ Run NotQuote ∷ One (Byte quote) ∷ One (Byte colon) ∷ []) ∷
+    (Quoted, One (Byte quote) ∷ Run NotQuote ∷ One (Byte quote) ∷ []) ∷
+    (Label, One NameStart ∷ Run NamePart ∷ One (Byte colon) ∷ []) ∷
+    (Label, One Digit ∷ Run Digit ∷ One (Byte colon) ∷ []) ∷
+    (Number, Perhaps (Byte minus) ∷ One Digit ∷ Run Digit ∷ []) ∷
+    (Decimal, Perhaps (Byte minus) ∷ One Digit ∷ Run Digit ∷ One (Byte point) ∷ One Digit ∷ Run Digit ∷ []) ∷
+    (Decimal, Perhaps (Byte minus) ∷ One Digit ∷ Run Digit ∷ One (Byte point) ∷ One Digit ∷ Run Digit ∷ One Exponent ∷ Perhaps Sign ∷ One Digit ∷ Run Digit ∷ []) ∷
+    (Hexadecimal, One (Byte zero_digit) ∷ One (Byte small_x) ∷ One HexDigit ∷ Run HexDigit ∷ []) ∷
     (Word, One WordStart ∷ Run WordPart ∷ []) ∷
-    (TextConstant, One (Byte 99) ∷ One (Byte 34) ∷ Run NotQuote ∷ One (Byte 34) ∷ []) ∷
-    (Dots, One (Byte 46) ∷ One (Byte 46) ∷ One (Byte 46) ∷ []) ∷
-    (Comdat, One (Byte 36) ∷ One NameStart ∷ Run NamePart ∷ []) ∷
-    (Comdat, One (Byte 36) ∷ One (Byte 34) ∷ Run NotQuote ∷ One (Byte 34) ∷ []) ∷
-    (Local, One (Byte 37) ∷ One NameStart ∷ Run NamePart ∷ []) ∷
-    (Local, One (Byte 37) ∷ One (Byte 34) ∷ Run NotQuote ∷ One (Byte 34) ∷ []) ∷
-    (Local, One (Byte 37) ∷ One Digit ∷ Run Digit ∷ []) ∷
-    (Global, One (Byte 64) ∷ One NameStart ∷ Run NamePart ∷ []) ∷
-    (Global, One (Byte 64) ∷ One (Byte 34) ∷ Run NotQuote ∷ One (Byte 34) ∷ []) ∷
-    (Global, One (Byte 64) ∷ One Digit ∷ Run Digit ∷ []) ∷
-    (Metadata, One (Byte 33) ∷ One NameStart ∷ Run NamePart ∷ []) ∷
-    (Metadata, One (Byte 33) ∷ One Digit ∷ Run Digit ∷ []) ∷
-    (Bang, One (Byte 33) ∷ []) ∷
-    (AttributeGroup, One (Byte 35) ∷ One Digit ∷ Run Digit ∷ []) ∷
-    (NamedGroup, One (Byte 35) ∷ One NameStart ∷ Run NamePart ∷ []) ∷
+    (TextConstant, One (Byte small_c) ∷ One (Byte quote) ∷ Run NotQuote ∷ One (Byte quote) ∷ []) ∷
+    (Dots, One (Byte point) ∷ One (Byte point) ∷ One (Byte point) ∷ []) ∷
+    (Comdat, One (Byte dollar) ∷ One NameStart ∷ Run NamePart ∷ []) ∷
+    (Comdat, One (Byte dollar) ∷ One (Byte quote) ∷ Run NotQuote ∷ One (Byte quote) ∷ []) ∷
+    (Local, One (Byte percent) ∷ One NameStart ∷ Run NamePart ∷ []) ∷
+    (Local, One (Byte percent) ∷ One (Byte quote) ∷ Run NotQuote ∷ One (Byte quote) ∷ []) ∷
+    (Local, One (Byte percent) ∷ One Digit ∷ Run Digit ∷ []) ∷
+    (Global, One (Byte at_sign) ∷ One NameStart ∷ Run NamePart ∷ []) ∷
+    (Global, One (Byte at_sign) ∷ One (Byte quote) ∷ Run NotQuote ∷ One (Byte quote) ∷ []) ∷
+    (Global, One (Byte at_sign) ∷ One Digit ∷ Run Digit ∷ []) ∷
+    (Metadata, One (Byte bang) ∷ One NameStart ∷ Run NamePart ∷ []) ∷
+    (Metadata, One (Byte bang) ∷ One Digit ∷ Run Digit ∷ []) ∷
+    (Bang, One (Byte bang) ∷ []) ∷
+    (AttributeGroup, One (Byte hash) ∷ One Digit ∷ Run Digit ∷ []) ∷
+    (NamedGroup, One (Byte hash) ∷ One NameStart ∷ Run NamePart ∷ []) ∷
     (Equal, One (Byte 61) ∷ []) ∷
     (Comma, One (Byte 44) ∷ []) ∷
     (LeftParen, One (Byte 40) ∷ []) ∷
@@ -73,23 +128,26 @@ table =
     (Less, One (Byte 60) ∷ []) ∷
     (Greater, One (Byte 62) ∷ []) ∷
     (Star, One (Byte 42) ∷ []) ∷
-    (Colon, One (Byte 58) ∷ []) ∷
+    (Colon, One (Byte colon) ∷ []) ∷
     (Bar, One (Byte 124) ∷ []) ∷
     []
 
--- the parts that may follow behind this byte, where it may stand here
+-- the parts that may follow behind this byte, where it may stand here: a run takes all it can, which is right since no part behind a run
+-- begins with a byte of it
 abbrev pub after : List Part → ℕ → Option (List Part)
 after [] c = None
 after (One p ∷ ps) c = if has p c then Some ps else None
 after (Perhaps p ∷ ps) c = if has p c then Some ps else after ps c
 after (Run p ∷ ps) c = if has p c then Some (Run p ∷ ps) else after ps c
 
+-- no byte is needed any more
 abbrev pub may_end : List Part → Bool
 may_end [] = true
 may_end (One p ∷ ps) = false
 may_end (Perhaps p ∷ ps) = may_end ps
 may_end (Run p ∷ ps) = may_end ps
 
+-- what a function makes of a value; where there is none, the other value
 abbrev pub and_then : {A B : Type 0} → Option A → (A → B) → B → B
 and_then None f b = b
 and_then (Some a) f b = f a
@@ -99,6 +157,7 @@ abbrev pub spells : List Part → List ℕ → Bool
 spells ps [] = may_end ps
 spells ps (c ∷ cs) = and_then (after ps c) (λ qs. spells qs cs) false
 
+-- the kind of the first row whose parts spell the text
 abbrev pub kind_by : List (TokenKind × List Part) → List ℕ → Option TokenKind
 kind_by [] w = None
 kind_by (r ∷ rs) w = if spells r.1 w then Some r.0 else kind_by rs w
@@ -117,6 +176,7 @@ pub record Longest (text : List ℕ) (kind : TokenKind) (word rest : List ℕ) :
 abbrev pub NoToken : List ℕ → Type 0
 NoToken text = (other : TokenKind) (longer more : List ℕ) → text ≡ longer ++ more → kind_of longer ≡ Some other → ⊥
 
+-- a blank, a tab, a line feed or a carriage return
 abbrev pub is_space : ℕ → Bool
 is_space c = (c == 32) || ((c == 9) || ((c == 10) || (c == 13)))
 
@@ -127,9 +187,13 @@ next_line (c ∷ cs) = if (c == 10) || (c == 13) then cs else next_line cs
 
 -- from left to right, the tokens of a text up to a rest of it
 pub data LexesTo : List ℕ → List Lexeme → List ℕ → Type 0 where
+  -- no token, up to here
   here : {text : List ℕ} → LexesTo text [] text
+  -- white space stands in front
   space : (c : ℕ) {cs rest : List ℕ} {ts : List Lexeme} → is_space c ≡ true → LexesTo cs ts rest → LexesTo (c ∷ cs) ts rest
+  -- a comment, from `;` to the end of its line
   comment : (c : ℕ) {cs rest : List ℕ} {ts : List Lexeme} → c ≡ 59 → LexesTo (next_line cs) ts rest → LexesTo (c ∷ cs) ts rest
+  -- the longest token at the place
   token : {text : List ℕ} (kind : TokenKind) (word : List ℕ) {behind rest : List ℕ} {ts : List Lexeme} → Longest text kind word behind → LexesTo behind ts rest → LexesTo text (record { kind = kind; text = word } ∷ ts) rest
 
 -- the tokens of a text

@@ -1,6 +1,7 @@
 pub mod Lexical
 pub mod Numbers
 pub mod Form
+pub mod Bind
 pub mod Reading
 pub mod View
 pub mod Walk

@@ -4,9 +4,11 @@ use Rattle.forms.specs.declared.TokenKind.TheVariants.{Comma, RightBracket}
 use Rattle.forms.specs.declared.Around.{Around}
 use Rattle.forms.specs.declared.Around.TheVariants.{InArray, InStruct}
 use Rattle.forms.specs.Form.{Lexeme, Form, pair, either, mapped, optional}
-use Rattle.forms.specs.Reading.{◌>>=◌, read}
+use Rattle.forms.specs.Bind.{◌>>=◌}
+use Rattle.forms.specs.Reading.{read}
 use Rattle.forms.specs.Nested.{TypeParts, mark, struct_head, struct_end, remainder, memory}
 
+-- a struct has begun: its nodes so far, and what the next type is inside of, where it has not ended at once
 abbrev pub begun : {N : Type 0} → Bool → List N → Option (List N) → List N × Option Around
 begun p xs None = (xs, Some (InStruct p))
 begun p xs (Some ys) = (xs ++ ys, None)
@@ -24,9 +26,11 @@ abbrev pub next : {N : Type 0} → TypeParts N → Around → Form (List N × Bo
 next l InArray = mapped (λ _. ([], false)) (mark RightBracket)
 next l (InStruct p) = either (mapped (λ _. ([], true)) (mark Comma)) (mapped (λ xs. (xs, false)) (struct_end l p))
 
+-- what is read, behind these nodes
 abbrev pub behind : {A : Type 0} → List A → Option (List A × List Lexeme) → Option (List A × List Lexeme)
 behind front r = r >>= λ x. Some (front ++ x.0, x.1)
 
+-- one reading, and what is read behind it
 abbrev pub then_read : {A : Type 0} → Option (List A × List Lexeme) → (List Lexeme → Option (List A × List Lexeme)) → Option (List A × List Lexeme)
 then_read r k = r >>= λ x. behind x.0 (k x.1)
 

@@ -18,6 +18,7 @@ pub record TypeParts (N : Type 0) : Type 1 where
   -- a struct ends
   pub closing : N
 
+-- the lists one behind the other
 abbrev pub concat : {A : Type 0} → List (List A) → List A
 concat [] = []
 concat (x ∷ xs) = x ++ concat xs
@@ -45,9 +46,11 @@ abbrev pub remainder : {N : Type 0} → TypeParts N → Form (List N) → Around
 remainder l m InArray = mapped (λ _. []) (mark RightBracket)
 remainder l m (InStruct p) = joined (mapped concat (many (comma_then m))) (struct_end l p)
 
+-- a struct, packed or not, whose types are of this form
 abbrev pub struct_of : {N : Type 0} → TypeParts N → Bool → Form (List N) → Form (List N)
 struct_of l p m = joined (struct_head l p) (either (struct_end l p) (joined m (remainder l m (InStruct p))))
 
+-- an array whose type is of this form
 abbrev pub array_of : {N : Type 0} → TypeParts N → Form (List N) → Form (List N)
 array_of l m = joined l.array_head (joined m (remainder l m InArray))
 
@@ -64,10 +67,11 @@ memory l (suc d) = one_deeper l (memory l d)
 abbrev pub SpellsMemory : {N : Type 0} → TypeParts N → List N → List Lexeme → Type 0
 SpellsMemory l a ts = (d : ℕ) × Spells (memory l d) a ts
 
--- the tokens with which a struct begins, and that with which it ends
+-- the tokens with which a struct begins
 abbrev pub struct_begins : List Terminal
 struct_begins = any_of LeftBrace ∷ mark_then Less (any_of LeftBrace) ∷ []
 
+-- and that with which it ends
 abbrev pub struct_ends : List Terminal
 struct_ends = any_of RightBrace ∷ []
 

@@ -3,22 +3,22 @@ use Rattle.std.specs.Prelude.{ℕ, zero, suc, Bool, true, false, not, ◌&&◌, 
 use Rattle.forms.specs.declared.TokenKind.{TokenKind}
 use Rattle.forms.specs.declared.TokenKind.TheVariants.{Word, Equal}
 use Rattle.forms.specs.Form.{kind_code, is_closer, is_empty, step, has_kind, Stops, stops_at, Lexeme, Form, exactly, one, one_but, ahead, enclosed, up_to, pair, greedy, either, mapped, made, optional, many, by_word, same_text, is_one_of, entry}
-
-infixl 10 ◌>>=◌
-abbrev pub ◌>>=◌ : {A B : Type 0} → Option A → (A → Option B) → Option B
-None >>= f = None
-(Some a) >>= f = f a
+pub use Rattle.forms.specs.Bind.{◌>>=◌}
 
 -- what a token can be asked for
 pub data Terminal : Type 0 where
+  -- to be this token, by its kind and text
   this : TokenKind → List ℕ → Terminal
+  -- to be of this kind
   any_of : TokenKind → Terminal
+  -- to be of this kind, with none of these texts
   any_but : TokenKind → List (List ℕ) → Terminal
-  -- and what the token behind it can be asked for
+  -- to be of this kind, and what the token behind it can be asked for
   mark_then : TokenKind → Terminal → Terminal
   -- a token, and no stop
   going_on : Stops → Terminal
 
+-- the first of the tokens is what is asked for
 abbrev pub fits : List Lexeme → Terminal → Bool
 fits [] s = false
 fits (t ∷ ts) (this k s) = (kind_code t.kind == kind_code k) && same_text t.text s
@@ -27,6 +27,7 @@ fits (t ∷ ts) (any_but k ws) = (kind_code t.kind == kind_code k) && not (is_on
 fits (t ∷ ts) (mark_then k s) = (kind_code t.kind == kind_code k) && fits ts s
 fits (t ∷ ts) (going_on st) = not (stops_at st (t ∷ ts))
 
+-- it is one of what is asked for
 abbrev pub fits_one : List Lexeme → List Terminal → Bool
 fits_one ts [] = false
 fits_one ts (s ∷ ss) = fits ts s || fits_one ts ss
@@ -36,6 +37,7 @@ abbrev pub next_in : List Terminal → List Lexeme → Bool
 next_in ss [] = false
 next_in ss (t ∷ ts) = fits_one (t ∷ ts) ss
 
+-- no token may spell a value
 abbrev pub nullable : {A : Type 0} → Form A → Bool
 nullable (exactly k s) = false
 nullable (one k) = false
@@ -52,18 +54,22 @@ nullable (by_word table f) = false
 nullable (optional f) = true
 nullable (many f) = true
 
+-- the words of a table
 abbrev pub words_of : {K : Type 0} → List (List ℕ × K) → List Terminal
 words_of [] = []
 words_of (e ∷ es) = this Word e.0 ∷ words_of es
 
+-- what a function makes of the entries, one behind the other
 abbrev pub of_all : {K : Type 0} → List (List ℕ × K) → (K → List Terminal) → List Terminal
 of_all [] g = []
 of_all (e ∷ es) g = g e.1 ++ of_all es g
 
+-- the test holds for each entry
 abbrev pub for_all : {K : Type 0} → List (List ℕ × K) → (K → Bool) → Bool
 for_all [] p = true
 for_all (e ∷ es) p = p e.1 && for_all es p
 
+-- each of these behind a token of the kind
 abbrev pub marks_then : TokenKind → List Terminal → List Terminal
 marks_then k [] = []
 marks_then k (s ∷ ss) = mark_then k s ∷ marks_then k ss
@@ -148,45 +154,55 @@ is_steady (by_word table f) = for_all table (λ k. is_steady (f k))
 is_steady (optional f) = is_steady f
 is_steady (many f) = is_steady f
 
+-- the next token can begin a value
 abbrev pub opens : {A : Type 0} → Form A → List Lexeme → Bool
 opens f ts = next_in (first f) ts
 
+-- value after value, as long as the test lets another begin, and so many at most
 abbrev pub read_each : {A : Type 0} → (List Lexeme → Bool) → (List Lexeme → Option (A × List Lexeme)) → ℕ → List Lexeme → Option (List A × List Lexeme)
 read_each p r zero ts = Some ([], ts)
 read_each p r (suc n) ts = if p ts then (r ts >>= λ x. read_each p r n x.1 >>= λ y. Some (x.0 ∷ y.0, y.1)) else Some ([], ts)
 
+-- the token of this kind and text
 abbrev pub read_exactly : TokenKind → List ℕ → List Lexeme → Option (Unit {0} × List Lexeme)
 read_exactly k s [] = None
 read_exactly k s (t ∷ ts) = if fits (t ∷ ts) (this k s) then Some (tt, ts) else None
 
+-- the text of a token of this kind
 abbrev pub read_one : TokenKind → List Lexeme → Option (List ℕ × List Lexeme)
 read_one k [] = None
 read_one k (t ∷ ts) = if fits (t ∷ ts) (any_of k) then Some (t.text, ts) else None
 
+-- the same, where it is none of these
 abbrev pub read_one_but : TokenKind → List (List ℕ) → List Lexeme → Option (List ℕ × List Lexeme)
 read_one_but k ws [] = None
 read_one_but k ws (t ∷ ts) = if fits (t ∷ ts) (any_but k ws) then Some (t.text, ts) else None
 
+-- one value and then another
 abbrev pub read_pair : {A B : Type 0} → (List Lexeme → Option (A × List Lexeme)) → (List Lexeme → Option (B × List Lexeme)) → List Lexeme → Option ((A × B) × List Lexeme)
 read_pair r s ts = r ts >>= λ x. s x.1 >>= λ y. Some ((x.0, y.0), y.1)
 
--- up to the token that closes, where nothing else is awaited
+-- the token closes, where nothing else is awaited
 abbrev pub ends : TokenKind → List TokenKind → TokenKind → Bool
 ends c [] k = kind_code k == kind_code c
 ends c (y ∷ s) k = false
 
+-- the texts up to the token that closes
 abbrev pub read_inside : TokenKind → List TokenKind → List Lexeme → Option (List (List ℕ) × List Lexeme)
 read_inside c s [] = None
 read_inside c s (t ∷ ts) = if ends c s t.kind then Some ([], ts) else (step s t.kind >>= λ u. read_inside c u ts >>= λ y. Some (t.text ∷ y.0, y.1))
 
+-- the texts up to a stop outside brackets, or to the end
 abbrev pub read_up_to : Stops → List TokenKind → List Lexeme → Option (List (List ℕ) × List Lexeme)
 read_up_to st s [] = if is_empty s then Some ([], []) else None
 read_up_to st s (t ∷ ts) = if is_empty s && stops_at st (t ∷ ts) then Some ([], t ∷ ts) else (step s t.kind >>= λ u. read_up_to st u ts >>= λ y. Some (t.text ∷ y.0, y.1))
 
+-- a word of the table, and what it chooses
 abbrev pub read_by_word : {K A : Type 0} → List (List ℕ × K) → (K → List Lexeme → Option (A × List Lexeme)) → List Lexeme → Option (A × List Lexeme)
 read_by_word table r [] = None
 read_by_word table r (t ∷ ts) = if kind_code t.kind == kind_code Word then (entry table t.text >>= λ k. r k ts) else None
 
+-- the value that the tokens begin with, and the tokens behind it
 abbrev pub read : {A : Type 0} → Form A → List Lexeme → Option (A × List Lexeme)
 read (exactly k s) ts = read_exactly k s ts
 read (one k) ts = read_one k ts
@@ -203,6 +219,7 @@ read (by_word table f) ts = read_by_word table (λ k us. read (f k) us) ts
 read (optional f) ts = if opens f ts then (read f ts >>= λ x. Some (Some x.0, x.1)) else Some (None, ts)
 read (many f) ts = read_each (opens f) (read f) (length ts) ts
 
+-- the kind of the token; nothing asks it of what goes on
 abbrev pub kind_of : Terminal → TokenKind
 kind_of (this k s) = k
 kind_of (any_of k) = k
@@ -227,10 +244,12 @@ apart (going_on st) r = is_stop st r
 apart s (going_on st) = is_stop st s
 apart s r = not (kind_code (kind_of s) == kind_code (kind_of r))
 
+-- no tokens fit this and one of those
 abbrev pub apart_from : Terminal → List Terminal → Bool
 apart_from s [] = true
 apart_from s (r ∷ rs) = apart s r && apart_from s rs
 
+-- no tokens fit one of these and one of those
 abbrev pub all_apart : List Terminal → List Terminal → Bool
 all_apart [] rs = true
 all_apart (s ∷ ss) rs = apart_from s rs && all_apart ss rs

@@ -7,6 +7,7 @@ use Rattle.forms.specs.Form.{Lexeme}
 abbrev pub lexeme_in : List ℕ → Token → Lexeme
 lexeme_in text t = record { kind = t.kind; text = take (t.end - t.start) (drop t.start text) }
 
+-- all of them
 abbrev pub lexemes : List ℕ → List Token → List Lexeme
 lexemes text ts = map (lexeme_in text) ts
 

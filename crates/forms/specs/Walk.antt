@@ -1,6 +1,6 @@
 -- A list whose elements are completed from left to right, as by numbers that are counted on, where that can be done.
 use Rattle.std.specs.Prelude.{List, [], ◌∷◌, Option, Some}
-use Rattle.forms.specs.Reading.{◌>>=◌}
+use Rattle.forms.specs.Bind.{◌>>=◌}
 
 -- what the elements become one after another, each with what the one before it left, and what the last one leaves
 abbrev pub walk : {S A B : Type 0} → (S → A → Option (B × S)) → S → List A → Option (List B × S)

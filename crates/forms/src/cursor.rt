@@ -10,12 +10,16 @@ ghost use Rattle.forms.specs.View.{next_place};
 
 use crate::{Token, TokenKind};
 use std::alloc::{AllocError, AllocFailed};
+use thiserror::Error;
 
 /// Why nothing was read.
-#[derive(Debug, Drop)]
+#[derive(Debug, Drop, Error)]
 pub enum SyntaxFault {
     /// At this place of the text, in bytes, reading from left to right stopped.
+    #[error("no reading")]
     NoReading(u32),
+    /// There was no memory for what is made of the tokens.
+    #[error("out of memory")]
     Memory,
 }
 
@@ -38,7 +42,9 @@ impl<T: Drop> From<AllocFailed<T>> for SyntaxFault {
 /// What is left of the tokens of a text.
 #[derive(Clone, Copy, Debug)]
 pub struct Cursor<'t> {
+    /// The whole text, in which the places of the tokens count.
     pub text: &'t [u8],
+    /// The tokens that are left, the next one first.
     pub rest: &'t [Token],
 }
 

@@ -2,8 +2,7 @@
 use Rattle.std.proofs.Common.{◌≡◌, ℕ, List, Some, None, sym, ap, ◌∙◌, subst}
 use Rattle.forms.specs.Form.{Lexeme, Spells}
 use Rattle.forms.specs.Lexical.{StopsAt, Lexes}
-use Rattle.forms.specs.Reading.{read_whole}
-use Rattle.forms.proofs.Exact.{one_value, not_read, some_is}
+use Rattle.forms.proofs.Exact.{one_value, some_is}
 use Rattle.text_lex.proofs.Unique.{lexes_unique, stops_lexes}
 use Rattle.ir_types.specs.declared.module.Module.{Module}
 use Rattle.ir_types.specs.Denotes.{Denotes}
@@ -34,8 +33,8 @@ one_reading text m n a b = record { tree = a.resolved; first = a.denotes; second
 spelled_by : (text : List ℕ) (tokens : List Lexeme) (m : Module) → Lexes text tokens → (r : Reads text m) → Spells module_form r.written tokens
 spelled_by text tokens m x r = subst (λ (us : List Lexeme). Spells module_form r.written us) (lexes_unique text r.tokens tokens r.lexes x) r.spelled
 
-pub unspelled : (text : List ℕ) (tokens : List Lexeme) (m : Module) → Lexes text tokens → read_whole module_form tokens ≡ None → Reads text m → ⊥
-unspelled text tokens m x e r = not_read module_form module_decides tokens e r.written (spelled_by text tokens m x r)
+pub unspelled : (text : List ℕ) (tokens : List Lexeme) (m : Module) → Lexes text tokens → ((written : WrittenModule) → Spells module_form written tokens → ⊥) → Reads text m → ⊥
+unspelled text tokens m x none r = none r.written (spelled_by text tokens m x r)
 
 pub unnumbered : (text : List ℕ) (tokens : List Lexeme) (written : WrittenModule) (m : Module) → Lexes text tokens → Spells module_form written tokens → numbered_module written ≡ None → Reads text m → ⊥
 unnumbered text tokens written m x s e r =

@@ -1,10 +1,9 @@
 //! Laws about the definitions of ir_types, as functions with empty bodies.
 #![tactic(auto)]
 
-ghost use Rattle.std.specs.Prelude.{◌≡◌, ℕ, List, Some, None};
+ghost use Rattle.std.specs.Prelude.{◌≡◌, ℕ, List, None};
 ghost use Rattle.forms.specs.Form.{Lexeme, Spells};
 ghost use Rattle.forms.specs.Lexical.{Lexes, StopsAt};
-ghost use Rattle.forms.specs.Reading.{read_whole};
 ghost use Rattle.ir_types.specs.declared.module.Module.{Module};
 ghost use Rattle.ir_types.specs.Grammar.{module_form};
 ghost use Rattle.ir_types.specs.Numbered.{numbered_module};
@@ -25,7 +24,7 @@ pub fn positions_are_free()
 /// name finds no number.
 pub fn no_reading()
     ensures stopped { (text : List ℕ) (place : ℕ) (m : Module) → StopsAt text place → Reads text m → ⊥ }
-    ensures unspelled { (text : List ℕ) (tokens : List Lexeme) (m : Module) → Lexes text tokens → read_whole module_form tokens ≡ None → Reads text m → ⊥ }
+    ensures unspelled { (text : List ℕ) (tokens : List Lexeme) (m : Module) → Lexes text tokens → ((written : WrittenModule) → Spells module_form written tokens → ⊥) → Reads text m → ⊥ }
     ensures unnumbered { (text : List ℕ) (tokens : List Lexeme) (written : WrittenModule) (m : Module) → Lexes text tokens → Spells module_form written tokens → numbered_module written ≡ None → Reads text m → ⊥ }
 {}
 
@@ -46,8 +45,7 @@ pub fn one_stop()
     ensures { (text : List ℕ) (i j : ℕ) → StopsAt text i → StopsAt text j → i ≡ j }
 {}
 
-/// Tokens spell a written module where reading them from left to right with one token ahead gives it, and only there.
-pub fn read_as_spelled()
-    ensures read { (written : WrittenModule) (tokens : List Lexeme) → Spells module_form written tokens → read_whole module_form tokens ≡ Some written }
-    ensures spelled { (written : WrittenModule) (tokens : List Lexeme) → read_whole module_form tokens ≡ Some written → Spells module_form written tokens }
+/// A text with tokens has no place with none.
+pub fn tokens_without_a_stop()
+    ensures { (text : List ℕ) (tokens : List Lexeme) (place : ℕ) → Lexes text tokens → StopsAt text place → ⊥ }
 {}

@@ -19,6 +19,10 @@ use ir_types::Module;
 use std::alloc::{AllocError, Global};
 
 /// Appends the text of a module, which is first made in memory of its own.
+///
+/// # Errors
+///
+/// Where there is no room for the text; then nothing is appended.
 #[tactic(auto, unfolding(crate::specs::Print::module_pieces), using(crate::proofs::Printed::readable_known, crate::proofs::Printed::printed_reads))]
 pub fn print_module(alloc: Global, m: &Module, out: &mut Vec<u8>) -> Result<(), AllocError>
     requires { IsReadable m.now }

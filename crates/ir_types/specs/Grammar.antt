@@ -50,6 +50,7 @@ some f = mapped (λ x. x.0 ∷ x.1) (pair f (many f))
 abbrev pub commas : {A : Type 0} → Form A → Form (List A)
 commas f = mapped (λ x. x.0 ∷ x.1) (pair f (many (marked Comma f)))
 
+-- the list where there is one, and else the empty one
 abbrev pub or_none : {A : Type 0} → Option (List A) → List A
 or_none None = []
 or_none (Some xs) = xs
@@ -78,9 +79,13 @@ int_type = either (word (codes "i1") (Int 1)) (word (codes "i32") (Int 32))
 
 -- a value as it is written
 pub data WrittenValue : Type 0 where
+  -- a local by its name
   named : Name → WrittenValue
+  -- a number, by its digits and a sign or none
   digits : List ℕ → WrittenValue
+  -- `true`
   yes : WrittenValue
+  -- `false`
   no : WrittenValue
 
 -- V := %name | number | true | false
@@ -108,6 +113,7 @@ operand_at t no = number 0
 abbrev pub two_values : Form (WrittenValue × WrittenValue)
 two_values = pair value (after_mark Comma value)
 
+-- an operation of two operands at one type, which is the result's
 abbrev pub binary_tree : BinOp → Ty × (WrittenValue × WrittenValue) → InstTree
 binary_tree op x = record { kind = kinds.Binary op; ty = x.0; args = operand_at x.0 x.1.0 ∷ operand_at x.0 x.1.1 ∷ []; labels = []; result = None }
 
@@ -130,6 +136,7 @@ predicates =
     (codes "sle", Sle) ∷
     []
 
+-- a comparison of two operands at one type, with a result of one bit
 abbrev pub compare_tree : Pred → Ty × (WrittenValue × WrittenValue) → InstTree
 compare_tree p x = record { kind = kinds.Compare p x.0; ty = Int 1; args = operand_at x.0 x.1.0 ∷ operand_at x.0 x.1.1 ∷ []; labels = []; result = None }
 
@@ -145,6 +152,7 @@ compare = by_word predicates compared
 unfoldable pub entry_of_phi : Form (WrittenValue × Name)
 entry_of_phi = between LeftBracket RightBracket (pair value (after_mark Comma local_name))
 
+-- a phi: its operands at its type, and a label for each
 abbrev pub phi_tree : Ty × List (WrittenValue × Name) → InstTree
 phi_tree x = record { kind = kinds.Phi; ty = x.0; args = map (λ e. operand_at x.0 e.0) x.1; labels = map (λ e. e.1) x.1; result = None }
 
@@ -156,9 +164,11 @@ phi = mapped phi_tree (pair int_type (commas entry_of_phi))
 unfoldable pub target : Form Name
 target = behind (codes "label") local_name
 
+-- a jump to a block
 abbrev pub jump_tree : Name → InstTree
 jump_tree l = record { kind = kinds.Jump; ty = Void; args = []; labels = l ∷ []; result = None }
 
+-- a condition, and the labels for true and for false
 abbrev pub branch_tree : WrittenValue × (Name × Name) → InstTree
 branch_tree x = record { kind = kinds.Branch; ty = Void; args = operand_at (Int 1) x.0 ∷ []; labels = x.1.0 ∷ x.1.1 ∷ []; result = None }
 
@@ -166,6 +176,7 @@ branch_tree x = record { kind = kinds.Branch; ty = Void; args = operand_at (Int 
 unfoldable pub branch : Form InstTree
 branch = either (mapped jump_tree target) (mapped branch_tree (behind (codes "i1") (pair value (pair (after_mark Comma target) (after_mark Comma target)))))
 
+-- a return of a value at its type
 abbrev pub return_tree : Ty × WrittenValue → InstTree
 return_tree x = record { kind = kinds.Return x.0; ty = Void; args = operand_at x.0 x.1 ∷ []; labels = []; result = None }
 
@@ -183,6 +194,7 @@ operation_behind operations.Add = binary Add
 operation_behind operations.Icmp = compare
 operation_behind operations.Phi = phi
 
+-- an instruction that doesn't end a block
 unfoldable pub operation : Form InstTree
 operation = by_word operation_words operation_behind
 
@@ -194,6 +206,7 @@ abbrev pub terminator_behind : Terminator → Form InstTree
 terminator_behind terminators.Br = branch
 terminator_behind terminators.Ret = ret
 
+-- an instruction that ends a block
 unfoldable pub terminator : Form InstTree
 terminator = by_word terminator_words terminator_behind
 
@@ -203,9 +216,11 @@ terminator = by_word terminator_words terminator_behind
 abbrev pub named_by : InstTree → Option Name → InstTree
 named_by i name = record { kind = i.kind; ty = i.ty; args = i.args; labels = i.labels; result = name }
 
+-- the instruction with the name behind the `%` as its result's
 abbrev pub with_result : List ℕ × (List ℕ × InstTree) → Option InstTree
 with_result x = name_behind x.0 >>= λ n. Some (named_by x.1.1 (Some n))
 
+-- the instruction with no name for its result
 abbrev pub without_result : InstTree → InstTree
 without_result i = named_by i None
 
@@ -213,6 +228,7 @@ without_result i = named_by i None
 abbrev pub line : Form InstTree → Form InstTree
 line f = either (made with_result (ahead Local (ahead Equal f))) (mapped without_result f)
 
+-- the instructions, with the terminator behind them
 abbrev pub block_tree : Option Name × (List InstTree × InstTree) → WrittenBlock
 block_tree x = record { label = x.0; insts = x.1.0 ++ x.1.1 ∷ [] }
 
@@ -224,6 +240,7 @@ block = mapped block_tree (pair (optional label) (pair (many (line operation)) (
 unfoldable pub parameter : Form WrittenParam
 parameter = mapped (λ x. record { ty = x.0; name = x.1 }) (pair int_type (optional local_name))
 
+-- the parts of a function, by their names
 abbrev pub function_tree : Ty × (Name × (List WrittenParam × List WrittenBlock)) → WrittenFunction
 function_tree x = record { name = x.1.0; ret = x.0; params = x.1.1.0; body = x.1.1.1 }
 

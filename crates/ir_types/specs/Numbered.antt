@@ -19,18 +19,21 @@ abbrev pub named : ℕ → Option Name → Option (Name × ℕ)
 named next (Some n) = Some (n, next_after next n)
 named next None = if nat_lt next (2 ^ 32) then Some (Number next, next + 1) else None
 
--- an instruction without a result takes no number
+-- the name of a result of this type: one of type `Void` without a name takes no number
 abbrev pub named_result : ℕ → Ty → Option Name → Option (Option Name × ℕ)
 named_result next Void None = Some (None, next)
 named_result next (Int w) None = named next None >>= λ x. Some (Some x.0, x.1)
 named_result next t (Some n) = named next (Some n) >>= λ x. Some (Some x.0, x.1)
 
+-- an instruction, whose result takes a number where it has no name
 abbrev pub numbered_inst : ℕ → InstTree → Option (InstTree × ℕ)
 numbered_inst next i = named_result next i.ty i.result >>= λ x. Some (named_by i x.0, x.1)
 
+-- a block, before its results
 abbrev pub numbered_block : ℕ → WrittenBlock → Option (BlockTree × ℕ)
 numbered_block next b = named next b.label >>= λ x. walk numbered_inst x.1 b.insts >>= λ y. Some (record { name = x.0; insts = y.0 }, y.1)
 
+-- a parameter
 abbrev pub numbered_param : ℕ → WrittenParam → Option (ParamTree × ℕ)
 numbered_param next p = named next p.name >>= λ x. Some (record { ty = p.ty; name = x.0 }, x.1)
 
@@ -39,6 +42,7 @@ abbrev pub numbered_function : Unit {0} → WrittenFunction → Option (Function
 numbered_function u f =
     walk numbered_param 0 f.params >>= λ x. walk numbered_block x.1 f.body >>= λ y. Some (record { name = f.name; ret = f.ret; params = x.0; body = y.0 }, u)
 
+-- a module: each function by itself
 abbrev pub numbered_module : WrittenModule → Option ModuleTree
 numbered_module m = walk numbered_function tt m.functions >>= λ x. Some (record { functions = x.0 })
 

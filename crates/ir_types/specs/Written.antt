@@ -38,10 +38,12 @@ unescaped_behind n [] = []
 unescaped_behind zero (c ∷ cs) = (byte_at c cs).0 ∷ unescaped_behind (byte_at c cs).1 cs
 unescaped_behind (suc n) (c ∷ cs) = unescaped_behind n cs
 
--- the bytes that a string stands for: `\\` is a backslash, a backslash and two hexadecimal digits are that byte
+-- the bytes that a string stands for: `\\` is a backslash, a backslash and two hexadecimal digits are that byte, and any other backslash
+-- stands for itself
 abbrev pub unescaped : List ℕ → List ℕ
 unescaped s = unescaped_behind 0 s
 
+-- all bytes but the last
 abbrev pub without_last : List ℕ → List ℕ
 without_last [] = []
 without_last (c ∷ []) = []

@@ -8,6 +8,7 @@ use lists::Few;
 pub enum Ty {
     /// An integer of so many bits.
     Int(u32),
+    /// No value.
     Void,
 }
 
@@ -18,18 +19,28 @@ pub enum BinOp {
     Add,
 }
 
-/// A predicate of `icmp`: equal or not, and the orders of unsigned (`U..`) and of signed (`S..`) numbers.
+/// A predicate of `icmp`, of the first operand against the second.
 #[derive(Clone, Copy, Debug, PartialEq, Eq)]
 pub enum Pred {
+    /// `eq`: equal.
     Eq,
+    /// `ne`: not equal.
     Ne,
+    /// `ugt`: greater, as unsigned numbers.
     Ugt,
+    /// `uge`: greater or equal, as unsigned numbers.
     Uge,
+    /// `ult`: less, as unsigned numbers.
     Ult,
+    /// `ule`: less or equal, as unsigned numbers.
     Ule,
+    /// `sgt`: greater, as signed numbers.
     Sgt,
+    /// `sge`: greater or equal, as signed numbers.
     Sge,
+    /// `slt`: less, as signed numbers.
     Slt,
+    /// `sle`: less or equal, as signed numbers.
     Sle,
 }
 
@@ -74,10 +85,14 @@ pub enum InstKind {
 /// An instruction.
 #[derive(Debug, Drop)]
 pub struct Inst {
+    /// What it does.
     pub kind: InstKind,
     /// The result's type, `Void` where there is no result.
     pub ty: Ty,
+    /// Its operands.
     pub args: Operands,
+    /// Its labels: those of a phi's entries, or where it goes.
     pub labels: Labels,
+    /// The name of its result, where it has one.
     pub result: Option<ValueId>,
 }

@@ -1,4 +1,4 @@
-// The names of values, and the table that numbers them.
+// The names of values, and the table in which each has its place.
 ghost use Rattle.std.specs.Prelude.{◌≡◌, ◌<◌, ◌^◌, ◌==◌, [], IfOk, OnOk, OnErr, length, slice_get};
 
 use indexmap::IndexSet;
@@ -6,14 +6,16 @@ use lists::Text;
 use std::alloc::{AllocError, Global};
 use std::marker::Model;
 
-/// The name of a value: a text, or a number where the program gave none.
+/// A name: a text, or a number, written in digits or taken by what has no name.
 #[derive(PartialEq, Eq, Hash, Debug, Drop)]
 pub enum Name {
+    /// The bytes that the name as it is written stands for: without quotes, and with no escapes.
     Text(Text),
+    /// A number, which is another name than the text of its digits.
     Number(u32),
 }
 
-/// The place of a name in its table of names.
+/// The place of a name in its table of names, the first of which stands at 0.
 #[derive(Clone, Copy, PartialEq, Eq, Debug, Default)]
 pub struct ValueId(pub u32);
 
@@ -59,7 +61,7 @@ impl Names {
         self.set.len()
     }
 
-    /// The name with a number.
+    /// The name at a place.
     pub fn get(&self, id: ValueId) -> &Name
         requires { id.0 < length self.now }
         ensures { name_at self.now id.0 ≡ result.now }
@@ -67,8 +69,11 @@ impl Names {
         &self.set[id.0 as usize]
     }
 
-    /// The number of a name, which is added at the end where the table has no equal one. A table whose numbers are used up is
-    /// out of memory.
+    /// The place of a name, which is added at the end where the table has no equal one.
+    ///
+    /// # Errors
+    ///
+    /// Where there is no room for the name, and at each name where the table has 2^32 - 1 names.
     pub fn add(&mut self, name: Name) -> Result<ValueId, AllocError>
         ensures grows { Extends self.old self.new }
         ensures place { IfOk result (λ id. name_at self.new id.0 ≡ name) }
@@ -91,7 +96,7 @@ mod tests {
     use std::test::Fail;
 
     #[test]
-    fn equal_names_have_one_number(rt: HostRuntime) -> Result<(), Fail> {
+    fn equal_names_have_one_place(rt: HostRuntime) -> Result<(), Fail> {
         let mut names = Names::new(rt.alloc());
         let first = names.add(Name::Text(Text::from_slice(rt.alloc(), b"x")?))?;
         let second = names.add(Name::Number(7))?;

@@ -60,6 +60,7 @@ is_mark Decimal = false
 is_mark Hexadecimal = false
 is_mark NamedGroup = false
 
+-- there is no byte
 abbrev pub is_empty : List ℕ → Bool
 is_empty [] = true
 is_empty (c ∷ cs) = false

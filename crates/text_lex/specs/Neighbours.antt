@@ -7,6 +7,7 @@ use Rattle.forms.specs.declared.Part.{Part}
 use Rattle.forms.specs.declared.Part.TheVariants.{One, Perhaps, Run}
 use Rattle.forms.specs.Lexical.{has, after, and_then, table}
 
+-- the test holds for each byte
 abbrev pub all_of : (ℕ → Bool) → List ℕ → Bool
 all_of p [] = true
 all_of p (c ∷ cs) = p c && all_of p cs
@@ -16,6 +17,7 @@ abbrev pub behind : List Part → List ℕ → Option (List Part)
 behind ps [] = Some ps
 behind ps (c ∷ cs) = and_then (after ps c) (λ qs. behind qs cs) None
 
+-- no parts may follow
 abbrev pub nothing : Option (List Part) → Bool
 nothing None = true
 nothing (Some ps) = false
@@ -25,6 +27,7 @@ abbrev pub ends : List (TokenKind × List Part) → List ℕ → ℕ → Bool
 ends [] w c = true
 ends (r ∷ rs) w c = nothing (behind r.1 (w ++ c ∷ [])) && ends rs w c
 
+-- the class of what stands between quotes
 abbrev pub is_quoted : Class → Bool
 is_quoted (Byte b) = false
 is_quoted Digit = false
@@ -44,13 +47,14 @@ avoids c (One p ∷ ps) = not (has p c) && avoids c ps
 avoids c (Perhaps p ∷ ps) = not (has p c) && avoids c ps
 avoids c (Run p ∷ ps) = (is_quoted p || not (has p c)) && avoids c ps
 
--- no part but the first
+-- the same of each part but the first, and of the first where it is a run
 abbrev pub avoids_later : ℕ → List Part → Bool
 avoids_later c [] = true
 avoids_later c (One p ∷ ps) = avoids c ps
 avoids_later c (Perhaps p ∷ ps) = avoids c ps
 avoids_later c (Run p ∷ ps) = avoids c (Run p ∷ ps)
 
+-- the same of each row
 abbrev pub avoided : ℕ → List (TokenKind × List Part) → Bool
 avoided c [] = true
 avoided c (r ∷ rs) = avoids_later c r.1 && avoided c rs
@@ -61,6 +65,7 @@ separates c = avoided c table
 
 -- ---- quotes come in pairs
 
+-- the class of the quote alone
 abbrev pub is_quote : Class → Bool
 is_quote (Byte b) = b == 34
 is_quote Digit = false
@@ -73,6 +78,7 @@ is_quote Exponent = false
 is_quote Sign = false
 is_quote NotQuote = false
 
+-- a class without the quote that is not that of what stands between quotes
 abbrev pub is_plain : Class → Bool
 is_plain p = not (has p 34) && not (is_quoted p)
 
@@ -97,6 +103,7 @@ in_pairs (Run p ∷ ps) outside = is_plain p && in_pairs ps outside
 in_pairs (Run p ∷ ps) inside = is_quoted p && in_pairs ps closing
 in_pairs (Run p ∷ ps) closing = false
 
+-- so it is in each row
 abbrev pub all_in_pairs : List (TokenKind × List Part) → Bool
 all_in_pairs [] = true
 all_in_pairs (r ∷ rs) = in_pairs r.1 outside && all_in_pairs rs

@@ -21,6 +21,7 @@ join k None b = b
 join k (Some n) None = Some (k, n)
 join k (Some n) (Some b) = if nat_lt n b.1 then Some b else Some (k, n)
 
+-- the kind and the length of the longest front that a row spells, of equal ones the first row's
 abbrev pub best : List (TokenKind × List Part) → List ℕ → Option (TokenKind × ℕ)
 best [] cs = None
 best (r ∷ rs) cs = join r.0 (front r.1 cs) (best rs cs)
@@ -30,11 +31,12 @@ abbrev pub colon_behind : List ℕ → Bool
 colon_behind [] = false
 colon_behind (c ∷ cs) = if has NamePart c then colon_behind cs else c == 58
 
--- where in the table the rows stand that may begin with the byte: the first, and how many
+-- where in the table the rows of marks stand that may begin with the byte: the first, and how many
 abbrev pub mark_range : ℕ → ℕ × ℕ
 mark_range c =
     (if c == 61 then (24, 1) else (if c == 44 then (25, 1) else (if c == 40 then (26, 1) else (if c == 41 then (27, 1) else (if c == 91 then (28, 1) else (if c == 93 then (29, 1) else (if c == 123 then (30, 1) else (if c == 125 then (31, 1) else (if c == 60 then (32, 1) else (if c == 62 then (33, 1) else (if c == 42 then (34, 1) else (if c == 58 then (35, 1) else (if c == 124 then (36, 1) else (0, 0))))))))))))))
 
+-- the same of all rows
 abbrev pub range : ℕ → ℕ × ℕ
 range c =
     (if c == 34 then (0, 2) else
@@ -50,7 +52,7 @@ range c =
     (if c == 35 then (22, 2) else
     mark_range c)))))))))))
 
--- the same without row 2, the labels that are plain names, where no colon stands behind the name at the front
+-- the same, but for the row of labels that begin like a name, which is left out where no colon stands behind the name at the front
 abbrev pub rows_for : ℕ → Bool → ℕ × ℕ
 rows_for c colon = if not colon && ((range c).0 == 2) then ((range c).0 + 1, (range c).1 - 1) else range c
 
@@ -58,6 +60,7 @@ rows_for c colon = if not colon && ((range c).0 == 2) then ((range c).0 + 1, (ra
 abbrev pub starts : ℕ → List Part → Bool
 starts c ps = may_end ps || and_then (after ps c) (λ qs. true) false
 
+-- no row begins with the byte
 abbrev pub none_starts : ℕ → List (TokenKind × List Part) → Bool
 none_starts c [] = true
 none_starts c (r ∷ rs) = not (starts c r.1) && none_starts c rs
@@ -66,6 +69,7 @@ none_starts c (r ∷ rs) = not (starts c r.1) && none_starts c rs
 unfoldable pub is_covered : ℕ → Bool
 is_covered c = none_starts c (take (range c).0 table) && none_starts c (drop ((range c).0 + (range c).1) table)
 
+-- the test holds for each number below this
 abbrev pub all_below : ℕ → (ℕ → Bool) → Bool
 all_below zero p = true
 all_below (suc n) p = p n && all_below n p

@@ -28,6 +28,7 @@ few Exponent = 101 ∷ 69 ∷ []
 few Sign = 43 ∷ 45 ∷ []
 few NotQuote = []
 
+-- the class is one of few bytes
 abbrev pub is_few : Class → Bool
 is_few (Byte b) = true
 is_few Digit = false
@@ -58,6 +59,7 @@ decides (One p ∷ ps) = decides ps
 decides (Perhaps p ∷ ps) = none_begins p ps && decides ps
 decides (Run p ∷ ps) = none_begins p ps && decides ps
 
+-- so it is in each row
 abbrev pub all_decide : List (TokenKind × List Part) → Bool
 all_decide [] = true
 all_decide (r ∷ rs) = decides r.1 && all_decide rs

@@ -1,4 +1,4 @@
-//! Why a text has no list of tokens.
+//! Why nothing is made of a text.
 
 ghost use Rattle.std.specs.Prelude.{◌≡◌};
 ghost use Rattle.text_lex.specs.declared.fault.TextFault.TheVariants.{Memory};
@@ -6,15 +6,16 @@ ghost use Rattle.text_lex.specs.declared.fault.TextFault.TheVariants.{Memory};
 use std::alloc::{AllocError, AllocFailed};
 use thiserror::Error;
 
-/// Why a text has no list of tokens.
+/// Why nothing is made of a text: no list of tokens, or none of what the tokens are read as.
 #[derive(Clone, Copy, Debug, PartialEq, Eq, Error)]
 pub enum TextFault {
     /// The text has this many bytes, which are too many.
     #[error("the text is too long")]
     TextLimit(u64),
-    /// At this place, in bytes from the text's begin, no token begins.
-    #[error("no token begins here")]
+    /// Reading stopped at this place, in bytes from the text's begin.
+    #[error("reading stopped here")]
     NoReading(u32),
+    /// There was no memory for what is made of the text.
     #[error("out of memory")]
     Memory,
 }

@@ -4,12 +4,13 @@ use Rattle.std.specs.Io.KnownBytes.{Appends}
 use Rattle.std.specs.declared.option.Option.{Option}
 use Rattle.std.specs.declared.option.Option.TheVariants.{None, Some}
 use Rattle.std.specs.declared.result.Result.{Result}
+use Rattle.vplan_io.specs.declared.TheConstants.{LONGEST}
 use Rattle.vplan_io.specs.declared.LoadFault.{LoadFault}
 use Rattle.vplan_io.specs.declared.LoadFault.TheVariants.{Failed as LoadFailed, TooLong, Memory}
 
 -- the most bytes of a file that is loaded
 abbrev pub longest : ℕ
-longest = 16777216
+longest = LONGEST
 
 -- a count one higher; at the end of its type it stays
 abbrev pub raised : ℕ → ℕ

@@ -1,29 +1,33 @@
-// Sources of files and sinks of bytes, which count their faults.
+//! Sources of files and sinks of bytes, which count their faults.
 #![tactic(auto)]
 
 ghost use Rattle.std.specs.Prelude.{◌≡◌, ◌+◌, ◌≤◌, ℕ, List, Option, IfOk, length, MatchResult};
 ghost use Rattle.vplan_io.specs.Causes.{longest, HasCause, IsWhole, LoadCause, Takes};
 
-pub mod memory;
-pub mod outside;
-pub mod pieces;
+mod memory;
+mod outside;
+mod pieces;
 
 pub use memory::{Shelf, SureShelf, SureTray, Tray};
 pub use outside::{Folder, Stream};
-pub use pieces::put_text;
+pub use pieces::{PIECE, put_text};
 use std::alloc::Global;
+use thiserror::Error;
 
 /// The most bytes of a file that is loaded.
 pub const LONGEST: usize = 16_777_216;
 
 /// Why a load gives no bytes.
-#[derive(Debug, Drop)]
+#[derive(Debug, Drop, Error)]
 pub enum LoadFault {
     /// The source failed, and counted a fault of that name.
+    #[error("the file could not be read")]
     Failed,
     /// The file has more than `LONGEST` bytes.
+    #[error("the file is too long")]
     TooLong,
     /// There was no memory for the bytes.
+    #[error("out of memory")]
     Memory,
 }
 
