@@ -19,9 +19,11 @@ use Rattle.ir_printer.specs.Texts.{name_text, signed_text}
 
 -- ---- tokens
 
+-- a token of a kind
 abbrev pub token : TokenKind → List ℕ → Lexeme
 token k s = record { kind = k; text = s }
 
+-- the token of a word, and then those of the marks
 abbrev pub word : List ℕ → Piece
 word s = lexeme (token kinds.Word s)
 
@@ -51,6 +53,7 @@ right_brace = lexeme (token kinds.RightBrace (codes "}"))
 
 -- ---- white space
 
+-- a space; then the end of a line, and what stands before an instruction
 abbrev pub blank : Piece
 blank = gap (32 ∷ [])
 
@@ -72,6 +75,7 @@ abbrev pub separated : List Piece → List (List Piece) → List Piece
 separated s [] = []
 separated s (p ∷ ps) = p ++ each_behind s ps
 
+-- the parts with a comma and a space between them
 abbrev pub with_commas : List (List Piece) → List Piece
 with_commas ps = separated (comma ∷ blank ∷ []) ps
 
@@ -89,6 +93,7 @@ global_token n = token kinds.Global (64 ∷ name_text n)
 abbrev pub label_token : Name → Lexeme
 label_token n = token kinds.Label (name_text n ++ 58 ∷ [])
 
+-- the word of a type
 unfoldable pub type_word : Ty → List ℕ
 type_word (Int w) = 105 ∷ decimal w
 type_word Void = codes "void"
@@ -98,18 +103,22 @@ unfoldable pub number_token : Ty → ℕ → Lexeme
 number_token t v =
     if width_of t == 1 then (if v == 1 then token kinds.Word (codes "true") else token kinds.Word (codes "false")) else token kinds.Number (signed_text (width_of t) v)
 
+-- an operand: %name, or a number at the type
 abbrev pub operand_token : Ty → OperandTree → Lexeme
 operand_token t (local n) = local_token n
 operand_token t (number v) = number_token t v
 
+-- the same as pieces
 abbrev pub operand_pieces : Ty → OperandTree → List Piece
 operand_pieces t a = lexeme (operand_token t a) ∷ []
 
 -- ---- instructions
 
+-- the word of an operator
 unfoldable pub operator_word : BinOp → List ℕ
 operator_word Add = codes "add"
 
+-- the word of a predicate
 unfoldable pub predicate_word : Pred → List ℕ
 predicate_word Eq = codes "eq"
 predicate_word Ne = codes "ne"
@@ -130,6 +139,7 @@ typed_pieces t args = blank ∷ word (type_word t) ∷ blank ∷ with_commas (ma
 abbrev pub target_pieces : Name → List Piece
 target_pieces l = word (codes "label") ∷ blank ∷ lexeme (local_token l) ∷ []
 
+-- the labels with commas between them
 abbrev pub targets_pieces : List Name → List Piece
 targets_pieces ls = with_commas (map target_pieces ls)
 
@@ -143,6 +153,7 @@ entries_of t (a ∷ args) (l ∷ labels) = entry_pieces t a l ∷ entries_of t a
 entries_of t [] labels = []
 entries_of t args [] = []
 
+-- an instruction behind its result
 abbrev pub kind_pieces : InstKind → Ty → List OperandTree → List Name → List Piece
 kind_pieces (Binary op) t args labels = word (operator_word op) ∷ typed_pieces t args
 kind_pieces (Compare p u) t args labels = word (codes "icmp") ∷ blank ∷ word (predicate_word p) ∷ typed_pieces u args
@@ -166,6 +177,7 @@ inst_pieces i = result_pieces i.result ++ (kind_pieces i.kind i.ty i.args i.labe
 unfoldable pub block_pieces : BlockTree → List Piece
 block_pieces b = lexeme (label_token b.name) ∷ line_feed ∷ each_behind (indent ∷ []) (map inst_pieces b.insts)
 
+-- T %name
 abbrev pub param_pieces : ParamTree → List Piece
 param_pieces p = word (type_word p.ty) ∷ blank ∷ lexeme (local_token p.name) ∷ []
 
@@ -174,10 +186,10 @@ abbrev pub head_pieces : FunctionTree → List Piece
 head_pieces f =
     word (codes "define") ∷ blank ∷ word (type_word f.ret) ∷ blank ∷ lexeme (global_token f.name) ∷ left_paren ∷ (with_commas (map param_pieces f.params) ++ (right_paren ∷ blank ∷ left_brace ∷ line_feed ∷ []))
 
--- the blocks are parted by empty lines
+-- the head, the blocks with empty lines between them, and the last brace on a line
 unfoldable pub function_pieces : FunctionTree → List Piece
 function_pieces f = head_pieces f ++ (separated (line_feed ∷ []) (map block_pieces f.body) ++ (right_brace ∷ line_feed ∷ []))
 
--- so are the functions
+-- the functions with empty lines between them
 unfoldable pub module_pieces : ModuleTree → List Piece
 module_pieces m = separated (line_feed ∷ []) (map function_pieces m.functions)

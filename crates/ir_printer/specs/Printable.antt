@@ -20,6 +20,7 @@ abbrev pub IsInt : Ty → Type 0
 IsInt (Int w) = (w ≡ 1) ⊎ (w ≡ 32)
 IsInt Void = ⊥
 
+-- a name, or a number of the type
 abbrev pub IsOperand : Ty → OperandTree → Type 0
 IsOperand t (local n) = IsName n
 IsOperand t (number v) = v < 2 ^ width_of t
@@ -49,6 +50,7 @@ pub record IsBody (i : InstTree) : Type 0 where
   pub args : AllByRecursion (IsOperand (operand_type i.kind i.ty)) i.args
   pub labels : AllByRecursion IsName i.labels
 
+-- a name, where there is one
 abbrev pub IsNameThere : Option Name → Type 0
 IsNameThere None = Unit {0}
 IsNameThere (Some n) = IsName n
@@ -59,6 +61,7 @@ IsResult (Int w) None = ⊥
 IsResult Void None = Unit {0}
 IsResult t (Some n) = IsName n
 
+-- an instruction, with its result's name where its type has a value
 pub record IsInst (i : InstTree) : Type 0 where
   pub body : IsBody i
   pub result : IsResult i.ty i.result
@@ -78,15 +81,18 @@ EndsOnce [] = ⊥
 EndsOnce (k ∷ []) = IsTerminator k
 EndsOnce (k ∷ l ∷ ks) = (¬ IsTerminator k) × EndsOnce (l ∷ ks)
 
+-- a block: a name, and instructions of which the last and no other is a terminator
 pub record IsBlock (b : BlockTree) : Type 0 where
   pub name : IsName b.name
   pub insts : AllByRecursion IsInst b.insts
   pub ending : EndsOnce (map (λ i. i.kind) b.insts)
 
+-- a parameter: a type that is written, and a name
 pub record IsParam (p : ParamTree) : Type 0 where
   pub ty : IsInt p.ty
   pub name : IsName p.name
 
+-- a function, with at least one block
 pub record IsFunction (f : FunctionTree) : Type 0 where
   pub name : IsName f.name
   pub ret : IsInt f.ret
@@ -94,5 +100,6 @@ pub record IsFunction (f : FunctionTree) : Type 0 where
   pub blocks : AllByRecursion IsBlock f.body
   pub some : 0 < length f.body
 
+-- a module: its functions
 abbrev pub IsModule : ModuleTree → Type 0
 IsModule m = AllByRecursion IsFunction m.functions

@@ -23,7 +23,7 @@ pub record IsPlace (text : List ℕ) (place : ℕ) : Type 0 where
   pub placed : Places (length text) text tokens []
   pub here : StartsAt tokens place ⊎ (place ≡ length text)
 
--- where reading stops: at such a place, or where no token begins, in a text that has such a place
+-- where reading stops: at such a place, or where the text's tokens stop before its end
 abbrev pub IsStop : List ℕ → ℕ → Type 0
 IsStop text place = IsPlace text place ⊎ StopsAt text place
 

@@ -15,6 +15,7 @@ use ir_types::{Name, Names, Ty, ValueId};
 /// How far a function's numbers are taken: the next one, 2^32 where none is left.
 #[derive(Drop)]
 pub struct Numbering {
+    /// The number for the next thing without a name.
     pub next: u64,
     ghost within: { next ≤ 2 ^ 32 },
 }

@@ -40,6 +40,7 @@ text_status (TextLimit n) = Text (TextLimit n)
 text_status (NoReading place) = Text (NoReading place)
 text_status TextMemory = Memory
 
+-- its name in a line of the notes
 abbrev pub name_of : Which → List ℕ
 name_of TheModule = codes "module"
 name_of Out = codes "out"
@@ -113,6 +114,7 @@ WriteCause before now Memory = Unit {0}
 abbrev pub FileCompletes : Option (List ℕ) → (file_rose out_rose : Type 0) → Status → Type 0
 FileCompletes told file_rose out_rose status = IfSome told (λ text. IsAccepted text → ¬ file_rose → ¬ out_rose → (status ≡ Done) ⊎ (status ≡ Memory))
 
+-- the same for any words
 abbrev pub Completes : Option (List ℕ) → (List ℕ → Option (List ℕ)) → (file_rose : List ℕ → Type 0) → (out_rose : Type 0) → Status → Type 0
 Completes None told file_rose out_rose status = Unit {0}
 Completes (Some file) told file_rose out_rose status = FileCompletes (told file) (file_rose file) out_rose status

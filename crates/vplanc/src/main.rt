@@ -9,14 +9,13 @@ mod tests;
 mod words;
 
 use crate::answer::Status;
-use crate::message::put_line;
 use crate::run::run;
 use std::env;
 use std::io::ErrorKind;
 use std::process::ExitCode;
 use vplan_io::{Folder, Stream};
 
-// The words behind the program's name; else the status to end with.
+// The words behind the program's name; else the status to end with, without a line.
 fn words_given(rt: &HostRuntime) -> Result<Vec<String>, Status> {
     let args = match env::args(rt) {
         Ok(args) => args,
@@ -30,16 +29,13 @@ fn words_given(rt: &HostRuntime) -> Result<Vec<String>, Status> {
 }
 
 fn main(rt: HostRuntime) -> ExitCode {
-    let mut notes = Stream::new(rt.stderr());
     let words = match words_given(&rt) {
         Ok(words) => words,
-        Err(status) => {
-            put_line(status, &mut notes);
-            return ExitCode::from(status.code());
-        }
+        Err(status) => return ExitCode::from(status.code()),
     };
     let mut files = Folder::new(&rt);
     let mut out = Stream::new(rt.stdout());
+    let mut notes = Stream::new(rt.stderr());
     let status = run(
         rt.alloc(),
         words.as_slice(),
