@@ -5,3 +5,11 @@ pub mod Grammar
 pub mod Numbered
 pub mod Denotes
 pub mod Reads
+pub mod Values
+pub mod Memory
+pub mod State
+pub mod Meaning
+pub mod Runs
+pub mod Refines
+pub mod Fits
+pub mod Allows

@@ -1,7 +1,7 @@
 -- What a table of names is, and what adding a name does to it.
-use Rattle.std.specs.Prelude.{ℕ, zero, suc, ◌≡◌, ◌≢◌, ◌^◌, ◌<◌, ◌⊎◌, List, [], ◌∷◌, ◌++◌, length, Contains, AllPairs}
+use Rattle.std.specs.Prelude.{ℕ, zero, suc, ◌≡◌, ◌≢◌, ◌^◌, ◌<◌, ◌⊎◌, Bool, false, nat_eq, bytes_eq, List, [], ◌∷◌, ◌++◌, length, Contains, AllPairs}
 use Rattle.ir_types.specs.declared.name.Name.{Name}
-use Rattle.ir_types.specs.declared.name.Name.TheVariants.{Number}
+use Rattle.ir_types.specs.declared.name.Name.TheVariants.{Text, Number}
 
 -- no name stands twice, and each place fits 32 bits
 pub record IsTable (names : List Name) : Type 0 where
@@ -18,3 +18,10 @@ abbrev pub name_at : List Name → ℕ → Name
 name_at [] i = Number (2 ^ 32)
 name_at (n ∷ ns) zero = n
 name_at (n ∷ ns) (suc i) = name_at ns i
+
+-- whether two names are one
+abbrev pub same_name : Name → Name → Bool
+same_name (Text s) (Text t) = bytes_eq s t
+same_name (Text s) (Number n) = false
+same_name (Number m) (Text t) = false
+same_name (Number m) (Number n) = nat_eq m n

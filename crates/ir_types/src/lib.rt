@@ -1,12 +1,15 @@
-//! The types of a module of LLVM's textual IR, and in specs/ what a text means: which module it reads as.
+//! The types of a module of LLVM's textual IR, and in specs/ what they mean: which module a text reads as, how a module runs, and
+//! which other modules it allows.
 #![tactic(auto)]
 
 mod inst;
 mod module;
 mod name;
 mod opcode;
+mod value;
 
 pub use inst::{BinOp, Inst, InstKind, Labels, Operand, Operands, Pred, Ty};
 pub use module::{Block, Function, Module, Param};
 pub use name::{Name, Names, ValueId};
 pub use opcode::{Operation, Terminator};
+pub use value::{Allocation, Byte, Pointer, Value};

@@ -1,0 +1,132 @@
+-- Small modules, to try the definitions on.
+use Rattle.std.specs.Prelude.{ℕ, codes, List, [], ◌∷◌, map, Some, None}
+use Rattle.ir_types.specs.declared.name.Name.{Name}
+use Rattle.ir_types.specs.declared.name.Name.TheVariants.{Text, Number}
+use Rattle.ir_types.specs.declared.name.ValueId.{ValueId}
+use Rattle.ir_types.specs.declared.inst.Ty.{Ty}
+use Rattle.ir_types.specs.declared.inst.Ty.TheVariants.{Int as IntTy, Void}
+use Rattle.ir_types.specs.declared.inst.BinOp.TheVariants.{Add}
+use Rattle.ir_types.specs.declared.inst.Pred.{Pred}
+use Rattle.ir_types.specs.declared.inst.Pred.TheVariants.{Ne}
+use Rattle.ir_types.specs.declared.inst.Operand.{Operand}
+use Rattle.ir_types.specs.declared.inst.Operand.TheVariants.{Local, Int as IntOperand}
+use Rattle.ir_types.specs.declared.inst.InstKind.TheVariants.{Binary, Compare, Phi, Jump, Branch, Return}
+use Rattle.ir_types.specs.declared.inst.Inst.{Inst}
+use Rattle.ir_types.specs.declared.module.Block.{Block}
+use Rattle.ir_types.specs.declared.module.Param.{Param}
+use Rattle.ir_types.specs.declared.module.Module.{Module}
+use Rattle.ir_types.specs.declared.value.Value.{Value}
+use Rattle.ir_types.specs.declared.value.Value.TheVariants.{Int}
+use Rattle.ir_types.specs.Values.{Typed}
+use Rattle.ir_types.specs.State.{World}
+
+-- the name `@f`
+abbrev pub f : Name
+f = Text (codes "f")
+
+abbrev pub id : ℕ → ValueId
+id n = record { 0 = n }
+
+-- `%n`
+abbrev pub at : ℕ → Operand
+at n = Local (id n)
+
+abbrev pub i1 : Ty
+i1 = IntTy 1
+
+abbrev pub i32 : Ty
+i32 = IntTy 32
+
+abbrev pub int32 : ℕ → Value
+int32 x = Int 32 x
+
+abbrev pub bit : ℕ → Value
+bit x = Int 1 x
+
+-- a returned value
+abbrev pub of_i32 : ℕ → Typed
+of_i32 x = record { ty = i32; value = int32 x }
+
+abbrev pub param : Ty → ℕ → Param
+param t n = record { ty = t; name = id n }
+
+-- ---- instructions
+
+-- `br label %n`
+abbrev pub jump : ℕ → Inst
+jump n = record { kind = Jump; ty = Void; args = []; labels = id n ∷ []; result = None }
+
+-- `br i1 %c, label %on, label %off`
+abbrev pub branch : (c on off : ℕ) → Inst
+branch c on off = record { kind = Branch; ty = Void; args = at c ∷ []; labels = id on ∷ id off ∷ []; result = None }
+
+-- `ret i32 x`
+abbrev pub ret : Operand → Inst
+ret x = record { kind = Return i32; ty = Void; args = x ∷ []; labels = []; result = None }
+
+-- `%n = phi i32 [ x, %l ], [ y, %m ]`
+abbrev pub phi : (n : ℕ) (x : Operand) (l : ℕ) (y : Operand) (m : ℕ) → Inst
+phi n x l y m = record { kind = Phi; ty = i32; args = x ∷ y ∷ []; labels = id l ∷ id m ∷ []; result = Some (id n) }
+
+-- `%n = add i32 x, y`
+abbrev pub add : (n : ℕ) → (x y : Operand) → Inst
+add n x y = record { kind = Binary Add; ty = i32; args = x ∷ y ∷ []; labels = []; result = Some (id n) }
+
+-- `%n = icmp p i32 x, y`
+abbrev pub icmp : (n : ℕ) → Pred → (x y : Operand) → Inst
+icmp n p x y = record { kind = Compare p i32; ty = i1; args = x ∷ y ∷ []; labels = []; result = Some (id n) }
+
+abbrev pub block : ℕ → List Inst → Block
+block n insts = record { name = id n; insts = insts }
+
+-- a module with the function `@f` alone, whose names are numbers
+abbrev pub one_function : List Param → List Block → Module
+one_function params body = record {
+  functions = record { name = f; ret = i32; params = params; body = body; names = map Number (0 ∷ 1 ∷ 2 ∷ 3 ∷ 4 ∷ 5 ∷ 6 ∷ 7 ∷ []) } ∷ [];
+}
+
+abbrev pub no_world : World
+no_world = record { replies = []; numbers = [] }
+
+-- ---- modules
+
+-- define i32 @f(i32 %0, i1 %1): from %2 to the block `on` where %1 is 1, else to `off`; %3 goes on to %4, which returns
+-- phi i32 [ %0, %2 ], [ x, %3 ]
+abbrev pub chooses_with : (on off x : ℕ) → Module
+chooses_with on off x =
+    one_function (param i32 0 ∷ param i1 1 ∷ []) (block 2 (branch 1 on off ∷ []) ∷ block 3 (jump 4 ∷ []) ∷ block 4 (phi 5 (at 0) 2 (IntOperand x) 3 ∷ ret (at 5) ∷ []) ∷ [])
+
+-- the first example of the README: to %3 where %1 is 1, and there 7 comes out
+abbrev pub chooses : Module
+chooses = chooses_with 3 4 7
+
+-- the same with the branch's targets in each other's place
+abbrev pub swapped : Module
+swapped = chooses_with 4 3 7
+
+-- the same with another number in the phi's second entry
+abbrev pub another_entry : Module
+another_entry = chooses_with 3 4 8
+
+-- the same, but the first block goes to itself for ever
+abbrev pub loops : Module
+loops =
+    one_function (param i32 0 ∷ param i1 1 ∷ []) (block 2 (jump 2 ∷ []) ∷ block 3 (jump 4 ∷ []) ∷ block 4 (phi 5 (at 0) 2 (IntOperand 7) 3 ∷ ret (at 5) ∷ []) ∷ [])
+
+-- no function
+abbrev pub empty : Module
+empty = record { functions = [] }
+
+-- define i32 @f(): %1 = add i32 x, y; ret i32 %1
+abbrev pub adds : (x y : ℕ) → Module
+adds x y = one_function [] (block 0 (add 1 (IntOperand x) (IntOperand y) ∷ ret (at 1) ∷ []) ∷ [])
+
+-- define i32 @f(): returns 1 where the predicate holds of x and y, and else 0
+abbrev pub tests : Pred → (x y : ℕ) → Module
+tests p x y =
+    one_function [] (block 0 (icmp 1 p (IntOperand x) (IntOperand y) ∷ branch 1 2 3 ∷ []) ∷ block 2 (ret (IntOperand 1) ∷ []) ∷ block 3 (ret (IntOperand 0) ∷ []) ∷ [])
+
+-- define i32 @f(): the second time in %1, %2 is 10 and %3 is what %2 was before, which is returned
+abbrev pub reads_the_old : Module
+reads_the_old =
+    one_function [] (block 0 (jump 1 ∷ []) ∷ block 1 (phi 2 (IntOperand 5) 0 (IntOperand 10) 1 ∷ phi 3 (IntOperand 0) 0 (at 2) 1 ∷ icmp 4 Ne (at 3) (IntOperand 0) ∷ branch 4 5 1 ∷ []) ∷ block 5 (ret (at 3) ∷ []) ∷ [])

@@ -1,0 +1,37 @@
+-- Memories.
+use Rattle.std.specs.Prelude.{ℕ, ◌+◌, Bool, true, false, if◌then◌else◌, nat_eq, ◌&&◌, List, [], ◌∷◌, length, Option, Some, None}
+use Rattle.ir_types.specs.declared.name.Name.{Name}
+use Rattle.ir_types.specs.declared.value.Pointer.{Pointer}
+use Rattle.ir_types.specs.declared.value.Byte.{Byte}
+use Rattle.ir_types.specs.declared.value.Byte.TheVariants.{Number, Poison, Part}
+use Rattle.ir_types.specs.declared.value.Allocation.{Allocation}
+
+-- allocations, and for each name the pointer that a symbol of this name stands for
+pub record Memory : Type 0 where
+  pub allocations : List Allocation
+  pub symbols : Name → Pointer
+
+-- ---- pointers in bytes
+
+abbrev pub same_allocation : Option ℕ → Option ℕ → Bool
+same_allocation None None = true
+same_allocation None (Some b) = false
+same_allocation (Some a) None = false
+same_allocation (Some a) (Some b) = nat_eq a b
+
+abbrev pub same_pointer : Pointer → Pointer → Bool
+same_pointer p q = nat_eq p.address q.address && same_allocation p.allocation q.allocation
+
+-- whether the bytes are the parts of a pointer, from part k on
+abbrev pub are_parts : Pointer → ℕ → List Byte → Bool
+are_parts p k [] = true
+are_parts p k (Number b ∷ bytes) = false
+are_parts p k (Poison ∷ bytes) = false
+are_parts p k (Part q j ∷ bytes) = same_pointer p q && nat_eq j k && are_parts p (k + 1) bytes
+
+-- the pointer as which eight bytes read: its parts 0 to 7
+abbrev pub pointer_of : List Byte → Option Pointer
+pointer_of [] = None
+pointer_of (Number b ∷ bytes) = None
+pointer_of (Poison ∷ bytes) = None
+pointer_of (Part p k ∷ bytes) = if nat_eq (length bytes) 7 && are_parts p 0 (Part p k ∷ bytes) then Some p else None
