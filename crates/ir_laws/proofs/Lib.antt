@@ -1,1 +1,3 @@
 mod Readings
+pub mod Steps
+pub mod Order

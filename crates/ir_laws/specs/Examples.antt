@@ -1,5 +1,5 @@
 -- Small modules, to try the definitions on.
-use Rattle.std.specs.Prelude.{ℕ, codes, List, [], ◌∷◌, map, Some, None}
+use Rattle.std.specs.Prelude.{ℕ, ◌+◌, codes, List, [], ◌∷◌, map, Some, None}
 use Rattle.ir_types.specs.declared.name.Name.{Name}
 use Rattle.ir_types.specs.declared.name.Name.TheVariants.{Text, Number}
 use Rattle.ir_types.specs.declared.name.ValueId.{ValueId}
@@ -18,7 +18,9 @@ use Rattle.ir_types.specs.declared.module.Module.{Module}
 use Rattle.ir_types.specs.declared.value.Value.{Value}
 use Rattle.ir_types.specs.declared.value.Value.TheVariants.{Int}
 use Rattle.ir_types.specs.Values.{Typed}
+use Rattle.ir_types.specs.Memory.{Memory}
 use Rattle.ir_types.specs.State.{World}
+use Rattle.ir_types.specs.Runs.{Observation, Returned, observed}
 
 -- the name `@f`
 abbrev pub f : Name
@@ -85,9 +87,6 @@ one_function params body = record {
   functions = record { name = f; ret = i32; params = params; body = body; names = map Number (0 ∷ 1 ∷ 2 ∷ 3 ∷ 4 ∷ 5 ∷ 6 ∷ 7 ∷ []) } ∷ [];
 }
 
-abbrev pub no_world : World
-no_world = record { replies = []; numbers = [] }
-
 -- ---- modules
 
 -- define i32 @f(i32 %0, i1 %1): from %2 to the block `on` where %1 is 1, else to `off`; %3 goes on to %4, which returns
@@ -130,3 +129,25 @@ tests p x y =
 abbrev pub reads_the_old : Module
 reads_the_old =
     one_function [] (block 0 (jump 1 ∷ []) ∷ block 1 (phi 2 (IntOperand 5) 0 (IntOperand 10) 1 ∷ phi 3 (IntOperand 0) 0 (at 2) 1 ∷ icmp 4 Ne (at 3) (IntOperand 0) ∷ branch 4 5 1 ∷ []) ∷ block 5 (ret (at 3) ∷ []) ∷ [])
+
+-- ---- comparisons at the edges of i32
+
+abbrev pub edges : List ℕ
+edges = 0 ∷ 1 ∷ 2147483647 ∷ 2147483648 ∷ 4294967295 ∷ []
+
+abbrev pub digit_of : Value → ℕ
+digit_of (Int w x) = 48 + x
+digit_of v = 63
+
+-- the digit of a returned number below 10; a question mark for everything else
+abbrev pub digit_in : Observation → ℕ
+digit_in (Returned [] (Some t) memory) = digit_of t.value
+digit_in o = 63
+
+-- for each edge x a line with the digit that `tests p x y` returns for each edge y
+abbrev pub table_of : Pred → Memory → World → List (List ℕ)
+table_of p memory v = map (λ x. map (λ y. digit_in (observed (tests p x y) f [] memory v 3)) edges) edges
+
+-- five lines of five digits
+abbrev pub lines : (a b c d e : List ℕ) → List (List ℕ)
+lines a b c d e = a ∷ b ∷ c ∷ d ∷ e ∷ []

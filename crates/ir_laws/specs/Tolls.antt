@@ -1,0 +1,103 @@
+-- How often a run enters a block, and what a pass over a module may add to a run.
+use Rattle.std.specs.Prelude.{◌≡◌, ℕ, zero, suc, ◌+◌, ◌*◌, ◌≤◌, Bool, IsFalse, List, [], ◌∷◌, length, Contains, Option, Some, None, if◌then◌else◌, ◌&&◌}
+use Rattle.forms.specs.Bind.{◌>>=◌}
+use Rattle.ir_types.specs.declared.name.Name.{Name}
+use Rattle.ir_types.specs.declared.name.ValueId.{ValueId}
+use Rattle.ir_types.specs.declared.module.Block.{Block}
+use Rattle.ir_types.specs.declared.module.Function.{Function}
+use Rattle.ir_types.specs.declared.module.Module.{Module}
+use Rattle.ir_types.specs.declared.value.Value.{Value}
+use Rattle.ir_types.specs.Names.{same_name}
+use Rattle.ir_types.specs.Denotes.{name_in}
+use Rattle.ir_types.specs.Memory.{Memory}
+use Rattle.ir_types.specs.State.{World, State, Live, Over, Wrong}
+use Rattle.ir_types.specs.Meaning.{Effect, Sets, Goes, Leaves, Fails, Waits, function_of, inst_at, effect_in, entered, step, start}
+use Rattle.ir_types.specs.Runs.{run, seen}
+use Rattle.ir_types.specs.Refines.{Refines}
+use Rattle.ir_types.specs.Allows.{CanRun, Covers, Answers, HasReturned}
+
+-- ---- entries of blocks
+
+-- a block, by the name of its function and its own
+pub record BlockName : Type 0 where
+  pub function : Name
+  pub block : Name
+
+-- the module has the block
+pub record HasBlock (m : Module) (k : BlockName) : Type 0 where
+  pub f : Function
+  pub b : Block
+  pub found : function_of m k.function ≡ Some f
+  pub there : Contains f.body b
+  pub name : name_in f.names b.name ≡ k.block
+
+-- the names of a function's locals
+abbrev pub names_of : Option Function → List Name
+names_of None = []
+names_of (Some f) = f.names
+
+-- the label to which an instruction asks to go
+abbrev pub label_of : Effect → Option ValueId
+label_of (Sets v) = None
+label_of (Goes label) = Some label
+label_of (Leaves v) = None
+label_of Fails = None
+label_of Waits = None
+
+-- the block that the next step enters, where it enters one by a branch
+abbrev pub entered_next : Module → State → Option BlockName
+entered_next m (Live frame callers memory world events) =
+    inst_at m frame >>= λ i. label_of (effect_in memory frame.env i) >>= λ label. entered m frame label >>= λ next. Some (record { function = frame.function; block = name_in (names_of (function_of m frame.function)) label })
+entered_next m (Over v memory events) = None
+entered_next m Wrong = None
+
+-- 1 for that block, and 0 for another or none
+abbrev pub count_of : BlockName → Option BlockName → ℕ
+count_of k None = 0
+count_of k (Some j) = if same_name j.function k.function && same_name j.block k.block then 1 else 0
+
+-- how often the next step enters the block: once or not at all
+abbrev pub enters : Module → BlockName → State → ℕ
+enters m k s = count_of k (entered_next m s)
+
+-- a count of each of the first n steps, by the state that the step leaves, added up
+abbrev pub total : {S : Type 0} → (S → S) → (S → ℕ) → ℕ → S → ℕ
+total step count zero s = 0
+total step count (suc n) s = count s + total step count n (step s)
+
+-- how often the first n steps from a state enter the block
+abbrev pub entries : Module → BlockName → ℕ → State → ℕ
+entries m k n s = total (step m) (enters m k) n s
+
+-- ---- tolls
+
+-- what each entry of a block costs, in steps
+pub record Charge : Type 0 where
+  pub header : BlockName
+  pub cost : ℕ
+
+-- the first n steps, and what their entries of charged blocks cost
+abbrev pub toll : Module → List Charge → ℕ → State → ℕ
+toll m [] n s = n
+toll m (c ∷ charges) n s = c.cost * entries m c.header n s + toll m charges n s
+
+-- Where the read run from t has returned after n steps, the printed run from s has within the toll of these steps. Each block of the
+-- read module is entered at most as often as there, and exactly as often where it is not a changed one.
+pub record ReturnsAtToll (read printed : Module) (changed : BlockName → Bool) (charges : List Charge) (s t : State) (n : ℕ) : Type 0 where
+  pub steps : ℕ
+  pub within : steps ≤ toll read charges n t
+  pub returned : HasReturned (seen (run (step printed) steps s))
+  pub at_most : (k : BlockName) → HasBlock read k → entries printed k steps s ≤ entries read k n t
+  pub as_often : (k : BlockName) → HasBlock read k → IsFalse (changed k) → entries printed k steps s ≡ entries read k n t
+
+-- As `Serves`, with a toll in the place of a factor: the printed world has 512 numbers for each step of the toll.
+pub record ServesAtToll (read printed : Module) (changed : BlockName → Bool) (charges : List Charge) (v : World) (horizon : ℕ) (s t : State) : Type 0 where
+  pub steps : ℕ → ℕ
+  pub refined : (n : ℕ) → n ≤ horizon → Refines (seen (run (step printed) n s)) (seen (run (step read) (steps n) t))
+  pub returns : (n : ℕ) → HasReturned (seen (run (step read) n t)) → 512 * toll read charges n t ≤ length v.numbers → ReturnsAtToll read printed changed charges s t n
+
+-- As `Allows`, with a toll. This is what a pass proves: for one loop, its blocks are the changed ones, and its header is charged.
+pub record AllowsAtToll (read printed : Module) (changed : BlockName → Bool) (charges : List Charge) : Type 0 where
+  pub covers : Covers read printed
+  pub keeps : (k : BlockName) → HasBlock read k → HasBlock printed k
+  pub serves : (function : Name) (args : List Value) (memory : Memory) (v : World) (horizon : ℕ) → CanRun read function args memory → (u : World) × Answers v u × ServesAtToll read printed changed charges v horizon (start printed function args memory v) (start read function args memory u)

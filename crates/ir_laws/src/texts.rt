@@ -1,0 +1,50 @@
+// What texts read as.
+
+ghost use Rattle.std.specs.Prelude.{◌≡◌, ℕ, List, None};
+ghost use Rattle.forms.specs.Form.{Lexeme, Spells};
+ghost use Rattle.forms.specs.Lexical.{Lexes, StopsAt};
+ghost use Rattle.ir_types.specs.declared.module.Module.{Module};
+ghost use Rattle.ir_types.specs.Grammar.{module_form};
+ghost use Rattle.ir_types.specs.Numbered.{numbered_module};
+ghost use Rattle.ir_types.specs.Reads.{Reads, SameModule, IsReadable};
+ghost use Rattle.ir_types.specs.Tree.{WrittenModule};
+
+/// A text reads as at most one module, up to the positions of names.
+pub fn one_reading()
+    ensures { (text : List ℕ) (m n : Module) → Reads text m → Reads text n → SameModule m n }
+{}
+
+/// What a text reads as, it reads as with the names in other positions too.
+pub fn positions_are_free()
+    ensures { (text : List ℕ) (m n : Module) → Reads text m → SameModule m n → Reads text n }
+{}
+
+/// No module is read where at some place there is no token, or where the tokens spell no module, or where a thing without a
+/// name finds no number.
+pub fn no_reading()
+    ensures stopped { (text : List ℕ) (place : ℕ) (m : Module) → StopsAt text place → Reads text m → ⊥ }
+    ensures unspelled { (text : List ℕ) (tokens : List Lexeme) (m : Module) → Lexes text tokens → ((written : WrittenModule) → Spells module_form written tokens → ⊥) → Reads text m → ⊥ }
+    ensures unnumbered { (text : List ℕ) (tokens : List Lexeme) (written : WrittenModule) (m : Module) → Lexes text tokens → Spells module_form written tokens → numbered_module written ≡ None → Reads text m → ⊥ }
+{}
+
+/// Being the same module goes both ways and from one to the next, and a module that some text reads as is the same as itself.
+pub fn same_module_is_an_equivalence()
+    ensures symmetric { (m n : Module) → SameModule m n → SameModule n m }
+    ensures transitive { (m n k : Module) → SameModule m n → SameModule n k → SameModule m k }
+    ensures reflexive { (m : Module) → IsReadable m → SameModule m m }
+{}
+
+/// A text has at most one list of tokens.
+pub fn one_list_of_tokens()
+    ensures { (text : List ℕ) (ts us : List Lexeme) → Lexes text ts → Lexes text us → ts ≡ us }
+{}
+
+/// A text has no token at one place at most, up to which it has tokens.
+pub fn one_stop()
+    ensures { (text : List ℕ) (i j : ℕ) → StopsAt text i → StopsAt text j → i ≡ j }
+{}
+
+/// A text with tokens has no place with none.
+pub fn tokens_without_a_stop()
+    ensures { (text : List ℕ) (tokens : List Lexeme) (place : ℕ) → Lexes text tokens → StopsAt text place → ⊥ }
+{}

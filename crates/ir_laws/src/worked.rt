@@ -1,0 +1,45 @@
+// Worked runs, and what no module allows.
+
+ghost use Rattle.std.specs.Prelude.{◌≡◌, ℕ, List, [], ◌∷◌, Some, codes};
+ghost use Rattle.ir_types.specs.declared.value.Value.TheVariants.{Poison};
+ghost use Rattle.ir_types.specs.declared.inst.Pred.TheVariants.{Eq, Ne, Ugt, Uge, Ult, Ule, Sgt, Sge, Slt, Sle};
+ghost use Rattle.ir_types.specs.Memory.{Memory};
+ghost use Rattle.ir_types.specs.State.{World};
+ghost use Rattle.ir_types.specs.Runs.{observed, Undefined, Going, Returned};
+ghost use Rattle.ir_types.specs.Allows.{Allows};
+ghost use Rattle.ir_laws.specs.Examples.{f, int32, bit, of_i32, chooses, swapped, another_entry, loops, empty, adds, reads_the_old, table_of, lines};
+
+/// Runs that are worked out, from any memory and any world. The first example of the README with 5 and false, with 5 and true, and with
+/// 5 and poison; a sum that wraps; a phi that reads another one of its block.
+pub fn worked_runs()
+    ensures off { (memory : Memory) (v : World) → observed chooses f (int32 5 ∷ bit 0 ∷ []) memory v 2 ≡ Returned [] (Some (of_i32 5)) memory }
+    ensures going { (memory : Memory) (v : World) → observed chooses f (int32 5 ∷ bit 1 ∷ []) memory v 2 ≡ Going [] }
+    ensures on { (memory : Memory) (v : World) → observed chooses f (int32 5 ∷ bit 1 ∷ []) memory v 3 ≡ Returned [] (Some (of_i32 7)) memory }
+    ensures poison { (memory : Memory) (v : World) → observed chooses f (int32 5 ∷ Poison ∷ []) memory v 1 ≡ Undefined }
+    ensures wraps { (memory : Memory) (v : World) → observed (adds 4294967295 1) f [] memory v 2 ≡ Returned [] (Some (of_i32 0)) memory }
+    ensures old { (memory : Memory) (v : World) → observed reads_the_old f [] memory v 6 ≡ Returned [] (Some (of_i32 5)) memory }
+{}
+
+/// Each predicate of each two of 0, 1, 2147483647, 2147483648 and 4294967295 as i32: a line for each first operand, with a 1 where
+/// the predicate holds.
+pub fn worked_comparisons()
+    ensures eq { (memory : Memory) (v : World) → table_of Eq memory v ≡ lines (codes "10000") (codes "01000") (codes "00100") (codes "00010") (codes "00001") }
+    ensures ne { (memory : Memory) (v : World) → table_of Ne memory v ≡ lines (codes "01111") (codes "10111") (codes "11011") (codes "11101") (codes "11110") }
+    ensures ugt { (memory : Memory) (v : World) → table_of Ugt memory v ≡ lines (codes "00000") (codes "10000") (codes "11000") (codes "11100") (codes "11110") }
+    ensures uge { (memory : Memory) (v : World) → table_of Uge memory v ≡ lines (codes "10000") (codes "11000") (codes "11100") (codes "11110") (codes "11111") }
+    ensures ult { (memory : Memory) (v : World) → table_of Ult memory v ≡ lines (codes "01111") (codes "00111") (codes "00011") (codes "00001") (codes "00000") }
+    ensures ule { (memory : Memory) (v : World) → table_of Ule memory v ≡ lines (codes "11111") (codes "01111") (codes "00111") (codes "00011") (codes "00001") }
+    ensures sgt { (memory : Memory) (v : World) → table_of Sgt memory v ≡ lines (codes "00011") (codes "10011") (codes "11011") (codes "00000") (codes "00010") }
+    ensures sge { (memory : Memory) (v : World) → table_of Sge memory v ≡ lines (codes "10011") (codes "11011") (codes "11111") (codes "00010") (codes "00011") }
+    ensures slt { (memory : Memory) (v : World) → table_of Slt memory v ≡ lines (codes "01100") (codes "00100") (codes "00000") (codes "11101") (codes "11100") }
+    ensures sle { (memory : Memory) (v : World) → table_of Sle memory v ≡ lines (codes "11100") (codes "01100") (codes "00100") (codes "11111") (codes "11101") }
+{}
+
+/// With no factor does the first example allow, as its printed module, the empty module, itself with the targets of its branch in each
+/// other's place, itself with another number in an entry of its phi, or one whose first block loops for ever.
+pub fn allows_no_other_module()
+    ensures none { (c : ℕ) → Allows chooses empty c → ⊥ }
+    ensures targets { (c : ℕ) → Allows chooses swapped c → ⊥ }
+    ensures entries { (c : ℕ) → Allows chooses another_entry c → ⊥ }
+    ensures for_ever { (c : ℕ) → Allows chooses loops c → ⊥ }
+{}
