@@ -7,9 +7,9 @@ use Rattle.ir_types.specs.declared.module.Module.{Module}
 use Rattle.ir_types.specs.Names.{IsTable}
 use Rattle.ir_types.specs.Denotes.{tree_of}
 use Rattle.ir_types.specs.Reads.{Reads, IsReadable}
-use Rattle.ir_printer.specs.Print.{module_pieces}
 use Rattle.ir_shape.specs.Shape.{IsModule}
 use Rattle.ir_shape.proofs.Known.{readable_known}
+use Rattle.ir_printer.specs.Print.{module_pieces}
 use Rattle.ir_printer.proofs.Numbering.{written_of, numbered_again}
 use Rattle.ir_printer.proofs.Spelled.{printed_spells}
 use Rattle.ir_printer.proofs.LaidOut.{module_laid}
