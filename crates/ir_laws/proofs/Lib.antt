@@ -1,3 +1,4 @@
 mod Readings
 pub mod Steps
 pub mod Order
+pub mod Operations

@@ -5,10 +5,11 @@ use Rattle.ir_types.specs.declared.inst.Ty.{Ty}
 use Rattle.ir_types.specs.declared.inst.Ty.TheVariants.{Int as IntTy, Void}
 use Rattle.ir_types.specs.declared.value.Pointer.{Pointer}
 use Rattle.ir_types.specs.declared.value.Byte.{Byte}
+use Rattle.ir_types.specs.declared.value.Byte.TheVariants.{Part}
 use Rattle.ir_types.specs.declared.value.Value.{Value}
 use Rattle.ir_types.specs.declared.value.Allocation.{Allocation}
 use Rattle.ir_types.specs.Values.{HasType, Typed}
-use Rattle.ir_types.specs.Memory.{Memory}
+use Rattle.ir_types.specs.Memory.{Memory, IsByte}
 use Rattle.ir_types.specs.State.{Event}
 use Rattle.ir_types.specs.Runs.{Observation, Undefined, Going, Returned}
 use Rattle.ir_types.specs.Refines.{PointerRefines, same_pointer, no_allocation, LaneRefines, same_lane, of_poison_lane, ValueRefines, same_value, of_poison, of_pointer, of_lanes, ByteRefines, same_byte, of_poison_byte, of_part, BytesRefine, AllocationRefines, MemoryRefines, TypedRefines, EventRefines, ResultRefines, no_result, result, Refines, of_undefined, going, returned}
@@ -52,12 +53,17 @@ value-trans {ty = Void} (of_lanes f) (of_poison t p) = absurd (cc)
 
 -- ---- bytes and memories
 
+-- a pointer that refines another has its address
+same_part : {p q : Pointer} (k : ℕ) → PointerRefines p q → IsByte (Part q k) → IsByte (Part p k)
+same_part k same_pointer h = h
+same_part k no_allocation h = h
+
 pub byte-trans : (a b c : Byte) → ByteRefines a b → ByteRefines b c → ByteRefines a c
 byte-trans a b c same_byte h = h
-byte-trans a b c of_poison_byte same_byte = of_poison_byte
-byte-trans a b c of_poison_byte of_poison_byte = of_poison_byte
+byte-trans a b c (of_poison_byte t) same_byte = of_poison_byte t
+byte-trans a b c (of_poison_byte t) (of_poison_byte s) = of_poison_byte t
 byte-trans a b c (of_part p) same_byte = of_part p
-byte-trans a b c (of_part p) of_poison_byte = of_poison_byte
+byte-trans a b c (of_part p) (of_poison_byte t) = of_poison_byte (same_part _ p t)
 byte-trans a b c (of_part p) (of_part q) = of_part (pointer-trans p q)
 
 pub bytes-refl : (xs : List Byte) → BytesRefine xs xs

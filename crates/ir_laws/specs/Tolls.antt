@@ -47,7 +47,7 @@ label_of Waits = None
 -- the block that the next step enters, where it enters one by a branch
 abbrev pub entered_next : Module → State → Option BlockName
 entered_next m (Live frame callers memory world events) =
-    inst_at m frame >>= λ i. label_of (effect_in memory frame.env i) >>= λ label. entered m frame label >>= λ next. Some (record { function = frame.function; block = name_in (names_of (function_of m frame.function)) label })
+    inst_at m frame >>= λ i. label_of (effect_in m memory frame.env i) >>= λ label. entered m memory frame label >>= λ next. Some (record { function = frame.function; block = name_in (names_of (function_of m frame.function)) label })
 entered_next m (Over v memory events) = None
 entered_next m Wrong = None
 

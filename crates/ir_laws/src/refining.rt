@@ -4,6 +4,7 @@ ghost use Rattle.std.specs.Prelude.{List};
 ghost use Rattle.ir_types.specs.declared.inst.Ty.{Ty};
 ghost use Rattle.ir_types.specs.declared.inst.InstKind.{InstKind};
 ghost use Rattle.ir_types.specs.declared.name.ValueId.{ValueId};
+ghost use Rattle.ir_types.specs.declared.module.Module.{Module};
 ghost use Rattle.ir_types.specs.declared.value.Byte.{Byte};
 ghost use Rattle.ir_types.specs.declared.value.Pointer.{Pointer};
 ghost use Rattle.ir_types.specs.declared.value.Value.{Value};
@@ -36,5 +37,5 @@ pub fn refinement_is_transitive()
 
 /// Each operation respects refinement: by operands of its types that refine others, it asks for what refines what they ask for.
 pub fn operations_respect_refinement()
-    ensures { (here other : Memory) (kind : InstKind) (ty : Ty) (labels : List ValueId) (vs ws : List Value) → MemoryRefines here other → OperandsRefine (operand_types kind ty) vs ws → EffectRefines (result_type kind ty) (effect_of here kind ty labels vs) (effect_of other kind ty labels ws) }
+    ensures { (m n : Module) (here other : Memory) (kind : InstKind) (ty : Ty) (labels : List ValueId) (vs ws : List Value) → MemoryRefines here other → OperandsRefine (operand_types kind ty) vs ws → EffectRefines (result_type kind ty) (effect_of m here kind ty labels vs) (effect_of n other kind ty labels ws) }
 {}

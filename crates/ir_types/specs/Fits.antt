@@ -3,10 +3,8 @@ use Rattle.std.specs.Prelude.{◌≡◌, ◌≢◌, ℕ, ◌+◌, ◌<◌, ◌^�
 use Rattle.std.specs.List.{AllByRecursion}
 use Rattle.ir_types.specs.declared.name.Name.{Name}
 use Rattle.ir_types.specs.declared.module.Module.{Module}
-use Rattle.ir_types.specs.declared.value.Byte.{Byte}
-use Rattle.ir_types.specs.declared.value.Byte.TheVariants.{Number, Poison, Part}
 use Rattle.ir_types.specs.declared.value.Allocation.{Allocation}
-use Rattle.ir_types.specs.Memory.{Memory}
+use Rattle.ir_types.specs.Memory.{Memory, IsByte}
 
 -- a variable of a module: its name, its size in bytes, and whether it is constant
 pub record Variable : Type 0 where
@@ -18,19 +16,13 @@ pub record Variable : Type 0 where
 abbrev pub variables_of : Module → List Variable
 variables_of m = []
 
--- a number of 8 bits, poison, or one of the parts 0 to 7 of a pointer
-abbrev pub IsByte : Byte → Type 0
-IsByte (Number b) = b < 256
-IsByte Poison = Unit {0}
-IsByte (Part p k) = (p.address < 2 ^ 64) × (k < 8)
-
 -- an allocation that touches neither 0 nor 2^64
 pub record IsAllocation (a : Allocation) : Type 0 where
   pub above : 0 < a.base
   pub below : a.base + length a.bytes < 2 ^ 64
   pub bytes : AllByRecursion IsByte a.bytes
 
--- two allocations that don't touch: there is an address between the end of one and the base of the other
+-- two allocations with different numbers that don't touch: there is an address between the end of one and the base of the other
 pub record AreApart (a b : Allocation) : Type 0 where
   pub numbers : a.number ≢ b.number
   pub apart : (a.base + length a.bytes < b.base) ⊎ (b.base + length b.bytes < a.base)
@@ -44,12 +36,13 @@ pub record HasVariable (memory : Memory) (v : Variable) : Type 0 where
   pub size : length allocation.bytes ≡ v.size
   pub constant : IsTrue v.constant → allocation.writable ≡ false
 
--- the memory fits the module, by the names and sizes of the module's variables
+-- The memory fits the module. Of the module only the variables count, by name, size and whether they are constant. So a memory that
+-- fits a module fits one with more declared functions, whose names have pointers without an allocation like all others.
 pub record Fits (m : Module) (memory : Memory) : Type 0 where
   pub allocations : AllByRecursion IsAllocation memory.allocations
   pub apart : AllPairs AreApart memory.allocations
   pub addresses : (name : Name) → (memory.symbols name).address < 2 ^ 64
   pub variables : AllByRecursion (HasVariable memory) (variables_of m)
-  -- no two variables share an allocation, and no other symbol has one
+  -- no two variables share an allocation, and no other name has one
   pub own : AllPairs (λ v w. (memory.symbols v.name).allocation ≢ (memory.symbols w.name).allocation) (variables_of m)
   pub others : (name : Name) → ((v : Variable) → Contains (variables_of m) v → name ≢ v.name) → (memory.symbols name).allocation ≡ None

@@ -18,6 +18,8 @@ use Rattle.ir_types.specs.declared.value.Value.{Value}
 use Rattle.ir_types.specs.declared.value.Value.TheVariants.{Int, Poison}
 use Rattle.ir_types.specs.Names.{same_name}
 use Rattle.ir_types.specs.Grammar.{width_of}
+use Rattle.ir_types.specs.declared.value.Outcome.{Outcome}
+use Rattle.ir_types.specs.declared.value.Outcome.TheVariants.{Value as Result, Undefined}
 use Rattle.ir_types.specs.Values.{typed, Typed, combined, compared}
 use Rattle.ir_types.specs.Memory.{Memory}
 use Rattle.ir_types.specs.State.{Env, no_values, same_id, set_value, Frame, World, Event, State, Live, Over, Wrong}
@@ -43,9 +45,9 @@ inst_at m frame = block_at m frame.function frame.block >>= λ b. slice_get b.in
 -- ---- the values of operands
 
 -- the value of an operand, where it has one of that type
-abbrev pub operand_value : Env → Ty → Operand → Option Value
-operand_value env ty (Local name) = env name >>= λ v. typed ty v
-operand_value env ty (IntOperand x) = typed ty (Int (width_of ty) x)
+abbrev pub operand_value : Module → Memory → Env → Ty → Operand → Option Value
+operand_value m memory env ty (Local name) = env name >>= λ v. typed ty v
+operand_value m memory env ty (IntOperand x) = typed ty (Int (width_of ty) x)
 
 -- the types of an instruction's operands, in their order
 abbrev pub operand_types : InstKind → Ty → List Ty
@@ -57,11 +59,11 @@ operand_types Branch ty = IntTy 1 ∷ []
 operand_types (Return of) ty = of ∷ []
 
 -- the values of the operands, where there is one for each type
-abbrev pub values_of : Env → List Ty → List Operand → Option (List Value)
-values_of env [] [] = Some []
-values_of env [] (a ∷ args) = None
-values_of env (ty ∷ types) [] = None
-values_of env (ty ∷ types) (a ∷ args) = operand_value env ty a >>= λ v. values_of env types args >>= λ vs. Some (v ∷ vs)
+abbrev pub values_of : Module → Memory → Env → List Ty → List Operand → Option (List Value)
+values_of m memory env [] [] = Some []
+values_of m memory env [] (a ∷ args) = None
+values_of m memory env (ty ∷ types) [] = None
+values_of m memory env (ty ∷ types) (a ∷ args) = operand_value m memory env ty a >>= λ v. values_of m memory env types args >>= λ vs. Some (v ∷ vs)
 
 -- ---- what an instruction asks for
 
@@ -77,28 +79,33 @@ pub data Effect : Type 0 where
   -- the run stands still
   Waits : Effect
 
--- a branch: to the first label where the condition is 1, and to the second where it is 0; on poison the run is undefined
+-- an operation's result, or undefined
+abbrev pub gives : Outcome → Effect
+gives (Result v) = Sets v
+gives Undefined = Fails
+
+-- a branch: to the second label where the condition is 0, and else to the first; on poison the run is undefined
 abbrev pub branched : List ValueId → Value → Effect
 branched (on ∷ off ∷ []) (Int w x) = Goes (if nat_eq x 0 then off else on)
 branched (on ∷ off ∷ []) Poison = Fails
 branched labels v = Waits
 
 -- what an instruction asks for, by its kind, its type, its labels and the values of its operands
-abbrev pub effect_of : Memory → InstKind → Ty → List ValueId → List Value → Effect
-effect_of memory (Binary op) ty labels (x ∷ y ∷ []) = Sets (combined op x y)
-effect_of memory (Compare p of) ty labels (x ∷ y ∷ []) = Sets (compared p x y)
-effect_of memory Jump ty (label ∷ []) [] = Goes label
-effect_of memory Branch ty labels (x ∷ []) = branched labels x
-effect_of memory (Return of) ty labels (x ∷ []) = Leaves (Some (record { ty = of; value = x }))
-effect_of memory kind ty labels values = Waits
+abbrev pub effect_of : Module → Memory → InstKind → Ty → List ValueId → List Value → Effect
+effect_of m memory (Binary op) ty labels (x ∷ y ∷ []) = gives (combined op x y)
+effect_of m memory (Compare p of) ty labels (x ∷ y ∷ []) = Sets (compared p x y)
+effect_of m memory Jump ty (label ∷ []) [] = Goes label
+effect_of m memory Branch ty labels (x ∷ []) = branched labels x
+effect_of m memory (Return of) ty labels (x ∷ []) = Leaves (Some (record { ty = of; value = x }))
+effect_of m memory kind ty labels values = Waits
 
-abbrev pub effect_with : Memory → Inst → Option (List Value) → Effect
-effect_with memory i None = Waits
-effect_with memory i (Some values) = effect_of memory i.kind i.ty i.labels values
+abbrev pub effect_with : Module → Memory → Inst → Option (List Value) → Effect
+effect_with m memory i None = Waits
+effect_with m memory i (Some values) = effect_of m memory i.kind i.ty i.labels values
 
 -- what an instruction asks for where the names have these values
-abbrev pub effect_in : Memory → Env → Inst → Effect
-effect_in memory env i = effect_with memory i (values_of env (operand_types i.kind i.ty) i.args)
+abbrev pub effect_in : Module → Memory → Env → Inst → Effect
+effect_in m memory env i = effect_with m memory i (values_of m memory env (operand_types i.kind i.ty) i.args)
 
 -- ---- into a block
 
@@ -117,8 +124,8 @@ entry_for left (a ∷ args) [] = None
 entry_for left (a ∷ args) (l ∷ labels) = if same_id l left then Some a else entry_for left args labels
 
 -- the value of a phi behind the block that was left, by the values before
-abbrev pub phi_value : Env → (left : ValueId) → Inst → Option Value
-phi_value env left i = entry_for left i.args i.labels >>= λ a. operand_value env i.ty a
+abbrev pub phi_value : Module → Memory → Env → (left : ValueId) → Inst → Option Value
+phi_value m memory env left i = entry_for left i.args i.labels >>= λ a. operand_value m memory env i.ty a
 
 -- with a value for the result, where it has a name
 abbrev pub set_result : Env → Option ValueId → Value → Env
@@ -126,18 +133,19 @@ set_result env None v = env
 set_result env (Some name) v = set_value env name v
 
 -- the values `now` with those of the phis, each by the values `before` the branch
-abbrev pub after_phis : (before : Env) → (left : ValueId) → List Inst → (now : Env) → Option Env
-after_phis before left [] now = Some now
-after_phis before left (i ∷ phis) now = phi_value before left i >>= λ v. after_phis before left phis (set_result now i.result v)
+abbrev pub after_phis : Module → Memory → (before : Env) → (left : ValueId) → List Inst → (now : Env) → Option Env
+after_phis m memory before left [] now = Some now
+after_phis m memory before left (i ∷ phis) now =
+    phi_value m memory before left i >>= λ v. after_phis m memory before left phis (set_result now i.result v)
 
 -- the frame behind the phis of the block
-abbrev pub entered_at : Frame → ValueId → Block → Option Frame
-entered_at frame label b =
-    after_phis frame.env frame.block (phis_of b) frame.env >>= λ env. Some (record { function = frame.function; block = label; place = length (phis_of b); env = env })
+abbrev pub entered_at : Module → Memory → Frame → ValueId → Block → Option Frame
+entered_at m memory frame label b =
+    after_phis m memory frame.env frame.block (phis_of b) frame.env >>= λ env. Some (record { function = frame.function; block = label; place = length (phis_of b); env = env })
 
 -- the frame behind a branch to that block
-abbrev pub entered : Module → Frame → ValueId → Option Frame
-entered m frame label = block_at m frame.function label >>= λ b. entered_at frame label b
+abbrev pub entered : Module → Memory → Frame → ValueId → Option Frame
+entered m memory frame label = block_at m frame.function label >>= λ b. entered_at m memory frame label b
 
 -- ---- steps
 
@@ -165,7 +173,7 @@ returned m v (caller ∷ callers) memory world events = Live (passed caller (res
 abbrev pub carried : Module → Inst → Effect → Frame → List Frame → Memory → World → List Event → State
 carried m i (Sets v) frame callers memory world events = Live (passed frame i.result (Some v)) callers memory world events
 carried m i (Goes label) frame callers memory world events =
-    elim (entered m frame label) [ None ↦ Live frame callers memory world events | Some next ↦ Live next callers memory world events ]
+    elim (entered m memory frame label) [ None ↦ Live frame callers memory world events | Some next ↦ Live next callers memory world events ]
 carried m i (Leaves v) frame callers memory world events = returned m v callers memory world events
 carried m i Fails frame callers memory world events = Wrong
 carried m i Waits frame callers memory world events = Live frame callers memory world events
@@ -173,7 +181,7 @@ carried m i Waits frame callers memory world events = Live frame callers memory 
 -- one step: an instruction, a return, or a branch with all phis of the block that it enters
 abbrev pub step : Module → State → State
 step m (Live frame callers memory world events) =
-    elim (inst_at m frame) [ None ↦ Live frame callers memory world events | Some i ↦ carried m i (effect_in memory frame.env i) frame callers memory world events ]
+    elim (inst_at m frame) [ None ↦ Live frame callers memory world events | Some i ↦ carried m i (effect_in m memory frame.env i) frame callers memory world events ]
 step m (Over v memory events) = Over v memory events
 step m Wrong = Wrong
 

@@ -1,5 +1,5 @@
 -- Memories.
-use Rattle.std.specs.Prelude.{ℕ, ◌+◌, Bool, true, false, if◌then◌else◌, nat_eq, ◌&&◌, List, [], ◌∷◌, length, Option, Some, None}
+use Rattle.std.specs.Prelude.{ℕ, ◌+◌, ◌<◌, ◌^◌, Bool, true, false, if◌then◌else◌, nat_eq, ◌&&◌, List, [], ◌∷◌, length, Option, Some, None}
 use Rattle.ir_types.specs.declared.name.Name.{Name}
 use Rattle.ir_types.specs.declared.value.Pointer.{Pointer}
 use Rattle.ir_types.specs.declared.value.Byte.{Byte}
@@ -10,6 +10,12 @@ use Rattle.ir_types.specs.declared.value.Allocation.{Allocation}
 pub record Memory : Type 0 where
   pub allocations : List Allocation
   pub symbols : Name → Pointer
+
+-- a byte: a number of 8 bits, poison, or one of the parts 0 to 7 of a pointer
+abbrev pub IsByte : Byte → Type 0
+IsByte (Number b) = b < 256
+IsByte Poison = Unit {0}
+IsByte (Part p k) = (p.address < 2 ^ 64) × (k < 8)
 
 -- ---- pointers in bytes
 

@@ -10,7 +10,7 @@ use Rattle.ir_types.specs.declared.value.Value.{Value}
 use Rattle.ir_types.specs.declared.value.Value.TheVariants.{Ptr, Poison, Lanes}
 use Rattle.ir_types.specs.declared.value.Allocation.{Allocation}
 use Rattle.ir_types.specs.Values.{HasType, Typed}
-use Rattle.ir_types.specs.Memory.{Memory, pointer_of}
+use Rattle.ir_types.specs.Memory.{Memory, IsByte, pointer_of}
 use Rattle.ir_types.specs.State.{Event}
 use Rattle.ir_types.specs.Runs.{Observation, Undefined, Going, Returned}
 
@@ -24,7 +24,8 @@ pub data LaneRefines (w : ℕ) : Option ℕ → Option ℕ → Type 0 where
   same_lane : {x : Option ℕ} → LaneRefines w x x
   of_poison_lane : {x : ℕ} → x < 2 ^ w → LaneRefines w (Some x) None
 
--- a value refines itself; one of the type refines poison, where that is of the type; pointers refine as such, and vectors lane by lane
+-- a value refines itself; a value of the type refines poison, where the type has that; pointers refine as pointers do, and vectors lane
+-- by lane. Only for poison does the type matter.
 pub data ValueRefines (ty : Ty) : Value → Value → Type 0 where
   same_value : {v : Value} → ValueRefines ty v v
   of_poison : {v : Value} → HasType ty v → HasType ty Poison → ValueRefines ty v Poison
@@ -34,7 +35,7 @@ pub data ValueRefines (ty : Ty) : Value → Value → Type 0 where
 -- a byte refines itself and poison, and a part of a pointer the same part of one that the pointer refines
 pub data ByteRefines : Byte → Byte → Type 0 where
   same_byte : {b : Byte} → ByteRefines b b
-  of_poison_byte : {b : Byte} → ByteRefines b PoisonByte
+  of_poison_byte : {b : Byte} → IsByte b → ByteRefines b PoisonByte
   of_part : {p q : Pointer} {k : ℕ} → PointerRefines p q → ByteRefines (Part p k) (Part q k)
 
 -- byte by byte; and where eight bytes read as one pointer in the other, they read as one here

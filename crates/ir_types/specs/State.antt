@@ -21,7 +21,8 @@ same_id a b = nat_eq a.0 b.0
 abbrev pub set_value : Env → ValueId → Value → Env
 set_value env name v other = if same_id other name then Some v else env other
 
--- where a function is carried out: its name, a block, the next instruction's place in it, and the values of the local names
+-- where a function is carried out: its name, a block, the place in it of the next instruction (of a caller's frame, of its call), and the
+-- values of the local names
 pub record Frame : Type 0 where
   pub function : Name
   pub block : ValueId
@@ -30,11 +31,11 @@ pub record Frame : Type 0 where
 
 -- what an outside call may write at an address
 pub data Content : Type 0 where
-  -- a byte that is a number
+  -- a number, modulo 256
   number : ℕ → Content
   -- a byte that is poison
   poison : Content
-  -- the eight bytes of a pointer
+  -- the eight bytes of a pointer, whose address counts modulo 2^64
   whole : Pointer → Content
 
 pub record Piece : Type 0 where
@@ -57,8 +58,8 @@ pub record Event : Type 0 where
   pub args : List Typed
   pub memory : Memory
 
--- a state: live, with the frame at work, its callers' frames, the memory, what is left of the world, and the events so far; over, with
--- what was returned; or undefined
+-- a state: live, with the frame at work, its callers' frames, the memory, what is left of the world, and the events so far, the first
+-- one first; over, with what was returned; or undefined
 pub data State : Type 0 where
   Live : Frame → List Frame → Memory → World → List Event → State
   Over : Option Typed → Memory → List Event → State

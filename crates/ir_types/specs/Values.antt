@@ -6,12 +6,14 @@ use Rattle.ir_types.specs.declared.inst.BinOp.{BinOp}
 use Rattle.ir_types.specs.declared.inst.BinOp.TheVariants.{Add}
 use Rattle.ir_types.specs.declared.inst.Pred.{Pred}
 use Rattle.ir_types.specs.declared.inst.Pred.TheVariants.{Eq, Ne, Ugt, Uge, Ult, Ule, Sgt, Sge, Slt, Sle}
+use Rattle.ir_types.specs.declared.value.Outcome.{Outcome}
+use Rattle.ir_types.specs.declared.value.Outcome.TheVariants.{Value as Result}
 use Rattle.ir_types.specs.declared.value.Value.{Value}
 use Rattle.ir_types.specs.declared.value.Value.TheVariants.{Int, Ptr, Poison, Lanes}
 
 -- ---- types of values
 
--- whether a value is of a type: an integer of the type's width, or poison
+-- whether a value is of a type: a number below 2^w for the width w, or poison
 abbrev pub has_type : Ty → Value → Bool
 has_type (IntTy w) (Int v x) = nat_eq v w && nat_lt x (2 ^ w)
 has_type (IntTy w) Poison = true
@@ -33,7 +35,7 @@ pub record Typed : Type 0 where
 
 -- ---- operations
 
--- the result of an operation of two integers, by their width and numbers; poison where an operand is poison
+-- the result of an operation of two integers of one type, by their width and numbers; else, and so for a poison operand, poison
 abbrev pub of_numbers : ((width x y : ℕ) → Value) → Value → Value → Value
 of_numbers result (Int w x) (Int v y) = result w x y
 of_numbers result x y = Poison
@@ -43,8 +45,8 @@ abbrev pub sum : (w x y : ℕ) → Value
 sum w x y = Int w ((x + y) % 2 ^ w)
 
 -- the result of a binary operator
-abbrev pub combined : BinOp → Value → Value → Value
-combined Add = of_numbers sum
+abbrev pub combined : BinOp → Value → Value → Outcome
+combined Add x y = Result (of_numbers sum x y)
 
 -- a number of w bits that is read as signed, moved up by 2^(w-1), so that the least signed number comes to 0
 abbrev pub moved_up : (w x : ℕ) → ℕ

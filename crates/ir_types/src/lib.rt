@@ -12,4 +12,4 @@ pub use inst::{BinOp, Inst, InstKind, Labels, Operand, Operands, Pred, Ty};
 pub use module::{Block, Function, Module, Param};
 pub use name::{Name, Names, ValueId};
 pub use opcode::{Operation, Terminator};
-pub use value::{Allocation, Byte, Pointer, Value};
+pub use value::{Allocation, Byte, Outcome, Pointer, Value};

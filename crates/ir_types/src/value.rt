@@ -24,6 +24,15 @@ pub enum Value {
     Lanes(u32, Items<Option<u64>>),
 }
 
+/// What an operation gives.
+#[derive(Debug, Drop)]
+pub enum Outcome {
+    /// A value.
+    Value(Value),
+    /// Nothing: the run is undefined.
+    Undefined,
+}
+
 /// A byte of a memory.
 #[derive(Clone, Copy, Debug, PartialEq, Eq)]
 pub enum Byte {

@@ -1,0 +1,101 @@
+-- The operations of a step respect refinement.
+use Rattle.std.proofs.Common.{◌≡◌, ℕ, List, [], ◌∷◌, Bool, true, false, Some, None, refl, sym, subst, ◌⊎◌, inl, inr, arith}
+use Rattle.std.proofs.lemmas.Bool.Decides.{nat_tests}
+use Rattle.ir_types.specs.declared.name.ValueId.{ValueId}
+use Rattle.ir_types.specs.declared.inst.Ty.{Ty}
+use Rattle.ir_types.specs.declared.inst.Ty.TheVariants.{Int as IntTy, Void}
+use Rattle.ir_types.specs.declared.inst.BinOp.{BinOp}
+use Rattle.ir_types.specs.declared.inst.BinOp.TheVariants.{Add}
+use Rattle.ir_types.specs.declared.inst.Pred.{Pred}
+use Rattle.ir_types.specs.declared.inst.InstKind.{InstKind}
+use Rattle.ir_types.specs.declared.inst.InstKind.TheVariants.{Binary, Compare, Phi, Jump, Branch, Return}
+use Rattle.ir_types.specs.declared.value.Value.{Value}
+use Rattle.ir_types.specs.declared.value.Value.TheVariants.{Int, Ptr, Poison, Lanes}
+use Rattle.ir_types.specs.Values.{HasType, combined, compared, of_numbers, truth}
+use Rattle.ir_types.specs.Memory.{Memory}
+use Rattle.ir_types.specs.Meaning.{effect_of, branched, operand_types}
+use Rattle.ir_types.specs.Refines.{ValueRefines, same_value, of_poison, of_pointer, of_lanes, MemoryRefines, TypedRefines, result as a_result}
+use Rattle.ir_laws.specs.Respect.{OperandsRefine, result_type, EffectRefines, sets, goes, leaves, of_fails, waits}
+
+-- a relation of two lists
+abbrev Between : Type 1
+Between = List Value → List Value → Type 0
+
+none_of : (vs ws : List Value) (P : Between) → OperandsRefine [] vs ws → P [] [] → P vs ws
+none_of [] [] P h k = k
+none_of [] (w ∷ ws) P h k = absurd h
+none_of (v ∷ vs) [] P h k = absurd h
+none_of (v ∷ vs) (w ∷ ws) P h k = absurd h
+
+first_of : (t : Ty) (types : List Ty) (vs ws : List Value) (P : Between) → OperandsRefine (t ∷ types) vs ws → ((v w : Value) (vs ws : List Value) → HasType t v → HasType t w → ValueRefines t v w → OperandsRefine types vs ws → P (v ∷ vs) (w ∷ ws)) → P vs ws
+first_of t types [] [] P h k = absurd h
+first_of t types [] (w ∷ ws) P h k = absurd h
+first_of t types (v ∷ vs) [] P h k = absurd h
+first_of t types (v ∷ vs) (w ∷ ws) P h k = k v w vs ws h.0 h.1 h.2 h.3
+
+one_of : (t : Ty) (vs ws : List Value) (P : Between) → OperandsRefine (t ∷ []) vs ws → ((v w : Value) → HasType t v → HasType t w → ValueRefines t v w → P (v ∷ []) (w ∷ [])) → P vs ws
+one_of t vs ws P h k = first_of t [] vs ws P h (λ v w vs' ws' a b r rest. none_of vs' ws' (λ x y. P (v ∷ x) (w ∷ y)) rest (k v w a b r))
+
+two_of : (t u : Ty) (vs ws : List Value) (P : Between) → OperandsRefine (t ∷ u ∷ []) vs ws → ((v w x y : Value) → HasType t v → HasType t w → ValueRefines t v w → HasType u x → HasType u y → ValueRefines u x y → P (v ∷ x ∷ []) (w ∷ y ∷ [])) → P vs ws
+two_of t u vs ws P h k = first_of t (u ∷ []) vs ws P h (λ v w vs' ws' a b r rest. one_of u vs' ws' (λ x y. P (v ∷ x) (w ∷ y)) rest (λ x y c d q. k v w x y a b r c d q))
+
+-- a value that refines another at an integer's type: the same, or any of the type in the place of poison
+same_or_poison : (w : ℕ) (v x : Value) → HasType (IntTy w) x → ValueRefines (IntTy w) v x → (v ≡ x) ⊎ (x ≡ Poison)
+same_or_poison w v x t same_value = inl refl
+same_or_poison w v x t (of_poison h p) = inr refl
+same_or_poison w v x t (of_pointer f) = absurd (cc)
+same_or_poison w v x t (of_lanes f) = absurd (cc)
+
+-- with a poison operand the result is poison
+poison_right : (result : ℕ → ℕ → ℕ → Value) (x : Value) → of_numbers result x Poison ≡ Poison
+poison_right result (Int w n) = refl
+poison_right result (Ptr p) = refl
+poison_right result Poison = refl
+poison_right result (Lanes w xs) = refl
+
+-- the result of an operation at integers of width w has the type `out` where its result for numbers has
+HasResults : (w : ℕ) (out : Ty) (result : ℕ → ℕ → ℕ → Value) → Type 0
+HasResults w out result = (x y : ℕ) → HasType out (result w x y)
+
+typed_result : (w : ℕ) (out : Ty) (result : ℕ → ℕ → ℕ → Value) → HasResults w out result → HasType out Poison → (v x : Value) → HasType (IntTy w) v → HasType (IntTy w) x → HasType out (of_numbers result v x)
+unfolding HasResults
+typed_result w out result has poison (Int a n) (Int b k) s t = let e : a ≡ w = grind (s, nat_tests) in subst (λ i. HasType out (result i n k)) (sym e) (has n k)
+typed_result w out result has poison (Int a n) Poison s t = poison
+typed_result w out result has poison Poison x s t = poison
+typed_result w out result has poison (Int a n) (Ptr p) s t = poison
+typed_result w out result has poison (Int a n) (Lanes b xs) s t = poison
+typed_result w out result has poison (Ptr p) x s t = poison
+typed_result w out result has poison (Lanes b xs) x s t = poison
+
+-- an operation of two integers respects refinement
+respects : (w : ℕ) (out : Ty) (result : ℕ → ℕ → ℕ → Value) → HasResults w out result → HasType out Poison → (v w' x y : Value) → HasType (IntTy w) v → HasType (IntTy w) w' → ValueRefines (IntTy w) v w' → HasType (IntTy w) x → HasType (IntTy w) y → ValueRefines (IntTy w) x y → ValueRefines out (of_numbers result v x) (of_numbers result w' y)
+respects w out result has poison v w' x y a b r c d q = both (same_or_poison w v w' b r) (same_or_poison w x y d q)
+  where
+    here : HasType out (of_numbers result v x)
+    here = typed_result w out result has poison v x a c
+
+    both : (v ≡ w') ⊎ (w' ≡ Poison) → (x ≡ y) ⊎ (y ≡ Poison) → ValueRefines out (of_numbers result v x) (of_numbers result w' y)
+    both (inr e) h = subst (λ z. ValueRefines out (of_numbers result v x) (of_numbers result z y)) (sym e) (of_poison here poison)
+    both (inl e) (inr f) = subst (λ z. ValueRefines out (of_numbers result v x) (of_numbers result w' z)) (sym f) (subst (λ z. ValueRefines out (of_numbers result v x) z) (sym (poison_right result w')) (of_poison here poison))
+    both (inl e) (inl f) = subst (λ z. ValueRefines out (of_numbers result v x) (of_numbers result z y)) e (subst (λ z. ValueRefines out (of_numbers result v x) (of_numbers result v z)) f same_value)
+
+-- ---- the results
+
+sum_typed : (ty : Ty) (w : ℕ) → ty ≡ IntTy w → HasResults w ty sum
+unfolding HasResults
+sum_typed ty w e x y = subst (λ t. HasType t (sum w x y)) (sym e) (typed_sum w x y)
+  where
+    typed_sum : (w x y : ℕ) → HasType (IntTy w) (sum w x y)
+    typed_sum w x y = grind (arith, nat_tests)
+
+truth_typed : (b : Bool) → HasType (IntTy 1) (truth b)
+truth_typed true = refl
+truth_typed false = refl
+
+holds_typed : (p : Pred) (w : ℕ) → HasResults w (IntTy 1) (λ w x y. truth (holds p w x y))
+unfolding HasResults
+holds_typed p w x y = truth_typed (holds p w x y)
+
+-- only an integer's type has operands
+no_void : (v : Value) (P : Type 0) → HasType Void v → P
+no_void v P h = absurd (cc)
