@@ -1,5 +1,5 @@
 -- The operations of a step respect refinement.
-use Rattle.std.proofs.Common.{◌≡◌, ℕ, List, [], ◌∷◌, Bool, true, false, Some, None, refl, sym, subst, ◌⊎◌, inl, inr, arith}
+use Rattle.std.proofs.Common.{◌≡◌, ℕ, ◌^◌, ◌&&◌, eqb, ltb, eqb-true, List, [], ◌∷◌, Bool, true, false, Some, None, refl, sym, subst, ◌⊎◌, inl, inr, arith}
 use Rattle.std.proofs.lemmas.Bool.Decides.{nat_tests}
 use Rattle.ir_types.specs.declared.name.ValueId.{ValueId}
 use Rattle.ir_types.specs.declared.inst.Ty.{Ty}
@@ -9,12 +9,13 @@ use Rattle.ir_types.specs.declared.inst.BinOp.TheVariants.{Add}
 use Rattle.ir_types.specs.declared.inst.Pred.{Pred}
 use Rattle.ir_types.specs.declared.inst.InstKind.{InstKind}
 use Rattle.ir_types.specs.declared.inst.InstKind.TheVariants.{Binary, Compare, Phi, Jump, Branch, Return}
+use Rattle.ir_types.specs.declared.module.Module.{Module}
 use Rattle.ir_types.specs.declared.value.Value.{Value}
 use Rattle.ir_types.specs.declared.value.Value.TheVariants.{Int, Ptr, Poison, Lanes}
-use Rattle.ir_types.specs.Values.{HasType, combined, compared, of_numbers, truth}
+use Rattle.ir_types.specs.Values.{HasType, combined, compared, of_numbers, sum, holds, truth}
 use Rattle.ir_types.specs.Memory.{Memory}
-use Rattle.ir_types.specs.Meaning.{effect_of, branched, operand_types}
-use Rattle.ir_types.specs.Refines.{ValueRefines, same_value, of_poison, of_pointer, of_lanes, MemoryRefines, TypedRefines, result as a_result}
+use Rattle.ir_types.specs.Meaning.{Effect, Sets, Goes, Leaves, Fails, Waits, effect_of, branched, operand_types}
+use Rattle.ir_types.specs.Refines.{ValueRefines, same_value, of_poison, of_pointer, of_lanes, MemoryRefines, no_result, result as a_result}
 use Rattle.ir_laws.specs.Respect.{OperandsRefine, result_type, EffectRefines, sets, goes, leaves, of_fails, waits}
 
 -- a relation of two lists
@@ -57,9 +58,17 @@ poison_right result (Lanes w xs) = refl
 HasResults : (w : ℕ) (out : Ty) (result : ℕ → ℕ → ℕ → Value) → Type 0
 HasResults w out result = (x y : ℕ) → HasType out (result w x y)
 
+front : (x y : Bool) → (x && y) ≡ true → x ≡ true
+front true y h = refl
+front false y h = h
+
+-- an integer of a type has its width
+width_is : (w a n : ℕ) → HasType (IntTy w) (Int a n) → a ≡ w
+width_is w a n h = eqb-true a w (front (eqb a w) (ltb n (2 ^ w)) h)
+
 typed_result : (w : ℕ) (out : Ty) (result : ℕ → ℕ → ℕ → Value) → HasResults w out result → HasType out Poison → (v x : Value) → HasType (IntTy w) v → HasType (IntTy w) x → HasType out (of_numbers result v x)
 unfolding HasResults
-typed_result w out result has poison (Int a n) (Int b k) s t = let e : a ≡ w = grind (s, nat_tests) in subst (λ i. HasType out (result i n k)) (sym e) (has n k)
+typed_result w out result has poison (Int a n) (Int b k) s t = let e : a ≡ w = width_is w a n s in subst (λ i. HasType out (result i n k)) (sym e) (has n k)
 typed_result w out result has poison (Int a n) Poison s t = poison
 typed_result w out result has poison Poison x s t = poison
 typed_result w out result has poison (Int a n) (Ptr p) s t = poison
@@ -86,7 +95,7 @@ unfolding HasResults
 sum_typed ty w e x y = subst (λ t. HasType t (sum w x y)) (sym e) (typed_sum w x y)
   where
     typed_sum : (w x y : ℕ) → HasType (IntTy w) (sum w x y)
-    typed_sum w x y = grind (arith, nat_tests)
+    typed_sum w x y = let lt : (x + y) % 2 ^ w < 2 ^ w = below (x + y) (2 ^ w) (power w) in simp (eq-eqb {m = w} refl, lt-ltb lt) refl
 
 truth_typed : (b : Bool) → HasType (IntTy 1) (truth b)
 truth_typed true = refl
@@ -99,3 +108,49 @@ holds_typed p w x y = truth_typed (holds p w x y)
 -- only an integer's type has operands
 no_void : (v : Value) (P : Type 0) → HasType Void v → P
 no_void v P h = absurd (cc)
+
+-- ---- what is asked for
+
+same_effect : (ty : Ty) (e : Effect) → EffectRefines ty e e
+same_effect ty (Sets v) = sets same_value
+same_effect ty (Goes label) = goes
+same_effect ty (Leaves None) = leaves no_result
+same_effect ty (Leaves (Some v)) = leaves (a_result (record { ty = refl; value = same_value }))
+same_effect ty Fails = of_fails
+same_effect ty Waits = waits
+
+-- where there are no two labels, a branch stands still
+on_poison : (labels : List ValueId) (v : Value) (ty : Ty) → EffectRefines ty (branched labels v) (branched labels Poison)
+on_poison [] v ty = waits
+on_poison (a ∷ []) v ty = waits
+on_poison (a ∷ b ∷ []) v ty = of_fails
+on_poison (a ∷ b ∷ c ∷ labels) v ty = waits
+
+branch_respects : (ty : Ty) (labels : List ValueId) (v w : Value) → HasType (IntTy 1) w → ValueRefines (IntTy 1) v w → EffectRefines ty (branched labels v) (branched labels w)
+branch_respects ty labels v w t r = elim (same_or_poison 1 v w t r) [ inl e ↦ subst (λ x. EffectRefines ty (branched labels v) (branched labels x)) e (same_effect ty (branched labels v)) | inr e ↦ subst (λ x. EffectRefines ty (branched labels v) (branched labels x)) (sym e) (on_poison labels v ty) ]
+
+module _ (m n : Module) (here other : Memory) (labels : List ValueId) where
+  -- what is asked for by these values and by those
+  abbrev Asked : InstKind → Ty → List Value → List Value → Type 0
+  Asked kind ty vs ws = EffectRefines (result_type kind ty) (effect_of m here kind ty labels vs) (effect_of n other kind ty labels ws)
+
+  of_binary : (op : BinOp) (ty : Ty) (vs ws : List Value) → OperandsRefine (ty ∷ ty ∷ []) vs ws → Asked (Binary op) ty vs ws
+  of_binary Add (IntTy w) vs ws h = two_of (IntTy w) (IntTy w) vs ws (Asked (Binary Add) (IntTy w)) h (λ v w' x y a b r c d q. sets (respects w (IntTy w) sum (sum_typed (IntTy w) w refl) refl v w' x y a b r c d q))
+  of_binary Add Void vs ws h = two_of Void Void vs ws (Asked (Binary Add) Void) h (λ v w x y a b r c d q. no_void v _ a)
+
+  of_compare : (p : Pred) (of ty : Ty) (vs ws : List Value) → OperandsRefine (of ∷ of ∷ []) vs ws → Asked (Compare p of) ty vs ws
+  of_compare p (IntTy w) ty vs ws h = two_of (IntTy w) (IntTy w) vs ws (Asked (Compare p (IntTy w)) ty) h (λ v w' x y a b r c d q. sets (respects w (IntTy 1) (λ w x y. truth (holds p w x y)) (holds_typed p w) refl v w' x y a b r c d q))
+  of_compare p Void ty vs ws h = two_of Void Void vs ws (Asked (Compare p Void) ty) h (λ v w x y a b r c d q. no_void v _ a)
+
+  jumped : (ls : List ValueId) (ty : Ty) → EffectRefines ty (effect_of m here Jump ty ls []) (effect_of n other Jump ty ls [])
+  jumped [] ty = waits
+  jumped (a ∷ []) ty = goes
+  jumped (a ∷ b ∷ ls) ty = waits
+
+  pub respected : (kind : InstKind) (ty : Ty) (vs ws : List Value) → MemoryRefines here other → OperandsRefine (operand_types kind ty) vs ws → Asked kind ty vs ws
+  respected (Binary op) ty vs ws mem h = of_binary op ty vs ws h
+  respected (Compare p of) ty vs ws mem h = of_compare p of ty vs ws h
+  respected Phi ty vs ws mem h = none_of vs ws (Asked Phi ty) h waits
+  respected Jump ty vs ws mem h = none_of vs ws (Asked Jump ty) h (jumped labels ty)
+  respected Branch ty vs ws mem h = one_of (IntTy 1) vs ws (Asked Branch ty) h (λ v w a b r. branch_respects ty labels v w b r)
+  respected (Return of) ty vs ws mem h = one_of of vs ws (Asked (Return of) ty) h (λ v w a b r. leaves (a_result (record { ty = refl; value = r })))
