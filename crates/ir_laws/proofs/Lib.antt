@@ -2,3 +2,5 @@ mod Readings
 pub mod Steps
 pub mod Order
 pub mod Operations
+pub mod Composed
+pub mod Ledger

@@ -1,6 +1,7 @@
 -- The operations of a step respect refinement.
-use Rattle.std.proofs.Common.{◌≡◌, ℕ, ◌^◌, ◌&&◌, eqb, ltb, eqb-true, List, [], ◌∷◌, Bool, true, false, Some, None, refl, sym, subst, ◌⊎◌, inl, inr, arith}
-use Rattle.std.proofs.lemmas.Bool.Decides.{nat_tests}
+use Rattle.std.proofs.Common.{◌≡◌, ℕ, ◌+◌, ◌<◌, ◌%◌, ◌^◌, ◌&&◌, eqb, ltb, eqb-true, List, [], ◌∷◌, Bool, true, false, Some, None, refl, sym, subst, ◌⊎◌, inl, inr, arith}
+use Rattle.std.proofs.lemmas.Bool.{eq-eqb, lt-ltb}
+use Rattle.std.proofs.lemmas.Nat.{mod_below, pow_pos}
 use Rattle.ir_types.specs.declared.name.ValueId.{ValueId}
 use Rattle.ir_types.specs.declared.inst.Ty.{Ty}
 use Rattle.ir_types.specs.declared.inst.Ty.TheVariants.{Int as IntTy, Void}
@@ -95,7 +96,7 @@ unfolding HasResults
 sum_typed ty w e x y = subst (λ t. HasType t (sum w x y)) (sym e) (typed_sum w x y)
   where
     typed_sum : (w x y : ℕ) → HasType (IntTy w) (sum w x y)
-    typed_sum w x y = let lt : (x + y) % 2 ^ w < 2 ^ w = below (x + y) (2 ^ w) (power w) in simp (eq-eqb {m = w} refl, lt-ltb lt) refl
+    typed_sum w x y = rw (eq-eqb w w refl, lt-ltb ((x + y) % 2 ^ w) (2 ^ w) (mod_below (x + y) (2 ^ w) (pow_pos w))) refl
 
 truth_typed : (b : Bool) → HasType (IntTy 1) (truth b)
 truth_typed true = refl

@@ -1,0 +1,195 @@
+-- Tolls add up, and what is allowed at a toll is allowed with a factor.
+use Rattle.std.proofs.Common.{◌≡◌, ◌≢◌, ℕ, zero, suc, ◌+◌, ◌*◌, ◌≤◌, Bool, true, false, IsFalse, ◌||◌, ◌&&◌, List, [], ◌∷◌, ◌++◌, Option, Some, None, AllPairs, if◌then◌else◌, refl, sym, ap, ap₂, ◌∙◌, arith, true≢false, mul-le-mul_left, le_trans}
+use Rattle.std.specs.Bool.{Decides}
+use Rattle.std.specs.List.{AllByRecursion}
+use Rattle.std.proofs.lemmas.List.Elements.{recursion_from_All}
+use Rattle.std.proofs.lemmas.Bool.Decides.{Decides-at, Decides-and, Decides-like}
+use Rattle.ir_types.specs.declared.name.Name.{Name}
+use Rattle.ir_types.specs.declared.name.Name.TheVariants.{Text, Number}
+use Rattle.ir_types.specs.declared.module.Module.{Module}
+use Rattle.ir_types.specs.Names.{same_name}
+use Rattle.ir_types.specs.State.{State}
+use Rattle.ir_types.specs.Meaning.{step, start}
+use Rattle.ir_types.specs.Allows.{Allows}
+use Rattle.ir_types.proofs.SameNames.{name_eq, name_eq-Decides}
+use Rattle.ir_laws.specs.Tolls.{BlockName, HasBlock, Charge, count_of, entered_next, entries, toll, ReturnsAtToll, AllowsAtToll}
+use Rattle.ir_laws.proofs.Order.{refines-trans}
+use Rattle.ir_laws.proofs.Steps.{returned-later}
+use Rattle.ir_laws.proofs.Composed.{covers-trans, can-run, answers-trans, greatest, greatest-bounds}
+
+-- ---- sums of tolls
+
+toll-of-steps : (m : Module) (charges : List Charge) (n : ℕ) (s : State) → n ≤ toll m charges n s
+toll-of-steps m [] n s = omega arith
+toll-of-steps m (c ∷ charges) n s = omega (arith, toll-of-steps m charges n s)
+
+-- the steps count once in a toll for two lists of charges
+toll-append : (m : Module) (charges more : List Charge) (n : ℕ) (s : State) → toll m (charges ++ more) n s + n ≡ toll m charges n s + toll m more n s
+toll-append m [] more n s = omega arith
+toll-append m (c ∷ charges) more n s = omega (arith, toll-append m charges more n s)
+
+-- a run of j steps, which are at most p, that enters the charged blocks at most as often as one of n steps
+toll-of-fewer : (a b : Module) (more : List Charge) (n j p : ℕ) (t s : State) →
+    j ≤ p →
+    ((k : BlockName) → HasBlock a k → entries b k j s ≤ entries a k n t) →
+    AllByRecursion (λ x. HasBlock a x.header) more →
+    toll b more j s + n ≤ p + toll a more n t
+toll-of-fewer a b [] n j p t s le fewer has = omega arith
+toll-of-fewer a b (c ∷ more) n j p t s le fewer has =
+    omega (arith, mul-le-mul_left c.cost (fewer c.header has.0), toll-of-fewer a b more n j p t s le fewer has.1)
+
+-- ---- two passes
+
+false-parts : (x y : Bool) → IsFalse (x || y) → IsFalse x × IsFalse y
+false-parts true y h = absurd (true≢false h)
+false-parts false y h = (refl, h)
+
+-- where the read run has returned within the first toll, and the printed one within the second for those steps
+returns-at-both : (a b c : Module) (changed also : BlockName → Bool) (charges more : List Charge) (s t u : State) (n : ℕ) →
+    ((k : BlockName) → HasBlock a k → HasBlock b k) →
+    AllByRecursion (λ x. HasBlock a x.header) more →
+    (first : ReturnsAtToll a b changed charges t u n) →
+    ReturnsAtToll b c also more s t first.steps →
+    ReturnsAtToll a c (λ k. changed k || also k) (charges ++ more) s u n
+returns-at-both a b c changed also charges more s t u n keeps has first second = record {
+  steps = second.steps;
+  within =
+      omega (arith, second.within, toll-of-fewer a b more n first.steps (toll a charges n u) u t first.within first.at_most has, toll-append a charges more n u);
+  returned = second.returned;
+  at_most = λ k h. le_trans (second.at_most k (keeps k h)) (first.at_most k h);
+  as_often = λ k h same.
+      let parts = false-parts (changed k) (also k) same in
+      second.as_often k (keeps k h) parts.1 ∙ first.as_often k h parts.0;
+}
+
+-- The second answers a world of c by one of b, up to its horizon, and the first answers that one by one of a, up to the most steps
+-- that were needed.
+pub tolls-add : (a b c : Module) (changed also : BlockName → Bool) (charges more : List Charge) → AllowsAtToll a b changed charges → AllowsAtToll b c also more → AllByRecursion (λ x. HasBlock a x.header) more → AllowsAtToll a c (λ k. changed k || also k) (charges ++ more)
+tolls-add a b c changed also charges more f g has = record {
+  covers = covers-trans f.covers g.covers;
+  keeps = λ k h. g.keeps k (f.keeps k h);
+  serves = λ function args memory v horizon r.
+      let h = g.serves function args memory v horizon (can-run function args memory f.covers r) in
+      let k = f.serves function args memory h.0 (greatest h.2.steps horizon) r in
+      let s = start c function args memory v in
+      let t = start b function args memory h.0 in
+      let u = start a function args memory k.0 in
+      (
+        k.0,
+        answers-trans v h.0 k.0 h.1 k.1,
+        record {
+          steps = λ n. k.2.steps (h.2.steps n);
+          refined = λ n le. refines-trans (h.2.refined n le) (k.2.refined (h.2.steps n) (greatest-bounds h.2.steps horizon n le));
+          returns = λ n over many.
+              let both = toll-append a charges more n u in
+              let first = k.2.returns n over (omega (arith, many, both, toll-of-steps a more n u, h.1.numbers)) in
+              let fewer = toll-of-fewer a b more n first.steps (toll a charges n u) u t first.within first.at_most has in
+              let second = h.2.returns first.steps first.returned (omega (arith, many, both, fewer)) in
+              returns-at-both a b c changed also charges more s t u n f.keeps has first second;
+        },
+      );
+}
+
+-- ---- a step enters one block at most
+
+same_name-name_eq : (x y : Name) → same_name x y ≡ name_eq x y
+same_name-name_eq (Text a) (Text b) = refl
+same_name-name_eq (Text a) (Number n) = refl
+same_name-name_eq (Number m) (Text b) = refl
+same_name-name_eq (Number m) (Number n) = refl
+
+pub same_name-Decides : (x y : Name) → Decides (same_name x y) (x ≡ y)
+same_name-Decides x y = Decides-at (same_name x y) (name_eq x y) (same_name-name_eq x y) (name_eq-Decides x y)
+
+abbrev same_block : BlockName → BlockName → Bool
+same_block j k = same_name j.function k.function && same_name j.block k.block
+
+same_block-Decides : (j k : BlockName) → Decides (same_block j k) (j ≡ k)
+same_block-Decides j k =
+    Decides-like
+      (same_block j k)
+      (λ h. ap₂ (λ f b. record { function = f; block = b }) h.0 h.1)
+      (λ e. (ap (λ x. x.function) e, ap (λ x. x.block) e))
+      (Decides-and (same_name j.function k.function) (same_name j.block k.block) (same_name-Decides j.function k.function) (same_name-Decides j.block k.block))
+
+count-of-other : (j k : BlockName) → j ≢ k → count_of k (Some j) ≡ 0
+count-of-other j k apart = by (same_block j k) refl
+  where
+    by : (t : Bool) → same_block j k ≡ t → count_of k (Some j) ≡ 0
+    by true e = absurd (apart ((same_block-Decides j k).0 e))
+    by false e = ap (λ t. if t then 1 else 0) e
+
+-- what the entry of a block costs
+fee : List Charge → Option BlockName → ℕ
+fee [] o = 0
+fee (c ∷ charges) o = c.cost * count_of c.header o + fee charges o
+
+-- no steps
+toll-of-nothing : (m : Module) (charges : List Charge) (s : State) → toll m charges zero s ≡ 0
+toll-of-nothing m [] s = refl
+toll-of-nothing m (c ∷ charges) s = omega (arith, toll-of-nothing m charges s)
+
+toll-suc : (m : Module) (charges : List Charge) (n : ℕ) (s : State) → toll m charges (suc n) s ≡ suc (fee charges (entered_next m s)) + toll m charges n (step m s)
+unfolding fee
+toll-suc m [] n s = omega arith
+toll-suc m (c ∷ charges) n s = omega (arith, toll-suc m charges n s)
+
+-- no block
+fee-of-none : (charges : List Charge) → fee charges None ≡ 0
+unfolding fee
+fee-of-none [] = refl
+fee-of-none (c ∷ charges) = omega (arith, fee-of-none charges)
+
+-- a block that isn't charged
+fee-of-other : (charges : List Charge) (j : BlockName) → AllByRecursion (λ x. j ≢ x.header) charges → fee charges (Some j) ≡ 0
+unfolding fee
+fee-of-other [] j h = refl
+fee-of-other (c ∷ charges) j h =
+    let none : c.cost * count_of c.header (Some j) ≡ c.cost * 0 = ap (λ x. c.cost * x) (count-of-other j c.header h.0) in
+    omega (arith, none, fee-of-other charges j h.1)
+
+fee-at-most : (charges : List Charge) (most : ℕ) (o : Option BlockName) → AllPairs (λ x y. x.header ≢ y.header) charges → AllByRecursion (λ x. x.cost ≤ most) charges → fee charges o ≤ most
+unfolding fee
+fee-at-most charges most None apart each = omega (arith, fee-of-none charges)
+fee-at-most [] most (Some j) apart each = omega arith
+fee-at-most (c ∷ charges) most (Some j) apart each =
+    by (same_block j c.header) refl (fee-at-most charges most (Some j) (λ k l d lt within. apart (suc k) (suc l) d (omega arith) (omega arith)) each.1)
+  where
+    by : (t : Bool) → same_block j c.header ≡ t → fee charges (Some j) ≤ most → fee (c ∷ charges) (Some j) ≤ most
+    by true e rest =
+        let same : j ≡ c.header = (same_block-Decides j c.header).0 e in
+        let others : AllByRecursion (λ x. j ≢ x.header) charges =
+            recursion_from_All (λ x. j ≢ x.header) charges (λ k d l f. apart 0 (suc k) d (omega arith) (omega arith) (sym same ∙ f)) in
+        let once : c.cost * count_of c.header (Some j) ≡ c.cost * 1 = ap (λ t. c.cost * (if t then 1 else 0)) e in
+        omega (arith, once, each.0, fee-of-other charges j others)
+    by false e rest =
+        let none : c.cost * count_of c.header (Some j) ≡ c.cost * 0 = ap (λ t. c.cost * (if t then 1 else 0)) e in
+        omega (arith, none, rest)
+
+toll-at-most : (m : Module) (charges : List Charge) (most n : ℕ) (s : State) → AllPairs (λ x y. x.header ≢ y.header) charges → AllByRecursion (λ x. x.cost ≤ most) charges → toll m charges n s ≤ (1 + most) * n
+toll-at-most m charges most zero s apart each = omega (arith, toll-of-nothing m charges s)
+toll-at-most m charges most (suc n) s apart each =
+    omega (arith, toll-suc m charges n s, fee-at-most charges most (entered_next m s) apart each, toll-at-most m charges most n (step m s) apart each)
+
+-- ---- a toll is allowed with a factor
+
+pub toll-is-allowed : (a b : Module) (changed : BlockName → Bool) (charges : List Charge) (most : ℕ) → AllowsAtToll a b changed charges → AllPairs (λ x y. x.header ≢ y.header) charges → AllByRecursion (λ x. x.cost ≤ most) charges → Allows a b (1 + most)
+toll-is-allowed a b changed charges most f apart each = record {
+  covers = f.covers;
+  serves = λ function args memory v horizon r.
+      let h = f.serves function args memory v horizon r in
+      let s = start b function args memory v in
+      let t = start a function args memory h.0 in
+      (
+        h.0,
+        h.1,
+        record {
+          steps = h.2.steps;
+          refined = h.2.refined;
+          returns = λ n over many.
+              let bound = toll-at-most a charges most n t apart each in
+              let back = h.2.returns n over (omega (arith, many, bound)) in
+              returned-later b back.steps ((1 + most) * (n + 1)) s (omega (arith, back.within, bound)) back.returned;
+        },
+      );
+}
