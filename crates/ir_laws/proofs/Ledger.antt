@@ -12,7 +12,7 @@ use Rattle.ir_types.specs.State.{State}
 use Rattle.ir_types.specs.Meaning.{step, start}
 use Rattle.ir_types.specs.Allows.{Allows}
 use Rattle.ir_types.proofs.SameNames.{name_eq, name_eq-Decides}
-use Rattle.ir_laws.specs.Tolls.{BlockName, HasBlock, Charge, count_of, entered_next, entries, toll, ReturnsAtToll, AllowsAtToll}
+use Rattle.ir_laws.specs.Tolls.{BlockName, HasBlock, Charge, costs_of, count_of, entered_next, entries, toll, ReturnsAtToll, AllowsAtToll}
 use Rattle.ir_laws.proofs.Order.{refines-trans}
 use Rattle.ir_laws.proofs.Steps.{returned-later}
 use Rattle.ir_laws.proofs.Composed.{covers-trans, can-run, answers-trans, greatest, greatest-bounds}
@@ -90,34 +90,7 @@ tolls-add a b c changed also charges more f g has = record {
       );
 }
 
--- ---- a step enters one block at most
-
-same_name-name_eq : (x y : Name) → same_name x y ≡ name_eq x y
-same_name-name_eq (Text a) (Text b) = refl
-same_name-name_eq (Text a) (Number n) = refl
-same_name-name_eq (Number m) (Text b) = refl
-same_name-name_eq (Number m) (Number n) = refl
-
-pub same_name-Decides : (x y : Name) → Decides (same_name x y) (x ≡ y)
-same_name-Decides x y = Decides-at (same_name x y) (name_eq x y) (same_name-name_eq x y) (name_eq-Decides x y)
-
-abbrev same_block : BlockName → BlockName → Bool
-same_block j k = same_name j.function k.function && same_name j.block k.block
-
-same_block-Decides : (j k : BlockName) → Decides (same_block j k) (j ≡ k)
-same_block-Decides j k =
-    Decides-like
-      (same_block j k)
-      (λ h. ap₂ (λ f b. record { function = f; block = b }) h.0 h.1)
-      (λ e. (ap (λ x. x.function) e, ap (λ x. x.block) e))
-      (Decides-and (same_name j.function k.function) (same_name j.block k.block) (same_name-Decides j.function k.function) (same_name-Decides j.block k.block))
-
-count-of-other : (j k : BlockName) → j ≢ k → count_of k (Some j) ≡ 0
-count-of-other j k apart = by (same_block j k) refl
-  where
-    by : (t : Bool) → same_block j k ≡ t → count_of k (Some j) ≡ 0
-    by true e = absurd (apart ((same_block-Decides j k).0 e))
-    by false e = ap (λ t. if t then 1 else 0) e
+-- ---- what a step costs
 
 -- what the entry of a block costs
 fee : List Charge → Option BlockName → ℕ
@@ -134,47 +107,29 @@ unfolding fee
 toll-suc m [] n s = omega arith
 toll-suc m (c ∷ charges) n s = omega (arith, toll-suc m charges n s)
 
--- no block
-fee-of-none : (charges : List Charge) → fee charges None ≡ 0
-unfolding fee
-fee-of-none [] = refl
-fee-of-none (c ∷ charges) = omega (arith, fee-of-none charges)
-
--- a block that isn't charged
-fee-of-other : (charges : List Charge) (j : BlockName) → AllByRecursion (λ x. j ≢ x.header) charges → fee charges (Some j) ≡ 0
-unfolding fee
-fee-of-other [] j h = refl
-fee-of-other (c ∷ charges) j h =
-    let none : c.cost * count_of c.header (Some j) ≡ c.cost * 0 = ap (λ x. c.cost * x) (count-of-other j c.header h.0) in
-    omega (arith, none, fee-of-other charges j h.1)
-
-fee-at-most : (charges : List Charge) (most : ℕ) (o : Option BlockName) → AllPairs (λ x y. x.header ≢ y.header) charges → AllByRecursion (λ x. x.cost ≤ most) charges → fee charges o ≤ most
-unfolding fee
-fee-at-most charges most None apart each = omega (arith, fee-of-none charges)
-fee-at-most [] most (Some j) apart each = omega arith
-fee-at-most (c ∷ charges) most (Some j) apart each =
-    by (same_block j c.header) refl (fee-at-most charges most (Some j) (λ k l d lt within. apart (suc k) (suc l) d (omega arith) (omega arith)) each.1)
+-- a step enters a block once at most
+once : (k : BlockName) (o : Option BlockName) → count_of k o ≤ 1
+once k None = omega arith
+once k (Some j) = by (same_name j.function k.function && same_name j.block k.block)
   where
-    by : (t : Bool) → same_block j c.header ≡ t → fee charges (Some j) ≤ most → fee (c ∷ charges) (Some j) ≤ most
-    by true e rest =
-        let same : j ≡ c.header = (same_block-Decides j c.header).0 e in
-        let others : AllByRecursion (λ x. j ≢ x.header) charges =
-            recursion_from_All (λ x. j ≢ x.header) charges (λ k d l f. apart 0 (suc k) d (omega arith) (omega arith) (sym same ∙ f)) in
-        let once : c.cost * count_of c.header (Some j) ≡ c.cost * 1 = ap (λ t. c.cost * (if t then 1 else 0)) e in
-        omega (arith, once, each.0, fee-of-other charges j others)
-    by false e rest =
-        let none : c.cost * count_of c.header (Some j) ≡ c.cost * 0 = ap (λ t. c.cost * (if t then 1 else 0)) e in
-        omega (arith, none, rest)
+    by : (t : Bool) → (if t then 1 else 0) ≤ 1
+    by true = omega arith
+    by false = omega arith
 
-toll-at-most : (m : Module) (charges : List Charge) (most n : ℕ) (s : State) → AllPairs (λ x y. x.header ≢ y.header) charges → AllByRecursion (λ x. x.cost ≤ most) charges → toll m charges n s ≤ (1 + most) * n
-toll-at-most m charges most zero s apart each = omega (arith, toll-of-nothing m charges s)
-toll-at-most m charges most (suc n) s apart each =
-    omega (arith, toll-suc m charges n s, fee-at-most charges most (entered_next m s) apart each, toll-at-most m charges most n (step m s) apart each)
+fee-at-most : (charges : List Charge) (o : Option BlockName) → fee charges o ≤ costs_of charges
+unfolding fee
+fee-at-most [] o = omega arith
+fee-at-most (c ∷ charges) o = omega (arith, mul-le-mul_left c.cost (once c.header o), fee-at-most charges o)
+
+toll-at-most : (m : Module) (charges : List Charge) (n : ℕ) (s : State) → toll m charges n s ≤ (1 + costs_of charges) * n
+toll-at-most m charges zero s = omega (arith, toll-of-nothing m charges s)
+toll-at-most m charges (suc n) s =
+    omega (arith, toll-suc m charges n s, fee-at-most charges (entered_next m s), toll-at-most m charges n (step m s))
 
 -- ---- a toll is allowed with a factor
 
-pub toll-is-allowed : (a b : Module) (changed : BlockName → Bool) (charges : List Charge) (most : ℕ) → AllowsAtToll a b changed charges → AllPairs (λ x y. x.header ≢ y.header) charges → AllByRecursion (λ x. x.cost ≤ most) charges → Allows a b (1 + most)
-toll-is-allowed a b changed charges most f apart each = record {
+pub toll-is-allowed : (a b : Module) (changed : BlockName → Bool) (charges : List Charge) → AllowsAtToll a b changed charges → Allows a b (1 + costs_of charges)
+toll-is-allowed a b changed charges f = record {
   covers = f.covers;
   serves = λ function args memory v horizon r.
       let h = f.serves function args memory v horizon r in
@@ -187,9 +142,9 @@ toll-is-allowed a b changed charges most f apart each = record {
           steps = h.2.steps;
           refined = h.2.refined;
           returns = λ n over many.
-              let bound = toll-at-most a charges most n t apart each in
+              let bound = toll-at-most a charges n t in
               let back = h.2.returns n over (omega (arith, many, bound)) in
-              returned-later b back.steps ((1 + most) * (n + 1)) s (omega (arith, back.within, bound)) back.returned;
+              returned-later b back.steps ((1 + costs_of charges) * (n + 1)) s (omega (arith, back.within, bound)) back.returned;
         },
       );
 }

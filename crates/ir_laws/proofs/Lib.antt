@@ -4,3 +4,5 @@ pub mod Order
 pub mod Operations
 pub mod Composed
 pub mod Ledger
+pub mod Numbers
+pub mod Simulated

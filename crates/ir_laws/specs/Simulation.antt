@@ -11,12 +11,6 @@ use Rattle.ir_types.specs.Refines.{Refines}
 use Rattle.ir_types.specs.Allows.{CanRun, HasReturned}
 use Rattle.ir_laws.specs.Tolls.{BlockName, HasBlock, enters, entries, Charge, toll}
 
--- the numbers that are left
-abbrev pub numbers_of : State → List ℕ
-numbers_of (Live frame callers memory world events) = world.numbers
-numbers_of (Over v memory events) = []
-numbers_of Wrong = []
-
 -- the state with other numbers left
 abbrev pub give : State → List ℕ → State
 give (Live frame callers memory world events) numbers = Live frame callers memory (record { replies = world.replies; numbers = numbers }) events
@@ -45,9 +39,9 @@ module _ (read printed : Module) (changed : BlockName → Bool) (charges : List 
   -- one step of the printed run from s, against any number of steps of the read one from t
   pub data Moves (s t : State) : Type 0 where
     -- the read run goes on by j steps, for which it takes the numbers x, and the states are again related
-    on : (j : ℕ) (x : List ℕ) (t' : State) → Comes read t j x t' → R (step printed s) t' → length x + length (numbers_of (step printed s)) ≤ length (numbers_of s) → ((rest : List ℕ) → Pays read printed changed charges potential s j (give t (x ++ rest))) → Moves s t
+    on : (j : ℕ) (x : List ℕ) (t' : State) → Comes read t j x t' → R (step printed s) t' → ((rest : List ℕ) → Pays read printed changed charges potential s j (give t (x ++ rest))) → Moves s t
     -- the read run becomes undefined
-    undefined : (j : ℕ) (x : List ℕ) → length x ≤ length (numbers_of s) → ((rest : List ℕ) → seen (run (step read) j (give t (x ++ rest))) ≡ Undefined) → Moves s t
+    undefined : (j : ℕ) (x : List ℕ) → ((rest : List ℕ) → seen (run (step read) j (give t (x ++ rest))) ≡ Undefined) → Moves s t
     -- the printed run stands still: it has returned, or is short of numbers, or the read run never returns
     halts : step printed s ≡ s → HasReturned (seen s) ⊎ (IsShort s ⊎ ((rest : List ℕ) (n : ℕ) → ¬ HasReturned (seen (run (step read) n (give t rest))))) → Moves s t
 

@@ -76,6 +76,11 @@ pub record Charge : Type 0 where
   pub header : BlockName
   pub cost : ℕ
 
+-- all costs together
+abbrev pub costs_of : List Charge → ℕ
+costs_of [] = 0
+costs_of (c ∷ charges) = c.cost + costs_of charges
+
 -- the first n steps, and what their entries of charged blocks cost
 abbrev pub toll : Module → List Charge → ℕ → State → ℕ
 toll m [] n s = n

@@ -1,11 +1,11 @@
 // What is allowed at a toll.
 
-ghost use Rattle.std.specs.Prelude.{◌≢◌, ◌+◌, ◌≤◌, ◌||◌, ◌++◌, [], Bool, false, ℕ, List, AllPairs};
+ghost use Rattle.std.specs.Prelude.{◌+◌, ◌||◌, ◌++◌, [], Bool, false, List};
 ghost use Rattle.std.specs.List.{AllByRecursion};
 ghost use Rattle.ir_types.specs.declared.module.Module.{Module};
 ghost use Rattle.ir_types.specs.Reads.{SameModule, IsReadable};
 ghost use Rattle.ir_types.specs.Allows.{Allows};
-ghost use Rattle.ir_laws.specs.Tolls.{BlockName, HasBlock, Charge, AllowsAtToll};
+ghost use Rattle.ir_laws.specs.Tolls.{BlockName, HasBlock, Charge, costs_of, AllowsAtToll};
 
 /// Tolls add up: where one pass and then another are allowed, and the second charges blocks that the first module has, both together are
 /// allowed at the charges of both.
@@ -13,9 +13,9 @@ pub fn tolls_add()
     ensures { (a b c : Module) (changed also : BlockName → Bool) (charges more : List Charge) → AllowsAtToll a b changed charges → AllowsAtToll b c also more → AllByRecursion (λ x. HasBlock a x.header) more → AllowsAtToll a c (λ k. changed k || also k) (charges ++ more) }
 {}
 
-/// What is allowed at a toll is allowed with a factor: one more than the greatest cost, where no block is charged twice.
+/// What is allowed at a toll is allowed with a factor: one more than all costs together.
 pub fn toll_is_allowed()
-    ensures { (a b : Module) (changed : BlockName → Bool) (charges : List Charge) (most : ℕ) → AllowsAtToll a b changed charges → AllPairs (λ x y. x.header ≢ y.header) charges → AllByRecursion (λ x. x.cost ≤ most) charges → Allows a b (1 + most) }
+    ensures { (a b : Module) (changed : BlockName → Bool) (charges : List Charge) → AllowsAtToll a b changed charges → Allows a b (1 + costs_of charges) }
 {}
 
 /// A module that some text reads as allows each module that denotes the same tree at no charge.
