@@ -6,3 +6,5 @@ pub mod Composed
 pub mod Ledger
 pub mod Numbers
 pub mod Simulated
+mod Onward
+mod Settled
