@@ -8,3 +8,4 @@ pub mod Numbers
 pub mod Simulated
 mod Onward
 mod Settled
+mod Refused

@@ -1,0 +1,86 @@
+-- What the first example does not allow.
+use Rattle.std.proofs.Common.{◌≡◌, ◌≢◌, ℕ, zero, suc, ◌+◌, ◌*◌, ◌≤◌, ◌<◌, List, [], ◌∷◌, length, replicate, Option, Some, None, refl, sym, ap, subst, arith}
+use Rattle.std.proofs.lemmas.List.{length-replicate}
+use Rattle.ir_types.specs.declared.name.Name.{Name}
+use Rattle.ir_types.specs.declared.module.Function.{Function}
+use Rattle.ir_types.specs.declared.module.Module.{Module}
+use Rattle.ir_types.specs.declared.value.Value.{Value}
+use Rattle.ir_types.specs.Memory.{Memory}
+use Rattle.ir_types.specs.State.{World, State, Over}
+use Rattle.ir_types.specs.Meaning.{step, start, function_of}
+use Rattle.ir_types.specs.Runs.{run, seen, observed, Observation, Returned}
+use Rattle.ir_types.specs.Refines.{ValueRefines, same_value, of_poison, ResultRefines, result, Refines, returned}
+use Rattle.ir_types.specs.Fits.{Fits}
+use Rattle.ir_types.specs.Allows.{Defines, CanRun, HasReturned, Allows}
+use Rattle.ir_laws.specs.Examples.{f, i32, int32, bit, of_i32, chooses, swapped, another_entry, loops, empty}
+use Rattle.ir_laws.proofs.Steps.{run-halted}
+
+-- a memory without an allocation
+abbrev bare : Memory
+bare = record { allocations = []; symbols = λ name. record { address = 0; allocation = None } }
+
+bare-fits : Fits chooses bare
+bare-fits = record {
+  allocations = tt;
+  apart = λ i j d lt within. absurd (omega arith);
+  addresses = λ name. omega arith;
+  variables = tt;
+  own = λ i j d lt within. absurd (omega arith);
+  others = λ name h. refl;
+}
+
+abbrev no_world : World
+no_world = record { replies = []; numbers = [] }
+
+-- no replies, and so many numbers
+abbrev many : ℕ → World
+many n = record { replies = []; numbers = replicate n 0 }
+
+-- 5 and true
+abbrev args : List Value
+args = int32 5 ∷ bit 1 ∷ []
+
+defined : (g : Function) → function_of chooses f ≡ Some g → 0 < length g.body → Defines chooses f g
+defined g e lt = record { found = e; body = lt }
+
+can_run : CanRun chooses f args bare
+can_run = record { f = _; defined = defined _ refl (omega arith); typed = (refl, (refl, tt)); fits = bare-fits }
+
+pub none_allowed : (c : ℕ) → Allows chooses empty c → ⊥
+none_allowed c h = let g = h.covers.functions f _ (defined _ refl (omega arith)) in let e = g.1.found in cc
+
+same_number : (x y : ℕ) → ValueRefines i32 (int32 x) (int32 y) → x ≡ y
+same_number x y same_value = refl
+
+same_result : (x y : ℕ) (m n : Memory) → Refines (Returned [] (Some (of_i32 x)) m) (Returned [] (Some (of_i32 y)) n) → x ≡ y
+same_result x y m n (returned e (result r) h) = same_number x y r.value
+
+-- the state in which the example has returned
+abbrev over : State
+over = Over (Some (of_i32 7)) bare []
+
+-- with 5 and true the example returns 7 and nothing else
+only_seven : (x : ℕ) (u : World) (k : ℕ) → Refines (Returned [] (Some (of_i32 x)) bare) (observed chooses f args bare u k) → x ≡ 7
+only_seven x u zero r = elim r [ ]
+only_seven x u (suc zero) r = elim r [ ]
+only_seven x u (suc (suc zero)) r = elim r [ ]
+only_seven x u (suc (suc (suc n))) r = same_result x 7 bare bare (subst (λ s. Refines (Returned [] (Some (of_i32 x)) bare) (seen s)) (run-halted (step chooses) n over refl) r)
+
+-- a printed module that returns another number after n steps
+other_result : (printed : Module) (c x n : ℕ) → ((v : World) → observed printed f args bare v n ≡ Returned [] (Some (of_i32 x)) bare) → x ≢ 7 → Allows chooses printed c → ⊥
+other_result printed c x n e other h =
+    let a = h.serves f args bare no_world n can_run in
+    other (only_seven x a.0 (a.2.steps n) (subst (λ o. Refines o (observed chooses f args bare a.0 (a.2.steps n))) (e no_world) (a.2.refined n (omega arith))))
+
+pub targets_swapped : (c : ℕ) → Allows chooses swapped c → ⊥
+targets_swapped c = other_result swapped c 5 2 (λ v. refl) (λ e. omega arith)
+
+pub entry_changed : (c : ℕ) → Allows chooses another_entry c → ⊥
+entry_changed c = other_result another_entry c 8 3 (λ v. refl) (λ e. omega arith)
+
+-- the example returns in 3 steps, and the printed module never does
+pub never_returns : (c : ℕ) → Allows chooses loops c → ⊥
+never_returns c h =
+    let v = many (512 * (c * (3 + 1))) in
+    let a = h.serves f args bare v 0 can_run in
+    subst HasReturned (ap seen (run-halted (step loops) (c * (3 + 1)) (start loops f args bare v) refl)) (a.2.returns 3 tt (omega (arith, length-replicate {A = ℕ} (512 * (c * (3 + 1))) 0)))
