@@ -1,5 +1,5 @@
 -- Small modules, to try the definitions on.
-use Rattle.std.specs.Prelude.{ℕ, ◌+◌, codes, List, [], ◌∷◌, map, Some, None}
+use Rattle.std.specs.Prelude.{ℕ, ◌+◌, codes, List, [], ◌∷◌, ◌++◌, map, Some, None}
 use Rattle.ir_types.specs.declared.name.Name.{Name}
 use Rattle.ir_types.specs.declared.name.Name.TheVariants.{Text, Number}
 use Rattle.ir_types.specs.declared.name.ValueId.{ValueId}
@@ -129,6 +129,49 @@ tests p x y =
 abbrev pub reads_the_old : Module
 reads_the_old =
     one_function [] (block 0 (jump 1 ∷ []) ∷ block 1 (phi 2 (IntOperand 5) 0 (IntOperand 10) 1 ∷ phi 3 (IntOperand 0) 0 (at 2) 1 ∷ icmp 4 Ne (at 3) (IntOperand 0) ∷ branch 4 5 1 ∷ []) ∷ block 5 (ret (at 3) ∷ []) ∷ [])
+
+-- ---- modules that stand still, and such in which the first of several counts
+
+-- define i32 @f(): returns %1, which has no value
+abbrev pub without_value : Module
+without_value = one_function [] (block 0 (ret (at 1) ∷ []) ∷ [])
+
+-- define i32 @f(i1 %1): returns %1 as an i32
+abbrev pub of_another_type : Module
+of_another_type = one_function (param i1 1 ∷ []) (block 0 (ret (at 1) ∷ []) ∷ [])
+
+-- goes to a block that isn't there
+abbrev pub without_block : Module
+without_block = one_function [] (block 0 (jump 1 ∷ []) ∷ [])
+
+-- begins with a phi
+abbrev pub phi_at_the_start : Module
+phi_at_the_start = one_function [] (block 0 (phi 1 (IntOperand 5) 0 (IntOperand 6) 0 ∷ ret (IntOperand 7) ∷ []) ∷ [])
+
+-- a phi behind a sum
+abbrev pub phi_behind : Module
+phi_behind =
+    one_function [] (block 0 (jump 1 ∷ []) ∷ block 1 (add 2 (IntOperand 1) (IntOperand 1) ∷ phi 3 (IntOperand 5) 0 (IntOperand 6) 0 ∷ ret (at 3) ∷ []) ∷ [])
+
+-- a phi without an entry for the block that was left
+abbrev pub without_entry : Module
+without_entry = one_function [] (block 0 (jump 1 ∷ []) ∷ block 1 (phi 2 (IntOperand 5) 3 (IntOperand 6) 4 ∷ ret (at 2) ∷ []) ∷ [])
+
+abbrev pub returns : ℕ → Module
+returns x = one_function [] (block 0 (ret (IntOperand x) ∷ []) ∷ [])
+
+-- two functions, two parameters, two blocks and two entries of one name
+abbrev pub two_functions : Module
+two_functions = record { functions = (returns 1).functions ++ (returns 2).functions }
+
+abbrev pub two_parameters : Module
+two_parameters = one_function (param i32 1 ∷ param i32 1 ∷ []) (block 0 (ret (at 1) ∷ []) ∷ [])
+
+abbrev pub two_blocks : Module
+two_blocks = one_function [] (block 0 (jump 1 ∷ []) ∷ block 1 (ret (IntOperand 1) ∷ []) ∷ block 1 (ret (IntOperand 2) ∷ []) ∷ [])
+
+abbrev pub two_entries : Module
+two_entries = one_function [] (block 0 (jump 1 ∷ []) ∷ block 1 (phi 2 (IntOperand 1) 0 (IntOperand 2) 0 ∷ ret (at 2) ∷ []) ∷ [])
 
 -- ---- comparisons at the edges of i32
 

@@ -7,7 +7,7 @@ ghost use Rattle.ir_types.specs.Memory.{Memory};
 ghost use Rattle.ir_types.specs.State.{World};
 ghost use Rattle.ir_types.specs.Runs.{observed, Undefined, Going, Returned};
 ghost use Rattle.ir_types.specs.Allows.{Allows};
-ghost use Rattle.ir_laws.specs.Examples.{f, int32, bit, of_i32, chooses, swapped, another_entry, loops, empty, adds, reads_the_old, table_of, lines};
+ghost use Rattle.ir_laws.specs.Examples.{f, int32, bit, of_i32, chooses, swapped, another_entry, loops, empty, adds, reads_the_old, without_value, of_another_type, without_block, phi_at_the_start, phi_behind, without_entry, two_functions, two_parameters, two_blocks, two_entries, table_of, lines};
 
 /// Runs that are worked out, from any memory and any world. The first example of the README with 5 and false, with 5 and true, and with
 /// 5 and poison; a sum that wraps; a phi that reads another one of its block.
@@ -18,6 +18,21 @@ pub fn worked_runs()
     ensures poison { (memory : Memory) (v : World) → observed chooses f (int32 5 ∷ Poison ∷ []) memory v 1 ≡ Undefined }
     ensures wraps { (memory : Memory) (v : World) → observed (adds 4294967295 1) f [] memory v 2 ≡ Returned [] (Some (of_i32 0)) memory }
     ensures old { (memory : Memory) (v : World) → observed reads_the_old f [] memory v 6 ≡ Returned [] (Some (of_i32 5)) memory }
+{}
+
+/// Where no value of the type, no block or no entry is there, and at a phi that no branch enters, a run stands still. Of several functions,
+/// parameters, blocks or entries with one name the first counts.
+pub fn worked_stops()
+    ensures value { (memory : Memory) (v : World) → observed without_value f [] memory v 9 ≡ Going [] }
+    ensures ty { (memory : Memory) (v : World) → observed of_another_type f (bit 1 ∷ []) memory v 9 ≡ Going [] }
+    ensures block { (memory : Memory) (v : World) → observed without_block f [] memory v 9 ≡ Going [] }
+    ensures start { (memory : Memory) (v : World) → observed phi_at_the_start f [] memory v 9 ≡ Going [] }
+    ensures behind { (memory : Memory) (v : World) → observed phi_behind f [] memory v 9 ≡ Going [] }
+    ensures entry { (memory : Memory) (v : World) → observed without_entry f [] memory v 9 ≡ Going [] }
+    ensures first_function { (memory : Memory) (v : World) → observed two_functions f [] memory v 1 ≡ Returned [] (Some (of_i32 1)) memory }
+    ensures first_parameter { (memory : Memory) (v : World) → observed two_parameters f (int32 1 ∷ int32 2 ∷ []) memory v 1 ≡ Returned [] (Some (of_i32 1)) memory }
+    ensures first_block { (memory : Memory) (v : World) → observed two_blocks f [] memory v 2 ≡ Returned [] (Some (of_i32 1)) memory }
+    ensures first_entry { (memory : Memory) (v : World) → observed two_entries f [] memory v 2 ≡ Returned [] (Some (of_i32 1)) memory }
 {}
 
 /// Each predicate of each two of 0, 1, 2147483647, 2147483648 and 4294967295 as i32: a line for each first operand, with a 1 where

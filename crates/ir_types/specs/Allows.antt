@@ -1,7 +1,8 @@
 -- When a module allows another: what the other, the printed one, does is what the module that was read may do.
-use Rattle.std.specs.Prelude.{◌≡◌, ℕ, ◌+◌, ◌*◌, ◌<◌, ◌≤◌, List, length, map, Some}
+use Rattle.std.specs.Prelude.{◌≡◌, ℕ, ◌+◌, ◌*◌, ◌<◌, ◌≤◌, List, length, map, sum_by, Some}
 use Rattle.std.specs.List.{AllZip}
 use Rattle.ir_types.specs.declared.name.Name.{Name}
+use Rattle.ir_types.specs.declared.module.Block.{Block}
 use Rattle.ir_types.specs.declared.module.Function.{Function}
 use Rattle.ir_types.specs.declared.module.Module.{Module}
 use Rattle.ir_types.specs.declared.module.Param.{Param}
@@ -59,6 +60,14 @@ pub record Serves (printed read : ℕ → Observation) (c : ℕ) (v : World) (ho
 pub record Allows (read printed : Module) (c : ℕ) : Type 0 where
   pub covers : Covers read printed
   pub serves : (function : Name) (args : List Value) (memory : Memory) (v : World) (horizon : ℕ) → CanRun read function args memory → (u : World) × Answers v u × Serves (observed printed function args memory v) (observed read function args memory u) c v horizon
+
+-- the number of a module's instructions
+abbrev pub instructions_of : Module → ℕ
+instructions_of m = sum_by (λ (f : Function). sum_by (λ (b : Block). length b.insts) f.body) m.functions
+
+-- the factor for a printed module
+abbrev pub factor_of : Module → ℕ
+factor_of printed = 1 + instructions_of printed
 
 -- one world of the read module under which its run serves the printed run at every horizon
 abbrev pub IsServed : (read printed : Module) (c : ℕ) (function : Name) (args : List Value) (memory : Memory) (v : World) → Type 0

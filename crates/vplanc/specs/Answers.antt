@@ -12,6 +12,7 @@ use Rattle.text_lex.specs.declared.fault.TextFault.TheVariants.{TextLimit, NoRea
 use Rattle.ir_types.specs.declared.module.Module.{Module}
 use Rattle.ir_types.specs.Denotes.{tree_of}
 use Rattle.ir_types.specs.Reads.{Reads}
+use Rattle.ir_types.specs.Allows.{Allows, factor_of}
 use Rattle.ir_reader.specs.Refusal.{HasNoReading, IsStop}
 use Rattle.ir_printer.specs.Print.{module_pieces}
 use Rattle.vplanc.specs.declared.answer.Which.{Which}
@@ -160,6 +161,22 @@ OutHolds told before now BadWords = now ≡ before
 OutHolds told before now (Text fault) = now ≡ before
 OutHolds told before now (ReadFault which) = now ≡ before
 OutHolds told before now Memory = now ≡ before
+
+-- Of a file's text and what was printed of it: both read as a module, and whichever modules these are, the first allows the second, with
+-- one more than the number of the second's instructions as the factor.
+pub record IsAllowed (text printed : List ℕ) : Type 0 where
+  pub file_reads : (m : Module) × Reads text m
+  pub print_reads : (n : Module) × Reads printed n
+  pub allows : (m n : Module) → Reads text m → Reads printed n → Allows m n (factor_of n)
+
+-- where the file and `out` are told, `out` took a text that the file's allows
+abbrev pub TookAllowed : (told before now : Option (List ℕ)) → Type 0
+TookAllowed told before now = IfSome told (λ text. IfSome before (λ old. (printed : List ℕ) × (now ≡ Some (old ++ printed)) × IsAllowed text printed))
+
+-- the same for any words; only where all is done is anything printed whole
+abbrev pub AllowedLeft : Option (List ℕ) → (List ℕ → Option (List ℕ)) → (before now : Option (List ℕ)) → Status → Type 0
+AllowedLeft (Some file) told before now Done = TookAllowed (told file) before now
+AllowedLeft command told before now status = Unit {0}
 
 -- the same for any words
 abbrev pub OutLeft : Option (List ℕ) → (List ℕ → Option (List ℕ)) → (before now : Option (List ℕ)) → Status → Type 0
