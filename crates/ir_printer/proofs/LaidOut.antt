@@ -18,8 +18,8 @@ use Rattle.ir_types.specs.declared.inst.InstKind.{InstKind}
 use Rattle.ir_types.specs.declared.inst.InstKind.TheVariants.{Binary, Compare, Phi, Jump, Branch, Return}
 use Rattle.ir_types.specs.Grammar.{width_of}
 use Rattle.ir_types.specs.Tree.{OperandTree, local, number, InstTree, BlockTree, ParamTree, FunctionTree, ModuleTree}
+use Rattle.ir_shape.specs.Shape.{IsName, IsInt, IsOperand, operand_type, IsResult, IsInst, IsBlock, IsParam, IsFunction, IsModule}
 use Rattle.ir_printer.specs.Print.{token, comma, blank, line_feed, indent, equal, right_paren, left_brace, right_brace, with_commas, local_token, global_token, label_token, type_word, number_token, operand_token, operand_pieces, predicate_word, operator_word, typed_pieces, target_pieces, targets_pieces, entry_pieces, entries_of, kind_pieces, result_pieces, inst_pieces, block_pieces, param_pieces, function_pieces, module_pieces}
-use Rattle.ir_printer.specs.Printable.{IsName, IsInt, IsOperand, operand_type, IsResult, IsInst, IsBlock, IsParam, IsFunction, IsModule}
 use Rattle.ir_printer.proofs.Names.{local_kind, global_kind, label_kind}
 use Rattle.ir_printer.proofs.Numbers.{signed_kind}
 use Rattle.ir_printer.proofs.Spelled.{by_type}

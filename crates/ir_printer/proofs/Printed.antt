@@ -1,26 +1,18 @@
 -- What is printed of a module that some text reads as reads as that module.
-use Rattle.std.proofs.Common.{◌≡◌, refl, sym, ◌∙◌, subst}
+use Rattle.std.proofs.Common.{refl}
 use Rattle.std.specs.List.{AllByRecursion}
-use Rattle.forms.proofs.Exact.{some_is}
 use Rattle.text_lex.specs.Layout.{text_of, tokens_of}
 use Rattle.text_lex.proofs.Layouts.{pieces_lexed}
 use Rattle.ir_types.specs.declared.module.Module.{Module}
 use Rattle.ir_types.specs.Names.{IsTable}
 use Rattle.ir_types.specs.Denotes.{tree_of}
 use Rattle.ir_types.specs.Reads.{Reads, IsReadable}
+use Rattle.ir_shape.specs.Shape.{IsModule}
+use Rattle.ir_shape.proofs.Known.{readable_known}
 use Rattle.ir_printer.specs.Print.{module_pieces}
-use Rattle.ir_printer.specs.Printable.{IsModule}
-use Rattle.ir_printer.proofs.Written.{spelled_is}
-use Rattle.ir_printer.proofs.Numbering.{module_known, written_of, numbered_again}
+use Rattle.ir_printer.proofs.Numbering.{written_of, numbered_again}
 use Rattle.ir_printer.proofs.Spelled.{printed_spells}
 use Rattle.ir_printer.proofs.LaidOut.{module_laid}
-
--- Such a module can be printed.
-pub readable_known : (m : Module) → IsReadable m → IsModule (tree_of m)
-readable_known m (text, r) =
-    let known = module_known r.written r.numbered (spelled_is r.written r.tokens r.spelled) r.numbers in
-    let same : r.numbered ≡ tree_of m = some_is r.numbered r.resolved r.resolves ∙ sym r.denotes.says in
-    subst IsModule same known
 
 -- What is printed of a module that can be printed, and whose names are tables, reads as it.
 reads_again : (m : Module) → IsModule (tree_of m) → AllByRecursion (λ f. IsTable f.names) m.functions → Reads (text_of (module_pieces (tree_of m))) m

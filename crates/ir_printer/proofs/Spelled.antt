@@ -20,10 +20,10 @@ use Rattle.ir_types.specs.declared.opcode.Operation.TheVariants as operations
 use Rattle.ir_types.specs.declared.opcode.Terminator.TheVariants as terminators
 use Rattle.ir_types.specs.Tree.{OperandTree, local, number, InstTree, FunctionTree, ModuleTree}
 use Rattle.ir_types.specs.Grammar.{local_name, global_name, label, int_type, WrittenValue, named, digits, yes, no, value, width_of, operand_at, two_values, binary, predicates, compared, compare, entry_of_phi, phi, target, branch, ret, operation_words, operation, terminator_words, terminator, line, block, parameter, function, module_form}
+use Rattle.ir_shape.specs.Shape.{IsName, IsInt, IsOperand, IsBody, IsInst, IsResult, IsTerminator, EndsOnce, IsBlock, IsParam, IsFunction, IsModule}
 use Rattle.ir_printer.specs.Texts.{signed_text}
 use Rattle.ir_printer.specs.Print as print
 use Rattle.ir_printer.specs.Print.{token, local_token, global_token, label_token, type_word, number_token, operand_token, operand_pieces, predicate_word, operator_word, with_commas, typed_pieces, target_pieces, targets_pieces, entry_pieces, entries_of, kind_pieces, inst_pieces, block_pieces, param_pieces, function_pieces, module_pieces}
-use Rattle.ir_printer.specs.Printable.{IsName, IsInt, IsOperand, IsBody, IsInst, IsResult, IsTerminator, EndsOnce, IsBlock, IsParam, IsFunction, IsModule}
 use Rattle.ir_printer.proofs.Names.{local_again, global_again, label_again}
 use Rattle.ir_printer.proofs.Numbers.{signed_again}
 use Rattle.ir_printer.proofs.Numbering.{written_param, written_block, written_function, written_of}

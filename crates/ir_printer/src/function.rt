@@ -4,8 +4,8 @@ ghost use Rattle.std.specs.Prelude.{◌≡◌, ◌++◌, ◌∷◌, [], map, OnO
 ghost use Rattle.std.specs.List.{AllByRecursion};
 ghost use Rattle.text_lex.specs.Layout.{text_of};
 ghost use Rattle.ir_types.specs.Denotes.{inst_in, block_in, param_in, tree_of_function};
+ghost use Rattle.ir_shape.specs.Shape.{IsInst, IsBlock, IsParam, IsFunction};
 ghost use Rattle.ir_printer.specs.Print.{line_feed, indent, each_behind, separated, with_commas, inst_pieces, block_pieces, param_pieces, head_pieces, function_pieces};
-ghost use Rattle.ir_printer.specs.Printable.{IsInst, IsBlock, IsParam, IsFunction};
 
 use crate::line::put_inst;
 use crate::name::put_name;

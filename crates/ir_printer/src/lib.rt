@@ -23,7 +23,7 @@ use std::alloc::{AllocError, Global};
 /// # Errors
 ///
 /// Where there is no room for the text; then nothing is appended.
-#[tactic(auto, unfolding(crate::specs::Print::module_pieces), using(crate::proofs::Printed::readable_known, crate::proofs::Printed::printed_reads))]
+#[tactic(auto, unfolding(crate::specs::Print::module_pieces), using(ir_shape::proofs::Known::readable_known, crate::proofs::Printed::printed_reads))]
 pub fn print_module(alloc: Global, m: &Module, out: &mut Vec<u8>) -> Result<(), AllocError>
     requires { IsReadable m.now }
     ensures text { OnOk result (out.new.items ≡ out.old.items

@@ -5,8 +5,8 @@ ghost use Rattle.std.specs.List.{AllByRecursion};
 ghost use Rattle.std.specs.Option.{option_map};
 ghost use Rattle.text_lex.specs.Layout.{text_of};
 ghost use Rattle.ir_types.specs.Denotes.{name_in, operand_in, inst_in};
+ghost use Rattle.ir_shape.specs.Shape.{IsName, IsInt, IsOperand, IsBody, IsResult, IsInst};
 ghost use Rattle.ir_printer.specs.Print.{predicate_word, operator_word, target_pieces, targets_pieces, entry_pieces, entries_of, with_commas, kind_pieces, result_pieces, inst_pieces};
-ghost use Rattle.ir_printer.specs.Printable.{IsName, IsInt, IsOperand, IsBody, IsResult, IsInst};
 
 use crate::value::{put_local, put_operand, put_type, put_typed};
 use ir_types::{BinOp, Inst, InstKind, Names, Operand, Pred, Ty, ValueId};

@@ -5,16 +5,16 @@ ghost use Rattle.std.specs.List.{AllByRecursion};
 ghost use Rattle.text_lex.specs.Layout.{text_of};
 ghost use Rattle.ir_types.specs.Grammar.{width_of};
 ghost use Rattle.ir_types.specs.Denotes.{name_in, operand_in};
+ghost use Rattle.ir_shape.specs.Shape.{IsName, IsInt, IsOperand};
 ghost use Rattle.ir_printer.specs.Texts.{signed_text};
 ghost use Rattle.ir_printer.specs.Print.{local_token, type_word, number_token, operand_token, operand_pieces, with_commas, typed_pieces};
-ghost use Rattle.ir_printer.specs.Printable.{IsName, IsInt, IsOperand};
 
 use crate::name::{put_digits, put_name};
 use ir_types::{Names, Operand, Ty, ValueId};
 use std::alloc::AllocError;
 
 /// Appends `%name`.
-#[tactic(auto, using(crate::proofs::Names::within_names))]
+#[tactic(auto, using(ir_shape::proofs::Names::within_names))]
 pub(crate) fn put_local(out: &mut Vec<u8>, names: &Names, name: ValueId) -> Result<(), AllocError>
     requires { IsName (name_in names.now name) }
     ensures { OnOk result (out.new.items ≡ out.old.items

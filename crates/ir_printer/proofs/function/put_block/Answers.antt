@@ -1,4 +1,4 @@
-use Rattle.ir_printer.proofs.Names.{within_names}
+use Rattle.ir_shape.proofs.Names.{within_names}
 use Rattle.ir_printer.proofs.function.put_block.Goals as goal
 
 pub get-requires : goal.get-requires

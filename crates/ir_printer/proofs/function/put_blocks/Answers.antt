@@ -1,7 +1,7 @@
 use Rattle.std.proofs.Common.{arith, ◌∷◌, []}
 use Rattle.ir_types.specs.Denotes.{block_in}
+use Rattle.ir_shape.specs.Shape.{IsBlock}
 use Rattle.ir_printer.specs.Print.{line_feed, block_pieces}
-use Rattle.ir_printer.specs.Printable.{IsBlock}
 use Rattle.ir_printer.proofs.Appended.{behind_first, known_from, printed_next, printed_separated}
 use Rattle.ir_printer.proofs.function.put_blocks.Goals as goal
 

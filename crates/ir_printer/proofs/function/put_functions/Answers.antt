@@ -1,7 +1,7 @@
 use Rattle.std.proofs.Common.{arith, ◌∷◌, []}
 use Rattle.ir_types.specs.Denotes.{tree_of_function}
+use Rattle.ir_shape.specs.Shape.{IsFunction}
 use Rattle.ir_printer.specs.Print.{line_feed, function_pieces}
-use Rattle.ir_printer.specs.Printable.{IsFunction}
 use Rattle.ir_printer.proofs.Appended.{behind_first, known_from, printed_next, printed_separated}
 use Rattle.ir_printer.proofs.function.put_functions.Goals as goal
 

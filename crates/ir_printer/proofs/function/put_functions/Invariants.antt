@@ -3,8 +3,8 @@ use Rattle.std.specs.Prelude.{map}
 use Rattle.std.specs.List.{AllByRecursion}
 use Rattle.text_lex.specs.Layout.{text_of}
 use Rattle.ir_types.specs.Denotes.{tree_of_function}
+use Rattle.ir_shape.specs.Shape.{IsFunction}
 use Rattle.ir_printer.specs.Print.{line_feed, each_behind, function_pieces}
-use Rattle.ir_printer.specs.Printable.{IsFunction}
 use Rattle.ir_printer.proofs.function.put_functions.Given as goal
 
 abbrev pub invariant-loop-function : goal.invariant-loop-function

@@ -1,7 +1,7 @@
 use Rattle.std.proofs.Common.{arith, ◌∷◌, []}
 use Rattle.ir_types.specs.Denotes.{inst_in}
+use Rattle.ir_shape.specs.Shape.{IsInst}
 use Rattle.ir_printer.specs.Print.{indent, inst_pieces}
-use Rattle.ir_printer.specs.Printable.{IsInst}
 use Rattle.ir_printer.proofs.Appended.{known_from, printed_next}
 use Rattle.ir_printer.proofs.function.put_insts.Goals as goal
 

@@ -3,8 +3,8 @@ use Rattle.std.specs.Prelude.{map}
 use Rattle.std.specs.List.{AllByRecursion}
 use Rattle.text_lex.specs.Layout.{text_of}
 use Rattle.ir_types.specs.Denotes.{inst_in}
+use Rattle.ir_shape.specs.Shape.{IsInst}
 use Rattle.ir_printer.specs.Print.{indent, each_behind, inst_pieces}
-use Rattle.ir_printer.specs.Printable.{IsInst}
 use Rattle.ir_printer.proofs.function.put_insts.Given as goal
 
 abbrev pub invariant-loop-inst : goal.invariant-loop-inst

@@ -3,8 +3,8 @@ use Rattle.std.specs.Prelude.{map}
 use Rattle.std.specs.List.{AllByRecursion}
 use Rattle.text_lex.specs.Layout.{text_of}
 use Rattle.ir_types.specs.Denotes.{param_in}
+use Rattle.ir_shape.specs.Shape.{IsParam}
 use Rattle.ir_printer.specs.Print.{comma, blank, each_behind, param_pieces}
-use Rattle.ir_printer.specs.Printable.{IsParam}
 use Rattle.ir_printer.proofs.function.put_params.Given as goal
 
 abbrev pub invariant-loop-param : goal.invariant-loop-param

@@ -3,8 +3,8 @@ use Rattle.std.specs.Prelude.{map}
 use Rattle.std.specs.List.{AllByRecursion}
 use Rattle.text_lex.specs.Layout.{text_of}
 use Rattle.ir_types.specs.Denotes.{name_in, operand_in}
+use Rattle.ir_shape.specs.Shape.{IsName, IsOperand}
 use Rattle.ir_printer.specs.Print.{comma, blank, each_behind, entries_of}
-use Rattle.ir_printer.specs.Printable.{IsName, IsOperand}
 use Rattle.ir_printer.proofs.line.put_entries.Given as goal
 
 abbrev pub invariant-loop-i : goal.invariant-loop-i

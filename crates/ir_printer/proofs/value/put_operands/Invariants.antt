@@ -3,8 +3,8 @@ use Rattle.std.specs.Prelude.{map}
 use Rattle.std.specs.List.{AllByRecursion}
 use Rattle.text_lex.specs.Layout.{text_of}
 use Rattle.ir_types.specs.Denotes.{operand_in}
+use Rattle.ir_shape.specs.Shape.{IsOperand}
 use Rattle.ir_printer.specs.Print.{comma, blank, each_behind, operand_pieces}
-use Rattle.ir_printer.specs.Printable.{IsOperand}
 use Rattle.ir_printer.proofs.value.put_operands.Given as goal
 
 abbrev pub invariant-loop-operand : goal.invariant-loop-operand

@@ -1,4 +1,4 @@
--- Which trees some text says.
+-- What is known of a tree that some text says.
 use Rattle.std.specs.Prelude.{◌≡◌, ◌<◌, ◌^◌, ℕ, ◌⊎◌, List, [], ◌∷◌, length, map, Option, Some, None}
 use Rattle.std.specs.List.{AllByRecursion}
 use Rattle.ir_types.specs.declared.name.Name.{Name}

@@ -21,9 +21,9 @@ use Rattle.ir_types.specs.declared.opcode.Terminator.TheVariants as terminators
 use Rattle.ir_types.specs.Written.{number_at, name_behind}
 use Rattle.ir_types.specs.Tree.{InstTree, WrittenParam, WrittenBlock, WrittenFunction, WrittenModule}
 use Rattle.ir_types.specs.Grammar.{local_name, global_name, label, int_type, WrittenValue, named, digits, yes, no, value, width_of, operand_at, two_values, binary, compared, compare, entry_of_phi, phi, target, jump_tree, branch, ret, operation_behind, operation, terminator_behind, terminator, named_by, line, block, parameter, function, module_form}
-use Rattle.ir_printer.specs.Printable.{IsName, IsInt, IsOperand, IsBody, IsNameThere, IsTerminator, EndsOnce}
-use Rattle.ir_printer.proofs.Names.{behind_is, before_is}
-use Rattle.ir_printer.proofs.Sure.{Sure, one_sure, word_sure, pair_sure, either_sure, mapped_sure, made_sure, ahead_sure, IsThere, optional_sure, by_word_sure, many_sure, behind_sure, after_mark_sure, between_sure, some_sure, commas_sure, list_sure}
+use Rattle.ir_shape.specs.Shape.{IsName, IsInt, IsOperand, IsBody, IsNameThere, IsTerminator, EndsOnce}
+use Rattle.ir_shape.proofs.Names.{behind_is, before_is}
+use Rattle.ir_shape.proofs.Sure.{Sure, one_sure, word_sure, pair_sure, either_sure, mapped_sure, made_sure, ahead_sure, IsThere, optional_sure, by_word_sure, many_sure, behind_sure, after_mark_sure, between_sure, some_sure, commas_sure, list_sure}
 
 -- ---- names, types and values
 

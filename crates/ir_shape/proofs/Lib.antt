@@ -1,0 +1,6 @@
+pub mod Names
+pub mod Sure
+pub mod Written
+pub mod Numbering
+pub mod Known
+pub mod Placing

@@ -1,0 +1,19 @@
+//! What is known of each module that some text reads as, in laws: functions with empty bodies.
+#![tactic(auto)]
+
+ghost use Rattle.ir_types.specs.declared.module.Module.{Module};
+ghost use Rattle.ir_types.specs.Denotes.{tree_of};
+ghost use Rattle.ir_types.specs.Reads.{IsReadable};
+ghost use Rattle.ir_shape.specs.Shape.{IsModule};
+ghost use Rattle.ir_shape.specs.Placed.{IsPlaced};
+
+/// The tree of a module that some text reads as has the shape of one: its names are proper ones, its types are written, each
+/// instruction has the operands, the labels and the result of its kind, and each block ends with its one terminator.
+pub fn readable_has_shape()
+    ensures { (m : Module) → IsReadable m → IsModule (tree_of m) }
+{}
+
+/// In a module that some text reads as, each position of a name is one in its function's table of names.
+pub fn readable_is_placed()
+    ensures { (m : Module) → IsReadable m → IsPlaced m }
+{}
