@@ -1,3 +1,5 @@
+pub mod Positions
+pub mod Pairs
 mod Readings
 pub mod Steps
 pub mod Order
