@@ -1,3 +1,4 @@
+pub mod AlikeValues
 pub mod Positions
 pub mod Pairs
 mod Readings
