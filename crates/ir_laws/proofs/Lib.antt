@@ -1,3 +1,5 @@
+pub mod AlikeAllows
+pub mod Alike
 pub mod AlikeValues
 pub mod Positions
 pub mod Pairs

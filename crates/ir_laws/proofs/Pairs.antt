@@ -1,5 +1,6 @@
 -- Two options, and two lists, whose elements are related pair by pair.
-use Rattle.std.proofs.Common.{◌≡◌, ℕ, zero, suc, ◌+◌, ◌<◌, Bool, true, false, cond, List, [], ◌∷◌, length, Option, Some, None, refl, sym, ap, ◌∙◌, subst, subst₂, one-add, map, take, find, take_while, slice_get, get_or, arith}
+use Rattle.std.proofs.Common.{◌≡◌, ℕ, zero, suc, ◌+◌, ◌<◌, Bool, true, false, cond, List, [], ◌∷◌, length, Option, Some, None, refl, sym, ap, ◌∙◌, subst, subst₂, one-add, map, take, find, take_while, slice_get, get_or, arith, Contains}
+use Rattle.std.proofs.lemmas.Option.{slice_get-get_or, get_or_from_slice_get}
 use Rattle.std.specs.List.{AllZip, AllByRecursion, prefix_len}
 use Rattle.forms.specs.Bind.{◌>>=◌}
 
@@ -72,6 +73,12 @@ module _ {A B : Type 0} (R : A → B → Type 0) where
   zip-map f g same [] (y ∷ ys) h = absurd h
   zip-map f g same (x ∷ xs) [] h = absurd h
   zip-map f g same (x ∷ xs) (y ∷ ys) h = let e = same x y h.0 in let es = zip-map f g same xs ys h.1 in cc
+
+  -- at the place of an element stands one that is related to it
+  pub zip-contains : (xs : List A) (ys : List B) (a : A) → AllZip R xs ys → Contains xs a → (b : B) × Contains ys b × R a b
+  zip-contains xs ys a h c =
+      let t = both-there a (zip-get xs ys c.0 h) (slice_get-get_or xs c.0 a c.1 ∙ ap Some c.2) in
+      (t.0, (c.0, subst (λ k. c.0 < k) (zip-length xs ys h) c.1, get_or_from_slice_get ys c.0 t.0 t.0 t.1), t.2)
 
 -- elements with one image are related, and so are all of two lists with one image
 pub zip-images : {A B C : Type 0} (P : A → Type 0) (Q : B → Type 0) (R : A → B → Type 0) (f : A → C) (g : B → C) → ((a : A) (b : B) → P a → Q b → f a ≡ g b → R a b) → (xs : List A) (ys : List B) → AllByRecursion P xs → AllByRecursion Q ys → map f xs ≡ map g ys → AllZip R xs ys

@@ -86,7 +86,7 @@ pub record SameFunction (f g : Function) : Type 0 where
   pub body : AllZip (SameBlock f.names g.names) f.body g.body
 
 -- functions in pairs, those of each pair of one tree
-pub SameFunctions : Module → Module → Type 0
+abbrev pub SameFunctions : Module → Module → Type 0
 SameFunctions m n = AllZip SameFunction m.functions n.functions
 
 -- ---- from trees
@@ -146,6 +146,5 @@ function-images f g p q e = record {
 
 -- modules of one tree, with all positions in their tables, have the same functions
 pub same-functions : (m n : Module) → IsPlaced m → IsPlaced n → AllByRecursion (λ f. IsTable f.names) m.functions → AllByRecursion (λ f. IsTable f.names) n.functions → tree_of m ≡ tree_of n → SameFunctions m n
-unfolding SameFunctions
 same-functions m n p q t t' e =
     zip-images IsSound IsSound SameFunction tree_of_function tree_of_function function-images m.functions n.functions (all-sound m.functions p t) (all-sound n.functions q t') (ap (λ s. s.functions) e)
