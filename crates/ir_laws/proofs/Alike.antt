@@ -1,24 +1,23 @@
 -- Modules of one tree, with the local names in other positions of their tables, run alike.
-use Rattle.std.proofs.Common.{◌≡◌, ℕ, zero, suc, ◌+◌, Bool, List, [], ◌∷◌, length, Option, Some, None, slice_get, find, take_while, refl, sym, ap, ◌∙◌, subst}
+use Rattle.std.proofs.Common.{◌≡◌, ℕ, zero, suc, ◌+◌, List, [], ◌∷◌, length, Option, Some, None, slice_get, find, refl, sym, ap, subst}
 use Rattle.std.specs.List.{AllZip, AllByRecursion}
 use Rattle.forms.specs.Bind.{◌>>=◌}
 use Rattle.ir_types.specs.declared.name.Name.{Name}
 use Rattle.ir_types.specs.declared.name.ValueId.{ValueId}
-use Rattle.ir_types.specs.declared.inst.InstKind.{InstKind}
 use Rattle.ir_types.specs.declared.inst.Inst.{Inst}
 use Rattle.ir_types.specs.declared.module.Block.{Block}
 use Rattle.ir_types.specs.declared.module.Function.{Function}
 use Rattle.ir_types.specs.declared.module.Module.{Module}
 use Rattle.ir_types.specs.declared.value.Value.{Value}
 use Rattle.ir_types.specs.Names.{IsTable, same_name}
-use Rattle.ir_types.specs.Denotes.{name_in, tree_of}
+use Rattle.ir_types.specs.Denotes.{tree_of}
 use Rattle.ir_types.specs.Values.{Typed}
 use Rattle.ir_types.specs.Memory.{Memory}
-use Rattle.ir_types.specs.State.{Env, same_id, Frame, World, Event, State, Live, Over, Wrong}
-use Rattle.ir_types.specs.Meaning.{function_of, blocks_of, block_at, inst_at, Effect, Sets, Goes, Leaves, Fails, Waits, effect_in, is_phi, phis_of, after_phis, set_result, entered_at, entered, passed, result_of, value_in, returned, carried, step, arguments_in, first_frame, start}
+use Rattle.ir_types.specs.State.{same_id, Frame, World, Event, State, Live, Over, Wrong}
+use Rattle.ir_types.specs.Meaning.{function_of, blocks_of, block_at, inst_at, Effect, effect_in, is_phi, phis_of, entered_at, entered, passed, result_of, value_in, returned, carried, step, arguments_in, first_frame, start}
 use Rattle.ir_types.specs.Runs.{run, seen}
 use Rattle.ir_shape.specs.Placed.{IsPlaced}
-use Rattle.ir_laws.proofs.Pairs.{Both, both_none, both_some, both-bind, both-equal, zip-get, zip-find, zip-while, zip-length}
+use Rattle.ir_laws.proofs.Pairs.{Both, both_none, both_some, both-bind, zip-get, zip-find, zip-while, zip-length}
 use Rattle.ir_laws.proofs.Positions.{SameId, same-test, SameInst, SameBlock, SameFunction, SameFunctions, same-functions}
 use Rattle.ir_laws.proofs.AlikeValues.{SameValues, SameEffect, same_sets, same_goes, same_leaves, same_fails, same_waits, effect-same, result-same, phis-same, arguments-same}
 
@@ -156,6 +155,9 @@ module _ (m n : Module) where
     pub start-same : (name : Name) (values : List Value) (memory : Memory) (world : World) → SameState m n (start m name values memory world) (start n name values memory world)
     start-same name values memory world = begun-same memory world (first_frame m name values) (first_frame n name values) (first-same name values)
 
+    pub states-same : (function : Name) (args : List Value) (memory : Memory) (world : World) (k : ℕ) → SameState m n (run (step m) k (start m function args memory world)) (run (step n) k (start n function args memory world))
+    states-same function args memory world k = run-same k (start m function args memory world) (start n function args memory world) (start-same function args memory world)
+
 -- modules of one tree, all of whose positions stand in their tables, are in like states after each number of steps
 pub alike : (m n : Module) → IsPlaced m → IsPlaced n → tree_of m ≡ tree_of n → AllByRecursion (λ f. IsTable f.names) m.functions → AllByRecursion (λ f. IsTable f.names) n.functions → (function : Name) (args : List Value) (memory : Memory) (world : World) (k : ℕ) → SameState m n (run (step m) k (start m function args memory world)) (run (step n) k (start n function args memory world))
-alike m n p q e t t' function args memory world k = run-same m n k (start m function args memory world) (start n function args memory world) (start-same m n (same-functions m n p q t t' e) function args memory world)
+alike m n p q e t t' = states-same m n (same-functions m n p q t t' e)

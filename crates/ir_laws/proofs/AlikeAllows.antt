@@ -1,32 +1,28 @@
 -- A module that some text reads as allows each module of its tree: n steps for n steps, at no charge.
-use Rattle.std.proofs.Common.{◌≡◌, ℕ, zero, suc, ◌+◌, ◌*◌, ◌<◌, ◌≤◌, Bool, false, List, [], ◌∷◌, length, get_or, map, Option, Some, None, refl, sym, ap, ◌∙◌, subst, arith, le_refl}
-use Rattle.std.specs.Prelude.{Contains}
-use Rattle.std.specs.List.{AllZip}
+use Rattle.std.proofs.Common.{◌≡◌, ℕ, zero, suc, ◌+◌, ◌*◌, ◌<◌, false, List, [], length, Some, refl, sym, ap, ◌∙◌, subst, arith, le_refl}
 use Rattle.forms.specs.Bind.{◌>>=◌}
 use Rattle.ir_types.specs.declared.name.Name.{Name}
 use Rattle.ir_types.specs.declared.name.ValueId.{ValueId}
-use Rattle.ir_types.specs.declared.inst.Inst.{Inst}
-use Rattle.ir_types.specs.declared.module.Block.{Block}
 use Rattle.ir_types.specs.declared.module.Function.{Function}
 use Rattle.ir_types.specs.declared.module.Module.{Module}
 use Rattle.ir_types.specs.declared.value.Value.{Value}
 use Rattle.ir_types.specs.Denotes.{name_in}
 use Rattle.ir_types.specs.Memory.{Memory}
-use Rattle.ir_types.specs.State.{Frame, World, State, Live, Over, Wrong}
-use Rattle.ir_types.specs.Meaning.{function_of, inst_at, Effect, effect_in, entered, step, start}
-use Rattle.ir_types.specs.Runs.{run, seen, observed}
-use Rattle.ir_types.specs.Reads.{SameModule, IsReadable, Reads}
+use Rattle.ir_types.specs.State.{Frame, World, State}
+use Rattle.ir_types.specs.Meaning.{function_of, Effect, effect_in, entered, step, start}
+use Rattle.ir_types.specs.Runs.{run, observed}
+use Rattle.ir_types.specs.Reads.{SameModule, IsReadable}
 use Rattle.ir_types.specs.Refines.{Refines}
-use Rattle.ir_types.specs.Allows.{Defines, SameSignature, Covers, CanRun, Answers, HasReturned, Serves, Allows}
+use Rattle.ir_types.specs.Allows.{Defines, SameSignature, Covers, Answers, HasReturned, Serves, Allows}
 use Rattle.ir_types.specs.Fits.{Fits}
 use Rattle.ir_shape.proofs.Placing.{readable_placed}
-use Rattle.ir_laws.specs.Tolls.{BlockName, HasBlock, names_of, label_of, entered_next, count_of, enters, total, entries, toll, ReturnsAtToll, ServesAtToll, AllowsAtToll}
+use Rattle.ir_laws.specs.Tolls.{BlockName, HasBlock, names_of, label_of, entered_next, count_of, enters, entries, ServesAtToll, AllowsAtToll}
 use Rattle.ir_laws.proofs.Order.{refines-refl}
 use Rattle.ir_laws.proofs.Steps.{returned-later}
-use Rattle.ir_laws.proofs.Pairs.{Both, both_none, both_some, both-bind, both-equal, both-there, zip-length, zip-map, zip-contains}
+use Rattle.ir_laws.proofs.Pairs.{Both, both_none, both_some, both-equal, both-there, zip-length, zip-map, zip-contains}
 use Rattle.ir_laws.proofs.Positions.{SameId, SameInst, SameBlock, SameParam, SameFunction, SameFunctions, same-functions}
 use Rattle.ir_laws.proofs.AlikeValues.{SameEffect, same_sets, same_goes, same_leaves, same_fails, same_waits, effect-same}
-use Rattle.ir_laws.proofs.Alike.{SameFrame, SameState, same_live, same_over, same_wrong, insts-same, entered-same, step-same, run-same, seen-same, found-same, start-same}
+use Rattle.ir_laws.proofs.Alike.{SameFrame, SameState, same_live, same_over, same_wrong, insts-same, entered-same, step-same, seen-same, found-same, start-same, states-same}
 
 -- ---- entries of blocks
 
@@ -96,11 +92,8 @@ module _ (m n : Module) where
     -- ---- runs
 
     module _ (function : Name) (args : List Value) (memory : Memory) (world : World) where
-      states-same : (k : ℕ) → SameState m n (run (step m) k (start m function args memory world)) (run (step n) k (start n function args memory world))
-      states-same k = run-same m n k (start m function args memory world) (start n function args memory world) (start-same m n functions function args memory world)
-
       pub observed-same : (k : ℕ) → observed m function args memory world k ≡ observed n function args memory world k
-      observed-same k = seen-same m n (run (step m) k (start m function args memory world)) (run (step n) k (start n function args memory world)) (states-same k)
+      observed-same k = seen-same m n (run (step m) k (start m function args memory world)) (run (step n) k (start n function args memory world)) (states-same m n functions function args memory world k)
 
       refined-same : (k : ℕ) → Refines (observed n function args memory world k) (observed m function args memory world k)
       refined-same k = subst (λ o. Refines (observed n function args memory world k) o) (sym (observed-same k)) (refines-refl (observed n function args memory world k))

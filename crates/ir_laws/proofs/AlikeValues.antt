@@ -1,5 +1,5 @@
 -- What instructions ask for, where positions that name the same have the same values.
-use Rattle.std.proofs.Common.{◌≡◌, ℕ, ◌+◌, Bool, true, false, cond, nat_eq, if◌then◌else◌, List, [], ◌∷◌, length, Option, Some, None, refl, sym, ap, ◌∙◌, subst}
+use Rattle.std.proofs.Common.{◌≡◌, Bool, true, false, cond, nat_eq, List, [], ◌∷◌, Option, Some, None, refl, ap, ◌∙◌, subst}
 use Rattle.std.specs.List.{AllZip}
 use Rattle.forms.specs.Bind.{◌>>=◌}
 use Rattle.ir_types.specs.declared.name.Name.{Name}
@@ -7,7 +7,7 @@ use Rattle.ir_types.specs.declared.name.ValueId.{ValueId}
 use Rattle.ir_types.specs.declared.inst.Ty.{Ty}
 use Rattle.ir_types.specs.declared.inst.Operand.{Operand}
 use Rattle.ir_types.specs.declared.inst.InstKind.{InstKind}
-use Rattle.ir_types.specs.declared.inst.InstKind.TheVariants.{Binary, Compare, Phi, Jump, Branch, Return}
+use Rattle.ir_types.specs.declared.inst.InstKind.TheVariants.{Binary, Compare, Jump, Branch, Return}
 use Rattle.ir_types.specs.declared.inst.Inst.{Inst}
 use Rattle.ir_types.specs.declared.module.Param.{Param}
 use Rattle.ir_types.specs.declared.value.Value.{Value}
@@ -15,8 +15,8 @@ use Rattle.ir_types.specs.declared.value.Value.TheVariants.{Int, Ptr, Poison, La
 use Rattle.ir_types.specs.Names.{IsTable}
 use Rattle.ir_types.specs.Values.{typed, Typed}
 use Rattle.ir_types.specs.Memory.{Memory}
-use Rattle.ir_types.specs.State.{Env, no_values, same_id, set_value}
-use Rattle.ir_types.specs.Meaning.{operand_value, operand_types, values_of, Effect, Sets, Goes, Leaves, Fails, Waits, branched, effect_of, effect_with, effect_in, is_phi, entry_for, phi_value, set_result, after_phis, arguments_in}
+use Rattle.ir_types.specs.State.{Env, same_id, set_value}
+use Rattle.ir_types.specs.Meaning.{operand_value, operand_types, values_of, Effect, Sets, Goes, Leaves, Fails, Waits, branched, effect_of, effect_with, effect_in, entry_for, phi_value, set_result, after_phis, arguments_in}
 use Rattle.ir_laws.proofs.Pairs.{Both, both_none, both_some, both-equal, both-same}
 use Rattle.ir_laws.proofs.Positions.{SameId, same-test, SameOperand, same_local, same_int, SameInst, SameParam}
 
