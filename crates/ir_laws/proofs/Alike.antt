@@ -84,7 +84,14 @@ module _ (m n : Module) where
   passed-same : (a b : Frame) (h : SameFrame m n a b) (r r' : Option ValueId) → Both (SameId h.f.names h.g.names) r r' → (v : Option Value) → SameFrame m n (passed a r v) (passed b r' v)
   passed-same a b h r r' s None = record { f = h.f; g = h.g; here = h.here; there = h.there; functions = h.functions; name = h.name; block = h.block; place = ap (λ k. k + 1) h.place; env = h.env }
   passed-same a b h r r' s (Some v) = record {
-    f = h.f; g = h.g; here = h.here; there = h.there; functions = h.functions; name = h.name; block = h.block; place = ap (λ k. k + 1) h.place;
+    f = h.f;
+    g = h.g;
+    here = h.here;
+    there = h.there;
+    functions = h.functions;
+    name = h.name;
+    block = h.block;
+    place = ap (λ k. k + 1) h.place;
     env = result-same h.f.names h.g.names h.functions.table h.functions.table' a.env b.env h.env r r' s v;
   }
 

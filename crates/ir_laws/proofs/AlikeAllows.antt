@@ -1,5 +1,5 @@
 -- A module that some text reads as allows each module of its tree: n steps for n steps, at no charge.
-use Rattle.std.proofs.Common.{◌≡◌, ℕ, zero, suc, ◌+◌, ◌*◌, ◌<◌, false, List, [], length, Some, refl, sym, ap, ◌∙◌, subst, arith, le_refl}
+use Rattle.std.proofs.Common.{◌≡◌, ℕ, zero, suc, ◌+◌, ◌*◌, ◌<◌, false, List, [], length, Some, refl, sym, ap, ◌∙◌, subst, arith, le_refl, Option}
 use Rattle.forms.specs.Bind.{◌>>=◌}
 use Rattle.ir_types.specs.declared.name.Name.{Name}
 use Rattle.ir_types.specs.declared.name.ValueId.{ValueId}
@@ -26,6 +26,14 @@ use Rattle.ir_laws.proofs.Alike.{SameFrame, SameState, same_live, same_over, sam
 
 -- ---- entries of blocks
 
+-- a block of the frame's function, by names
+abbrev name_of : Module → Frame → ValueId → BlockName
+name_of m frame label = record { function = frame.function; block = name_in (names_of (function_of m frame.function)) label }
+
+-- that name, where the block can be entered
+abbrev entry_of : Module → Frame → ValueId → Option BlockName
+entry_of m frame label = entered m frame label >>= λ next. Some (name_of m frame label)
+
 module _ (m n : Module) where
   label-same : (ns ns' : List Name) (e e' : Effect) → SameEffect ns ns' e e' → Both (SameId ns ns') (label_of e) (label_of e')
   label-same ns ns' e e' same_sets = both_none
@@ -37,21 +45,16 @@ module _ (m n : Module) where
   block_name-same : (a b : Frame) (h : SameFrame m n a b) (i j : ValueId) → SameId h.f.names h.g.names i j → name_in (names_of (function_of m a.function)) i ≡ name_in (names_of (function_of n b.function)) j
   block_name-same a b h i j s = ap (λ o. name_in (names_of o) i) h.here ∙ s.name ∙ sym (ap (λ o. name_in (names_of o) j) h.there)
 
+  entry-same : (a b : Frame) (h : SameFrame m n a b) (i j : ValueId) → SameId h.f.names h.g.names i j → entry_of m a i ≡ entry_of n b j
+  entry-same a b h i j s =
+      let e : name_of m a i ≡ name_of n b j = let e = h.name in let x = block_name-same a b h i j s in cc in
+      both-equal (SameFrame m n) (λ next. Some (name_of m a i)) (λ next. Some (name_of n b j)) (λ c d t. ap Some e) (entered-same m n a b h i j s)
+
   next-same : (s t : State) → SameState m n s t → entered_next m s ≡ entered_next n t
   next-same s t (same_live {a = a} {b = b} {memory = memory} h callers) =
-      both-equal (SameInst h.f.names h.g.names)
-        (λ i. label_of (effect_in memory a.env i) >>= λ label. entered m a label >>= λ next. Some (record { function = a.function; block = name_in (names_of (function_of m a.function)) label }))
-        (λ i. label_of (effect_in memory b.env i) >>= λ label. entered n b label >>= λ next. Some (record { function = b.function; block = name_in (names_of (function_of n b.function)) label }))
-        (λ i j p. both-equal (SameId h.f.names h.g.names)
-          (λ label. entered m a label >>= λ next. Some (record { function = a.function; block = name_in (names_of (function_of m a.function)) label }))
-          (λ label. entered n b label >>= λ next. Some (record { function = b.function; block = name_in (names_of (function_of n b.function)) label }))
-          (λ k l q. both-equal (SameFrame m n)
-            (λ next. Some (record { function = a.function; block = name_in (names_of (function_of m a.function)) k }))
-            (λ next. Some (record { function = b.function; block = name_in (names_of (function_of n b.function)) l }))
-            (λ c d r. let e = h.name in let x = block_name-same a b h k l q in cc)
-            (entered-same m n a b h k l q))
-          (label-same h.f.names h.g.names (effect_in memory a.env i) (effect_in memory b.env j) (effect-same h.f.names h.g.names memory a.env b.env h.env i j p)))
-        (insts-same m n a b h)
+      both-equal (SameInst h.f.names h.g.names) (λ i. label_of (effect_in memory a.env i) >>= entry_of m a) (λ i. label_of (effect_in memory b.env i) >>= entry_of n b)
+      (λ i j p. both-equal (SameId h.f.names h.g.names) (entry_of m a) (entry_of n b) (entry-same a b h) (label-same h.f.names h.g.names (effect_in memory a.env i) (effect_in memory b.env j) (effect-same h.f.names h.g.names memory a.env b.env h.env i j p)))
+      (insts-same m n a b h)
   next-same s t same_over = refl
   next-same s t same_wrong = refl
 
@@ -69,8 +72,7 @@ module _ (m n : Module) where
     defines-same : (name : Name) (f : Function) → Defines m name f → (g : Function) × Defines n name g × SameSignature f g
     defines-same name f d =
         let t = both-there f (found-same m n functions name) d.found in
-        let s : SameFunction f t.0 = t.2 in
-        (
+        let s : SameFunction f t.0 = t.2 in (
           t.0,
           record { found = t.1; body = subst (λ k. 0 < k) (zip-length (SameBlock f.names t.0.names) f.body t.0.body s.body) d.body },
           record { params = zip-map (SameParam f.names t.0.names) (λ p. p.ty) (λ p. p.ty) (λ p q r. r.ty) f.params t.0.params s.params; ret = s.ret },
@@ -137,11 +139,20 @@ module _ (m n : Module) where
 
 -- what one module of a tree is read from, the other is too
 readable-too : (m n : Module) → IsReadable m → SameModule m n → IsReadable n
-readable-too m n r s =
-    (r.0, record {
-      tokens = r.1.tokens; written = r.1.written; numbered = r.1.numbered; resolved = r.1.resolved; lexes = r.1.lexes; spelled = r.1.spelled; numbers = r.1.numbers; resolves = r.1.resolves;
-      denotes = record { says = s.second.says ∙ sym s.first.says ∙ r.1.denotes.says; tables = s.second.tables };
-    })
+readable-too m n r s = (
+  r.0,
+  record {
+    tokens = r.1.tokens;
+    written = r.1.written;
+    numbered = r.1.numbered;
+    resolved = r.1.resolved;
+    lexes = r.1.lexes;
+    spelled = r.1.spelled;
+    numbers = r.1.numbers;
+    resolves = r.1.resolves;
+    denotes = record { says = s.second.says ∙ sym s.first.says ∙ r.1.denotes.says; tables = s.second.tables };
+  },
+)
 
 functions-same : (m n : Module) → IsReadable m → SameModule m n → SameFunctions m n
 functions-same m n r s = same-functions m n (readable_placed m r) (readable_placed n (readable-too m n r s)) s.first.tables s.second.tables (s.first.says ∙ sym s.second.says)

@@ -99,7 +99,7 @@ module _ (ns ns' : List Name) where
   pub effect-same : (memory : Memory) (env env' : Env) → SameValues ns ns' env env' → (i j : Inst) → SameInst ns ns' i j → SameEffect ns ns' (effect_in memory env i) (effect_in memory env' j)
   effect-same memory env env' h i j s =
       let e : values_of env (operand_types i.kind i.ty) i.args ≡ values_of env' (operand_types j.kind j.ty) j.args =
-          ap (λ types. values_of env types i.args) (types-same i j s) ∙ values-same env env' h (operand_types j.kind j.ty) i.args j.args s.args in
+      ap (λ types. values_of env types i.args) (types-same i j s) ∙ values-same env env' h (operand_types j.kind j.ty) i.args j.args s.args in
       subst (λ o. SameEffect ns ns' (effect_in memory env i) (effect_with memory j o)) e (effect_with-same memory i j s (values_of env (operand_types i.kind i.ty) i.args))
 
   -- ---- values after phis

@@ -53,8 +53,8 @@ one-truth false false f g = refl
 pub same-test : (ns ns' : List Name) → IsTable ns → IsTable ns' → (i j i' j' : ValueId) → SameId ns ns' i j → SameId ns ns' i' j' → same_id i i' ≡ same_id j j'
 same-test ns ns' one other i j i' j' h h' =
     one-truth (same_id i i') (same_id j j')
-      (λ e. eq-eqb j.0 j'.0 (one-place ns' other j j' h.there h'.there (sym h.name ∙ ap (name_at ns) (eqb-true i.0 i'.0 e) ∙ h'.name)))
-      (λ e. eq-eqb i.0 i'.0 (one-place ns one i i' h.here h'.here (h.name ∙ ap (name_at ns') (eqb-true j.0 j'.0 e) ∙ sym h'.name)))
+    (λ e. eq-eqb j.0 j'.0 (one-place ns' other j j' h.there h'.there (sym h.name ∙ ap (name_at ns) (eqb-true i.0 i'.0 e) ∙ h'.name)))
+    (λ e. eq-eqb i.0 i'.0 (one-place ns one i i' h.here h'.here (h.name ∙ ap (name_at ns') (eqb-true j.0 j'.0 e) ∙ sym h'.name)))
 
 -- ---- instructions, blocks and functions
 
