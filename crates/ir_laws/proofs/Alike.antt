@@ -70,16 +70,16 @@ module _ (m n : Module) where
 
   -- ---- frames
 
-  entered_at-same : (a b : Frame) (h : SameFrame m n a b) (i j : ValueId) → SameId h.f.names h.g.names i j → (c d : Block) → SameBlock h.f.names h.g.names c d → Both (SameFrame m n) (entered_at a i c) (entered_at b j d)
-  entered_at-same a b h i j s c d t =
+  entered_at-same : (memory : Memory) (a b : Frame) (h : SameFrame m n a b) (i j : ValueId) → SameId h.f.names h.g.names i j → (c d : Block) → SameBlock h.f.names h.g.names c d → Both (SameFrame m n) (entered_at m memory a i c) (entered_at n memory b j d)
+  entered_at-same memory a b h i j s c d t =
       let phis = head-same h.f h.g h.functions c d t in
       both-bind (SameValues h.f.names h.g.names) (SameFrame m n) (λ env. Some (record { function = a.function; block = i; place = length (phis_of c); env = env })) (λ env. Some (record { function = b.function; block = j; place = length (phis_of d); env = env }))
       (λ env env' k. both_some (record { f = h.f; g = h.g; here = h.here; there = h.there; functions = h.functions; name = h.name; block = s; place = zip-length (SameInst h.f.names h.g.names) (phis_of c) (phis_of d) phis; env = k }))
-      (phis-same h.f.names h.g.names h.functions.table h.functions.table' a.env b.env h.env a.block b.block h.block (phis_of c) (phis_of d) phis a.env b.env h.env)
+      (phis-same m n memory h.f.names h.g.names h.functions.table h.functions.table' a.env b.env h.env a.block b.block h.block (phis_of c) (phis_of d) phis a.env b.env h.env)
 
-  pub entered-same : (a b : Frame) (h : SameFrame m n a b) (i j : ValueId) → SameId h.f.names h.g.names i j → Both (SameFrame m n) (entered m a i) (entered n b j)
-  entered-same a b h i j s =
-      both-bind (SameBlock h.f.names h.g.names) (SameFrame m n) (entered_at a i) (entered_at b j) (entered_at-same a b h i j s) (blocks-same a b h i j s)
+  pub entered-same : (memory : Memory) (a b : Frame) (h : SameFrame m n a b) (i j : ValueId) → SameId h.f.names h.g.names i j → Both (SameFrame m n) (entered m memory a i) (entered n memory b j)
+  entered-same memory a b h i j s =
+      both-bind (SameBlock h.f.names h.g.names) (SameFrame m n) (entered_at m memory a i) (entered_at n memory b j) (entered_at-same memory a b h i j s) (blocks-same a b h i j s)
 
   passed-same : (a b : Frame) (h : SameFrame m n a b) (r r' : Option ValueId) → Both (SameId h.f.names h.g.names) r r' → (v : Option Value) → SameFrame m n (passed a r v) (passed b r' v)
   passed-same a b h r r' s None = record { f = h.f; g = h.g; here = h.here; there = h.there; functions = h.functions; name = h.name; block = h.block; place = ap (λ k. k + 1) h.place; env = h.env }
@@ -115,14 +115,14 @@ module _ (m n : Module) where
 
     carried-same : (i j : Inst) → SameInst h.f.names h.g.names i j → (e e' : Effect) → SameEffect h.f.names h.g.names e e' → SameState m n (carried m i e a above memory world events) (carried n j e' b others memory world events)
     carried-same i j s e e' (same_sets {v = v}) = same_live (passed-same a b h i.result j.result s.result (Some v)) callers
-    carried-same i j s e e' (same_goes {i = k} {j = l} t) = goes-same (entered m a k) (entered n b l) (entered-same a b h k l t)
+    carried-same i j s e e' (same_goes {i = k} {j = l} t) = goes-same (entered m memory a k) (entered n memory b l) (entered-same memory a b h k l t)
     carried-same i j s e e' (same_leaves {v = v}) = returned-same v above others callers memory world events
     carried-same i j s e e' same_fails = same_wrong
     carried-same i j s e e' same_waits = same_live h callers
 
-    live-same : (o p : Option Inst) → Both (SameInst h.f.names h.g.names) o p → SameState m n (elim o [ None ↦ Live a above memory world events | Some i ↦ carried m i (effect_in memory a.env i) a above memory world events ]) (elim p [ None ↦ Live b others memory world events | Some i ↦ carried n i (effect_in memory b.env i) b others memory world events ])
+    live-same : (o p : Option Inst) → Both (SameInst h.f.names h.g.names) o p → SameState m n (elim o [ None ↦ Live a above memory world events | Some i ↦ carried m i (effect_in m memory a.env i) a above memory world events ]) (elim p [ None ↦ Live b others memory world events | Some i ↦ carried n i (effect_in n memory b.env i) b others memory world events ])
     live-same o p both_none = same_live h callers
-    live-same o p (both_some {a = i} {b = j} s) = carried-same i j s (effect_in memory a.env i) (effect_in memory b.env j) (effect-same h.f.names h.g.names memory a.env b.env h.env i j s)
+    live-same o p (both_some {a = i} {b = j} s) = carried-same i j s (effect_in m memory a.env i) (effect_in n memory b.env j) (effect-same m n memory h.f.names h.g.names a.env b.env h.env i j s)
 
   -- a step keeps states alike
   pub step-same : (s t : State) → SameState m n s t → SameState m n (step m s) (step n t)

@@ -1,5 +1,5 @@
 -- A module that some text reads as allows each module of its tree: n steps for n steps, at no charge.
-use Rattle.std.proofs.Common.{◌≡◌, ℕ, zero, suc, ◌+◌, ◌*◌, ◌<◌, false, List, [], length, Some, refl, sym, ap, ◌∙◌, subst, arith, le_refl, Option}
+use Rattle.std.proofs.Common.{◌≡◌, ℕ, zero, suc, ◌<◌, false, List, [], length, Some, refl, sym, ap, ◌∙◌, subst, arith, le_refl, Option}
 use Rattle.forms.specs.Bind.{◌>>=◌}
 use Rattle.ir_types.specs.declared.name.Name.{Name}
 use Rattle.ir_types.specs.declared.name.ValueId.{ValueId}
@@ -13,12 +13,13 @@ use Rattle.ir_types.specs.Meaning.{function_of, Effect, effect_in, entered, step
 use Rattle.ir_types.specs.Runs.{run, observed}
 use Rattle.ir_types.specs.Reads.{SameModule, IsReadable}
 use Rattle.ir_types.specs.Refines.{Refines}
-use Rattle.ir_types.specs.Allows.{Defines, SameSignature, Covers, Answers, HasReturned, Serves, Allows}
+use Rattle.ir_types.specs.Allows.{Defines, SameSignature, Covers, Answers, HasReturned, Allows}
 use Rattle.ir_types.specs.Fits.{Fits}
 use Rattle.ir_shape.proofs.Placing.{readable_placed}
 use Rattle.ir_laws.specs.Tolls.{BlockName, HasBlock, names_of, label_of, entered_next, count_of, enters, entries, ServesAtToll, AllowsAtToll}
 use Rattle.ir_laws.proofs.Order.{refines-refl}
-use Rattle.ir_laws.proofs.Steps.{returned-later}
+use Rattle.ir_laws.proofs.Readings.{reads-too}
+use Rattle.ir_laws.proofs.Ledger.{toll-is-allowed}
 use Rattle.ir_laws.proofs.Pairs.{Both, both_none, both_some, both-equal, both-there, zip-length, zip-map, zip-contains}
 use Rattle.ir_laws.proofs.Positions.{SameId, SameInst, SameBlock, SameParam, SameFunction, SameFunctions, same-functions}
 use Rattle.ir_laws.proofs.AlikeValues.{SameEffect, same_sets, same_goes, same_leaves, same_fails, same_waits, effect-same}
@@ -31,8 +32,8 @@ abbrev name_of : Module → Frame → ValueId → BlockName
 name_of m frame label = record { function = frame.function; block = name_in (names_of (function_of m frame.function)) label }
 
 -- that name, where the block can be entered
-abbrev entry_of : Module → Frame → ValueId → Option BlockName
-entry_of m frame label = entered m frame label >>= λ next. Some (name_of m frame label)
+abbrev entry_of : Module → Memory → Frame → ValueId → Option BlockName
+entry_of m memory frame label = entered m memory frame label >>= λ next. Some (name_of m frame label)
 
 module _ (m n : Module) where
   label-same : (ns ns' : List Name) (e e' : Effect) → SameEffect ns ns' e e' → Both (SameId ns ns') (label_of e) (label_of e')
@@ -45,15 +46,15 @@ module _ (m n : Module) where
   block_name-same : (a b : Frame) (h : SameFrame m n a b) (i j : ValueId) → SameId h.f.names h.g.names i j → name_in (names_of (function_of m a.function)) i ≡ name_in (names_of (function_of n b.function)) j
   block_name-same a b h i j s = ap (λ o. name_in (names_of o) i) h.here ∙ s.name ∙ sym (ap (λ o. name_in (names_of o) j) h.there)
 
-  entry-same : (a b : Frame) (h : SameFrame m n a b) (i j : ValueId) → SameId h.f.names h.g.names i j → entry_of m a i ≡ entry_of n b j
-  entry-same a b h i j s =
+  entry-same : (memory : Memory) (a b : Frame) (h : SameFrame m n a b) (i j : ValueId) → SameId h.f.names h.g.names i j → entry_of m memory a i ≡ entry_of n memory b j
+  entry-same memory a b h i j s =
       let e : name_of m a i ≡ name_of n b j = let e = h.name in let x = block_name-same a b h i j s in cc in
-      both-equal (SameFrame m n) (λ next. Some (name_of m a i)) (λ next. Some (name_of n b j)) (λ c d t. ap Some e) (entered-same m n a b h i j s)
+      both-equal (SameFrame m n) (λ next. Some (name_of m a i)) (λ next. Some (name_of n b j)) (λ c d t. ap Some e) (entered-same m n memory a b h i j s)
 
   next-same : (s t : State) → SameState m n s t → entered_next m s ≡ entered_next n t
   next-same s t (same_live {a = a} {b = b} {memory = memory} h callers) =
-      both-equal (SameInst h.f.names h.g.names) (λ i. label_of (effect_in memory a.env i) >>= entry_of m a) (λ i. label_of (effect_in memory b.env i) >>= entry_of n b)
-      (λ i j p. both-equal (SameId h.f.names h.g.names) (entry_of m a) (entry_of n b) (entry-same a b h) (label-same h.f.names h.g.names (effect_in memory a.env i) (effect_in memory b.env j) (effect-same h.f.names h.g.names memory a.env b.env h.env i j p)))
+      both-equal (SameInst h.f.names h.g.names) (λ i. label_of (effect_in m memory a.env i) >>= entry_of m memory a) (λ i. label_of (effect_in n memory b.env i) >>= entry_of n memory b)
+      (λ i j p. both-equal (SameId h.f.names h.g.names) (entry_of m memory a) (entry_of n memory b) (entry-same memory a b h) (label-same h.f.names h.g.names (effect_in m memory a.env i) (effect_in n memory b.env j) (effect-same m n memory h.f.names h.g.names a.env b.env h.env i j p)))
       (insts-same m n a b h)
   next-same s t same_over = refl
   next-same s t same_wrong = refl
@@ -106,13 +107,6 @@ module _ (m n : Module) where
       answers-same : Answers world world
       answers-same = record { replies = refl; numbers = le_refl (length world.numbers) }
 
-      serves-same : (horizon : ℕ) → Serves (observed n function args memory world) (observed m function args memory world) 1 world horizon
-      serves-same horizon = record {
-        steps = λ k. k;
-        refined = λ k le. refined-same k;
-        returns = λ k h room. returned-later n k (1 * (k + 1)) (start n function args memory world) (omega arith) (returns-same k h);
-      }
-
       counts-same : (b : BlockName) (k : ℕ) → entries m b k (start m function args memory world) ≡ entries n b k (start n function args memory world)
       counts-same b k = entries-same b k (start m function args memory world) (start n function args memory world) (start-same m n functions function args memory world)
 
@@ -129,30 +123,13 @@ module _ (m n : Module) where
         };
       }
 
-    allows-same : Allows m n 1
-    allows-same = record { covers = covers-same; serves = λ function args memory world horizon can. (world, answers-same function args memory world, serves-same function args memory world horizon) }
-
     allows_at_toll-same : AllowsAtToll m n (λ k. false) []
     allows_at_toll-same = record { covers = covers-same; keeps = keeps-same; serves = λ function args memory world horizon can. (world, answers-same function args memory world, toll-same function args memory world horizon) }
 
 -- ---- modules that some text reads as
 
--- what one module of a tree is read from, the other is too
 readable-too : (m n : Module) → IsReadable m → SameModule m n → IsReadable n
-readable-too m n r s = (
-  r.0,
-  record {
-    tokens = r.1.tokens;
-    written = r.1.written;
-    numbered = r.1.numbered;
-    resolved = r.1.resolved;
-    lexes = r.1.lexes;
-    spelled = r.1.spelled;
-    numbers = r.1.numbers;
-    resolves = r.1.resolves;
-    denotes = record { says = s.second.says ∙ sym s.first.says ∙ r.1.denotes.says; tables = s.second.tables };
-  },
-)
+readable-too m n r s = (r.0, reads-too r.0 m n r.1 s)
 
 functions-same : (m n : Module) → IsReadable m → SameModule m n → SameFunctions m n
 functions-same m n r s = same-functions m n (readable_placed m r) (readable_placed n (readable-too m n r s)) s.first.tables s.second.tables (s.first.says ∙ sym s.second.says)
@@ -160,8 +137,8 @@ functions-same m n r s = same-functions m n (readable_placed m r) (readable_plac
 pub run_alike : (m n : Module) → IsReadable m → SameModule m n → (function : Name) (args : List Value) (memory : Memory) (v : World) (k : ℕ) → observed m function args memory v k ≡ observed n function args memory v k
 run_alike m n r s = observed-same m n (functions-same m n r s)
 
-pub allowed : (m n : Module) → IsReadable m → SameModule m n → Allows m n 1
-allowed m n r s = allows-same m n (functions-same m n r s)
-
 pub costs_nothing : (m n : Module) → IsReadable m → SameModule m n → AllowsAtToll m n (λ k. false) []
 costs_nothing m n r s = allows_at_toll-same m n (functions-same m n r s)
+
+pub allowed : (m n : Module) → IsReadable m → SameModule m n → Allows m n 1
+allowed m n r s = toll-is-allowed m n (λ k. false) [] (costs_nothing m n r s)

@@ -1,17 +1,11 @@
 -- Tolls add up, and what is allowed at a toll is allowed with a factor.
-use Rattle.std.proofs.Common.{◌≡◌, ◌≢◌, ℕ, zero, suc, ◌+◌, ◌*◌, ◌≤◌, Bool, true, false, IsFalse, ◌||◌, ◌&&◌, List, [], ◌∷◌, ◌++◌, Option, Some, None, AllPairs, if◌then◌else◌, refl, sym, ap, ap₂, ◌∙◌, arith, true≢false, mul-le-mul_left, le_trans}
-use Rattle.std.specs.Bool.{Decides}
+use Rattle.std.proofs.Common.{◌≡◌, ℕ, zero, suc, ◌+◌, ◌*◌, ◌≤◌, Bool, true, false, IsFalse, ◌||◌, ◌&&◌, List, [], ◌∷◌, ◌++◌, Option, Some, None, if◌then◌else◌, refl, ◌∙◌, arith, true≢false, mul-le-mul_left, le_trans}
 use Rattle.std.specs.List.{AllByRecursion}
-use Rattle.std.proofs.lemmas.List.Elements.{recursion_from_All}
-use Rattle.std.proofs.lemmas.Bool.Decides.{Decides-at, Decides-and, Decides-like}
-use Rattle.ir_types.specs.declared.name.Name.{Name}
-use Rattle.ir_types.specs.declared.name.Name.TheVariants.{Text, Number}
 use Rattle.ir_types.specs.declared.module.Module.{Module}
 use Rattle.ir_types.specs.Names.{same_name}
 use Rattle.ir_types.specs.State.{State}
 use Rattle.ir_types.specs.Meaning.{step, start}
 use Rattle.ir_types.specs.Allows.{Allows}
-use Rattle.ir_types.proofs.SameNames.{name_eq, name_eq-Decides}
 use Rattle.ir_laws.specs.Tolls.{BlockName, HasBlock, Charge, costs_of, count_of, entered_next, entries, toll, ReturnsAtToll, AllowsAtToll}
 use Rattle.ir_laws.proofs.Order.{refines-trans}
 use Rattle.ir_laws.proofs.Steps.{returned-later}

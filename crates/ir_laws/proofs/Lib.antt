@@ -1,16 +1,16 @@
-pub mod AlikeAllows
-pub mod Alike
-pub mod AlikeValues
-pub mod Positions
-pub mod Pairs
-mod Readings
+pub mod Readings
 pub mod Steps
 pub mod Order
 pub mod Operations
+pub mod Onward
 pub mod Composed
 pub mod Ledger
+pub mod Settled
 pub mod Numbers
 pub mod Simulated
-mod Onward
-mod Settled
+pub mod Pairs
+pub mod Positions
+pub mod AlikeValues
+pub mod Alike
+pub mod AlikeAllows
 mod Refused

@@ -1,5 +1,5 @@
 -- The operations of a step respect refinement.
-use Rattle.std.proofs.Common.{◌≡◌, ℕ, ◌+◌, ◌<◌, ◌%◌, ◌^◌, ◌&&◌, eqb, ltb, eqb-true, List, [], ◌∷◌, Bool, true, false, Some, None, refl, sym, subst, ◌⊎◌, inl, inr, arith}
+use Rattle.std.proofs.Common.{◌≡◌, ℕ, ◌+◌, ◌%◌, ◌^◌, ◌&&◌, eqb, ltb, eqb-true, List, [], ◌∷◌, Bool, true, false, Some, None, refl, sym, subst, ◌⊎◌, inl, inr}
 use Rattle.std.proofs.lemmas.Bool.{eq-eqb, lt-ltb}
 use Rattle.std.proofs.lemmas.Nat.{mod_below, pow_pos}
 use Rattle.ir_types.specs.declared.name.ValueId.{ValueId}
@@ -13,7 +13,7 @@ use Rattle.ir_types.specs.declared.inst.InstKind.TheVariants.{Binary, Compare, P
 use Rattle.ir_types.specs.declared.module.Module.{Module}
 use Rattle.ir_types.specs.declared.value.Value.{Value}
 use Rattle.ir_types.specs.declared.value.Value.TheVariants.{Int, Ptr, Poison, Lanes}
-use Rattle.ir_types.specs.Values.{HasType, combined, compared, of_numbers, sum, holds, truth}
+use Rattle.ir_types.specs.Values.{HasType, of_numbers, sum, holds, truth}
 use Rattle.ir_types.specs.Memory.{Memory}
 use Rattle.ir_types.specs.Meaning.{Effect, Sets, Goes, Leaves, Fails, Waits, effect_of, branched, operand_types}
 use Rattle.ir_types.specs.Refines.{ValueRefines, same_value, of_poison, of_pointer, of_lanes, MemoryRefines, no_result, result as a_result}

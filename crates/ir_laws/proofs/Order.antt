@@ -1,5 +1,5 @@
 -- Refinement is a preorder.
-use Rattle.std.proofs.Common.{◌≡◌, ℕ, List, [], ◌∷◌, Option, Some, None, refl, sym, ◌∙◌, subst}
+use Rattle.std.proofs.Common.{ℕ, List, [], ◌∷◌, Option, Some, None, refl, ◌∙◌, subst}
 use Rattle.std.specs.List.{AllZip}
 use Rattle.ir_types.specs.declared.inst.Ty.{Ty}
 use Rattle.ir_types.specs.declared.inst.Ty.TheVariants.{Int as IntTy, Void}
@@ -8,7 +8,7 @@ use Rattle.ir_types.specs.declared.value.Byte.{Byte}
 use Rattle.ir_types.specs.declared.value.Byte.TheVariants.{Part}
 use Rattle.ir_types.specs.declared.value.Value.{Value}
 use Rattle.ir_types.specs.declared.value.Allocation.{Allocation}
-use Rattle.ir_types.specs.Values.{HasType, Typed}
+use Rattle.ir_types.specs.Values.{Typed}
 use Rattle.ir_types.specs.Memory.{Memory, IsByte}
 use Rattle.ir_types.specs.State.{Event}
 use Rattle.ir_types.specs.Runs.{Observation, Undefined, Going, Returned}

@@ -44,3 +44,17 @@ unnumbered text tokens written m x s e r =
 
 pub stopped : (text : List ℕ) (place : ℕ) (m : Module) → StopsAt text place → Reads text m → ⊥
 stopped text place m h r = stops_lexes text place r.tokens h r.lexes
+
+-- what a text reads as, it reads as with the names in other positions too
+pub reads-too : (text : List ℕ) (m n : Module) → Reads text m → SameModule m n → Reads text n
+reads-too text m n r s = record {
+  tokens = r.tokens;
+  written = r.written;
+  numbered = r.numbered;
+  resolved = r.resolved;
+  lexes = r.lexes;
+  spelled = r.spelled;
+  numbers = r.numbers;
+  resolves = r.resolves;
+  denotes = record { says = s.second.says ∙ sym s.first.says ∙ r.denotes.says; tables = s.second.tables };
+}

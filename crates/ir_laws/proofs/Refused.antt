@@ -1,15 +1,14 @@
 -- What the first example does not allow.
-use Rattle.std.proofs.Common.{◌≡◌, ◌≢◌, ℕ, zero, suc, ◌+◌, ◌*◌, ◌≤◌, ◌<◌, List, [], ◌∷◌, length, replicate, Option, Some, None, refl, sym, ap, subst, arith}
+use Rattle.std.proofs.Common.{◌≡◌, ◌≢◌, ℕ, zero, suc, ◌+◌, ◌*◌, ◌<◌, List, [], ◌∷◌, length, replicate, Some, None, refl, ap, subst, arith}
 use Rattle.std.proofs.lemmas.List.{length-replicate}
-use Rattle.ir_types.specs.declared.name.Name.{Name}
 use Rattle.ir_types.specs.declared.module.Function.{Function}
 use Rattle.ir_types.specs.declared.module.Module.{Module}
 use Rattle.ir_types.specs.declared.value.Value.{Value}
 use Rattle.ir_types.specs.Memory.{Memory}
 use Rattle.ir_types.specs.State.{World, State, Over}
 use Rattle.ir_types.specs.Meaning.{step, start, function_of}
-use Rattle.ir_types.specs.Runs.{run, seen, observed, Observation, Returned}
-use Rattle.ir_types.specs.Refines.{ValueRefines, same_value, of_poison, ResultRefines, result, Refines, returned}
+use Rattle.ir_types.specs.Runs.{seen, observed, Returned}
+use Rattle.ir_types.specs.Refines.{ValueRefines, same_value, result, Refines, returned}
 use Rattle.ir_types.specs.Fits.{Fits}
 use Rattle.ir_types.specs.Allows.{Defines, CanRun, HasReturned, Allows}
 use Rattle.ir_laws.specs.Examples.{f, i32, int32, bit, of_i32, chooses, swapped, another_entry, loops, empty}
