@@ -6,8 +6,8 @@ use Rattle.ir_types.specs.declared.module.Module.{Module}
 use Rattle.ir_types.specs.Allows.{Allows, factor_of}
 use Rattle.ir_types.specs.Reads.{Reads, SameModule}
 use Rattle.ir_laws.proofs.Composed.{allowing-grows}
-use Rattle.ir_laws.proofs.Same.{same-module-allowed}
-use Rattle.ir_laws.proofs.Readings.{one_reading, same_module_trans}
+use Rattle.ir_laws.proofs.AlikeAllows.{allowed}
+use Rattle.ir_laws.proofs.Readings.{one_reading, reads-too}
 use Rattle.vplanc.specs.declared.answer.Status.{Status}
 use Rattle.vplanc.specs.declared.answer.Status.TheVariants.{Done, BadWords, Text, ReadFault, WriteFault, Memory}
 use Rattle.vplanc.specs.Answers.{TookAll, OutHolds, OutLeft, IsAllowed, TookAllowed, AllowedLeft}
@@ -15,7 +15,7 @@ use Rattle.vplanc.specs.Answers.{TookAll, OutHolds, OutLeft, IsAllowed, TookAllo
 -- two texts that read as one module allow whatever modules they read as
 text-allows : (text printed : List ℕ) (meant m n : Module) → Reads text meant → Reads printed meant → Reads text m → Reads printed n → Allows m n (factor_of n)
 text-allows text printed meant m n a b r s =
-    allowing-grows m n 1 (factor_of n) (omega arith) (same-module-allowed m n (text, r) (same_module_trans m meant n (one_reading text m meant r a) (one_reading printed meant n b s)))
+    allowing-grows m n 1 (factor_of n) (omega arith) (allowed m n (text, r) (one_reading text m n r (reads-too text meant n a (one_reading printed meant n b s))))
 
 took-allowed : (told before now : Option (List ℕ)) → TookAll told before now → TookAllowed told before now
 took-allowed None before now t = tt

@@ -5,7 +5,7 @@ ghost use Rattle.vplan_io.specs.Causes.{Rose, longest, and_then};
 ghost use Rattle.ir_types.specs.Reads.{Reads, IsReadable};
 ghost use Rattle.vplanc.specs.declared.answer.Status.TheVariants.{Done, BadWords};
 ghost use Rattle.vplanc.specs.Words.{command_of};
-ghost use Rattle.vplanc.specs.Answers.{Cause, FileCause, WriteCause, OutHolds, OutLeft, IsMeant, IsPrinted, IsAccepted, IsBeforeOut, Delivered, Completes, line_of};
+ghost use Rattle.vplanc.specs.Answers.{Cause, FileCause, WriteCause, OutHolds, OutLeft, IsMeant, IsPrinted, IsAccepted, IsBeforeOut, AllowedLeft, Delivered, Completes, line_of};
 
 use crate::answer::{Status, Which};
 use crate::message::put_line;
@@ -104,8 +104,9 @@ pub fn run<F: Files, O: Sink, N: Sink>(
     ensures write { WriteCause (O.faults out.old) (O.faults out.new) result }
     ensures complete { Completes (command_of (map string_bytes words.now)) (F.told files.old) (λ name. Rose (F.faults files.old name) (F.faults files.new name)) (Rose (O.faults out.old) (O.faults out.new)) result }
 
-    // What the sinks took. Before `out` has its turn it is as it was, and so are the notes where all is done.
+    // What the sinks took. Where all is done, whatever the file and the print read as, the file's module allows the print's. Before `out` has its turn it is as it was, and so are the notes where all is done.
     ensures out { OutLeft (command_of (map string_bytes words.now)) (F.told files.old) (O.taken out.old) (O.taken out.new) result }
+    ensures allowed { AllowedLeft (command_of (map string_bytes words.now)) (F.told files.old) (O.taken out.old) (O.taken out.new) result }
     ensures untouched { IsBeforeOut result → out.new ≡ out.old }
     ensures notes { ¬ Rose (N.faults notes.old) (N.faults notes.new) → N.taken notes.new ≡ and_then (N.taken notes.old) (line_of result) }
     ensures notes_front { (n : ℕ) × (N.taken notes.new ≡ and_then (N.taken notes.old) (take n (line_of result))) }
