@@ -104,7 +104,8 @@ pub fn run<F: Files, O: Sink, N: Sink>(
     ensures write { WriteCause (O.faults out.old) (O.faults out.new) result }
     ensures complete { Completes (command_of (map string_bytes words.now)) (F.told files.old) (λ name. Rose (F.faults files.old name) (F.faults files.new name)) (Rose (O.faults out.old) (O.faults out.new)) result }
 
-    // What the sinks took. Where all is done, whatever the file and the print read as, the file's module allows the print's. Before `out` has its turn it is as it was, and so are the notes where all is done.
+    // What the sinks took. Before `out` has its turn it is as it was, and so are the notes where all is done. Where all is done, the module
+    // that the file reads as allows the module that `out` took.
     ensures out { OutLeft (command_of (map string_bytes words.now)) (F.told files.old) (O.taken out.old) (O.taken out.new) result }
     ensures allowed { AllowedLeft (command_of (map string_bytes words.now)) (F.told files.old) (O.taken out.old) (O.taken out.new) result }
     ensures untouched { IsBeforeOut result → out.new ≡ out.old }
