@@ -14,3 +14,4 @@ pub mod AlikeValues
 pub mod Alike
 pub mod AlikeAllows
 mod Refused
+mod Longer

@@ -21,6 +21,7 @@ use Rattle.ir_types.specs.Values.{Typed}
 use Rattle.ir_types.specs.Memory.{Memory}
 use Rattle.ir_types.specs.State.{World}
 use Rattle.ir_types.specs.Runs.{Observation, Returned, observed}
+use Rattle.ir_laws.specs.Tolls.{Charge}
 
 -- the name `@f`
 abbrev pub f : Name
@@ -111,6 +112,19 @@ another_entry = chooses_with 3 4 8
 abbrev pub loops : Module
 loops =
     one_function (param i32 0 ∷ param i1 1 ∷ []) (block 2 (jump 2 ∷ []) ∷ block 3 (jump 4 ∷ []) ∷ block 4 (phi 5 (at 0) 2 (IntOperand 7) 3 ∷ ret (at 5) ∷ []) ∷ [])
+
+-- the first example with a sum more, which nothing uses, behind the phi
+abbrev pub longer : Module
+longer =
+    one_function (param i32 0 ∷ param i1 1 ∷ [])
+    (block 2 (branch 1 3 4 ∷ []) ∷
+    block 3 (jump 4 ∷ []) ∷
+    block 4 (phi 5 (at 0) 2 (IntOperand 7) 3 ∷ add 6 (IntOperand 1) (IntOperand 1) ∷ ret (at 5) ∷ []) ∷
+    [])
+
+-- each entry of the block %4 of @f, in which that sum is, costs one step
+abbrev pub one_more : Charge
+one_more = record { header = record { function = f; block = Number 4 }; cost = 1 }
 
 -- no function
 abbrev pub empty : Module

@@ -15,4 +15,4 @@ pub use texts::{
     no_reading, one_list_of_tokens, one_reading, one_stop, positions_are_free, same_module_is_an_equivalence, tokens_without_a_stop,
 };
 pub use tolls::{same_module_costs_nothing, toll_is_allowed, tolls_add};
-pub use worked::{allows_no_other_module, worked_comparisons, worked_runs, worked_stops};
+pub use worked::{allows_no_other_module, worked_comparisons, worked_runs, worked_stops, worked_toll};

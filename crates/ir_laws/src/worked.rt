@@ -1,13 +1,14 @@
-// Worked runs, and what no module allows.
+// Worked runs, a worked toll, and what no module allows.
 
-ghost use Rattle.std.specs.Prelude.{◌≡◌, ℕ, List, [], ◌∷◌, Some, codes};
+ghost use Rattle.std.specs.Prelude.{◌≡◌, ℕ, false, List, [], ◌∷◌, Some, codes};
 ghost use Rattle.ir_types.specs.declared.value.Value.TheVariants.{Poison};
 ghost use Rattle.ir_types.specs.declared.inst.Pred.TheVariants.{Eq, Ne, Ugt, Uge, Ult, Ule, Sgt, Sge, Slt, Sle};
 ghost use Rattle.ir_types.specs.Memory.{Memory};
 ghost use Rattle.ir_types.specs.State.{World};
 ghost use Rattle.ir_types.specs.Runs.{observed, Undefined, Going, Returned};
 ghost use Rattle.ir_types.specs.Allows.{Allows};
-ghost use Rattle.ir_laws.specs.Examples.{f, int32, bit, of_i32, chooses, swapped, another_entry, loops, empty, adds, reads_the_old, without_value, of_another_type, without_block, phi_at_the_start, phi_behind, without_entry, two_functions, two_parameters, two_blocks, two_entries, table_of, lines};
+ghost use Rattle.ir_laws.specs.Tolls.{AllowsAtToll};
+ghost use Rattle.ir_laws.specs.Examples.{f, int32, bit, of_i32, chooses, swapped, another_entry, loops, longer, one_more, empty, adds, reads_the_old, without_value, of_another_type, without_block, phi_at_the_start, phi_behind, without_entry, two_functions, two_parameters, two_blocks, two_entries, table_of, lines};
 
 /// Runs that are worked out, from any memory and any world. The first example of the README with 5 and false, with 5 and true, and with
 /// 5 and poison; a sum that wraps; a phi that reads another one of its block.
@@ -57,4 +58,12 @@ pub fn allows_no_other_module()
     ensures targets { (c : ℕ) → Allows chooses swapped c → ⊥ }
     ensures entries { (c : ℕ) → Allows chooses another_entry c → ⊥ }
     ensures for_ever { (c : ℕ) → Allows chooses loops c → ⊥ }
+{}
+
+/// The first example allows itself with a sum more, at a toll of one step for each entry of the block with the sum; and so with the
+/// factor 2. Without that charge it isn't allowed.
+pub fn worked_toll()
+    ensures toll { AllowsAtToll chooses longer (λ k. false) (one_more ∷ []) }
+    ensures factor { Allows chooses longer 2 }
+    ensures needed { AllowsAtToll chooses longer (λ k. false) [] → ⊥ }
 {}
