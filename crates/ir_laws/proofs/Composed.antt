@@ -84,8 +84,7 @@ pub allowing-grows : (a b : Module) (c d : ℕ) → c ≤ d → Allows a b c →
 allowing-grows a b c d le f = record {
   covers = f.covers;
   serves = λ function args memory v horizon r.
-      let h = f.serves function args memory v horizon r in
-      (
+      let h = f.serves function args memory v horizon r in (
         h.0,
         h.1,
         record {
@@ -111,8 +110,7 @@ allowing-composes a b c i j le_j f g = record {
   covers = covers-trans f.covers g.covers;
   serves = λ function args memory v horizon r.
       let h = g.serves function args memory v horizon (can-run function args memory f.covers r) in
-      let k = f.serves function args memory h.0 (greatest h.2.steps horizon) r in
-      (
+      let k = f.serves function args memory h.0 (greatest h.2.steps horizon) r in (
         k.0,
         answers-trans v h.0 k.0 h.1 k.1,
         record {

@@ -67,8 +67,7 @@ tolls-add a b c changed also charges more f g has = record {
       let k = f.serves function args memory h.0 (greatest h.2.steps horizon) r in
       let s = start c function args memory v in
       let t = start b function args memory h.0 in
-      let u = start a function args memory k.0 in
-      (
+      let u = start a function args memory k.0 in (
         k.0,
         answers-trans v h.0 k.0 h.1 k.1,
         record {
@@ -128,8 +127,7 @@ toll-is-allowed a b changed charges f = record {
   serves = λ function args memory v horizon r.
       let h = f.serves function args memory v horizon r in
       let s = start b function args memory v in
-      let t = start a function args memory h.0 in
-      (
+      let t = start a function args memory h.0 in (
         h.0,
         h.1,
         record {

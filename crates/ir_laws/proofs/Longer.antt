@@ -19,13 +19,13 @@ use Rattle.ir_types.specs.Meaning.{step, start, function_of}
 use Rattle.ir_types.specs.Runs.{run, seen, observed}
 use Rattle.ir_types.specs.Refines.{Refines}
 use Rattle.ir_types.specs.Denotes.{name_in}
-use Rattle.ir_types.specs.Fits.{Fits}
 use Rattle.ir_types.specs.Allows.{Defines, SameSignature, CanRun, Covers, HasReturned, Allows}
 use Rattle.ir_laws.specs.Tolls.{BlockName, HasBlock, entered_next, count_of, AllowsAtToll}
 use Rattle.ir_laws.specs.Simulation.{give, Comes, Pays, Moves, on, undefined, halts, IsSimulation}
 use Rattle.ir_laws.specs.Examples.{f, id, at, i1, i32, int32, bit, param, jump, branch, ret, phi, add, block, chooses, longer, one_more}
 use Rattle.ir_laws.proofs.Pairs.{zip-contains}
 use Rattle.ir_laws.proofs.Order.{refines-refl}
+use Rattle.ir_laws.proofs.Refused.{bare, bare-fits}
 use Rattle.ir_laws.proofs.Simulated.{simulated}
 use Rattle.ir_laws.proofs.Ledger.{toll-is-allowed}
 
@@ -262,20 +262,6 @@ pub with_factor : Allows chooses longer 2
 with_factor = toll-is-allowed chooses longer no_change (one_more ∷ []) at_toll
 
 -- ---- no toll
-
--- a memory without an allocation
-abbrev bare : Memory
-bare = record { allocations = []; symbols = λ name. record { address = 0; allocation = None } }
-
-bare-fits : Fits chooses bare
-bare-fits = record {
-  allocations = tt;
-  apart = λ i j d lt within. absurd (omega arith);
-  addresses = λ name. omega arith;
-  variables = tt;
-  own = λ i j d lt within. absurd (omega arith);
-  others = λ name h. refl;
-}
 
 -- 5 and false
 abbrev args : List Value

@@ -15,10 +15,10 @@ use Rattle.ir_laws.specs.Examples.{f, i32, int32, bit, of_i32, chooses, swapped,
 use Rattle.ir_laws.proofs.Steps.{run-halted}
 
 -- a memory without an allocation
-abbrev bare : Memory
+abbrev pub bare : Memory
 bare = record { allocations = []; symbols = λ name. record { address = 0; allocation = None } }
 
-bare-fits : Fits chooses bare
+pub bare-fits : Fits chooses bare
 bare-fits = record {
   allocations = tt;
   apart = λ i j d lt within. absurd (omega arith);

@@ -8,11 +8,19 @@ mod texts;
 mod tolls;
 mod worked;
 
-pub use allowing::{allowing_composes, allowing_grows, module_allows_itself, one_world_serves, same_module_is_allowed};
-pub use refining::{operations_respect_refinement, refinement_is_reflexive, refinement_is_transitive};
+pub use allowing::{
+    allowing_composes, allowing_grows, module_allows_itself, one_world_serves,
+    same_module_is_allowed,
+};
+pub use refining::{
+    operations_respect_refinement, refinement_is_reflexive, refinement_is_transitive,
+};
 pub use runs::{runs_go_on, same_modules_run_alike};
 pub use texts::{
-    no_reading, one_list_of_tokens, one_reading, one_stop, positions_are_free, same_module_is_an_equivalence, tokens_without_a_stop,
+    no_reading, one_list_of_tokens, one_reading, one_stop, positions_are_free,
+    same_module_is_an_equivalence, tokens_without_a_stop,
 };
 pub use tolls::{same_module_costs_nothing, toll_is_allowed, tolls_add};
-pub use worked::{allows_no_other_module, worked_comparisons, worked_runs, worked_stops, worked_toll};
+pub use worked::{
+    allows_no_other_module, worked_comparisons, worked_runs, worked_stops, worked_toll,
+};
