@@ -11,14 +11,13 @@ use Rattle.ir_types.specs.Memory.{Memory}
 use Rattle.ir_types.specs.State.{Frame, World, State}
 use Rattle.ir_types.specs.Meaning.{function_of, Effect, effect_in, entered, step, start}
 use Rattle.ir_types.specs.Runs.{run, observed}
-use Rattle.ir_types.specs.Reads.{SameModule, IsReadable}
+use Rattle.ir_types.specs.Reads.{SameModule}
 use Rattle.ir_types.specs.Refines.{Refines}
 use Rattle.ir_types.specs.Allows.{Defines, SameSignature, Covers, Answers, HasReturned, Allows}
 use Rattle.ir_types.specs.Fits.{Fits}
-use Rattle.ir_shape.proofs.Placing.{readable_placed}
+use Rattle.ir_shape.specs.Placed.{IsPlaced}
 use Rattle.ir_laws.specs.Tolls.{BlockName, HasBlock, names_of, label_of, entered_next, count_of, enters, entries, ServesAtToll, AllowsAtToll}
 use Rattle.ir_laws.proofs.Order.{refines-refl}
-use Rattle.ir_laws.proofs.Readings.{reads-too}
 use Rattle.ir_laws.proofs.Ledger.{toll-is-allowed}
 use Rattle.ir_laws.proofs.Pairs.{Both, both_none, both_some, both-equal, both-there, zip-length, zip-map, zip-contains}
 use Rattle.ir_laws.proofs.Positions.{SameId, SameInst, SameBlock, SameParam, SameFunction, SameFunctions, same-functions}
@@ -126,19 +125,17 @@ module _ (m n : Module) where
     allows_at_toll-same : AllowsAtToll m n (λ k. false) []
     allows_at_toll-same = record { covers = covers-same; keeps = keeps-same; serves = λ function args memory world horizon can. (world, answers-same function args memory world, toll-same function args memory world horizon) }
 
--- ---- modules that some text reads as
+-- ---- modules of one tree
 
-readable-too : (m n : Module) → IsReadable m → SameModule m n → IsReadable n
-readable-too m n r s = (r.0, reads-too r.0 m n r.1 s)
+module _ (m n : Module) (p : IsPlaced m) (q : IsPlaced n) (s : SameModule m n) where
+  functions-same : SameFunctions m n
+  functions-same = same-functions m n p q s.first.tables s.second.tables (s.first.says ∙ sym s.second.says)
 
-functions-same : (m n : Module) → IsReadable m → SameModule m n → SameFunctions m n
-functions-same m n r s = same-functions m n (readable_placed m r) (readable_placed n (readable-too m n r s)) s.first.tables s.second.tables (s.first.says ∙ sym s.second.says)
+  pub run_alike : (function : Name) (args : List Value) (memory : Memory) (v : World) (k : ℕ) → observed m function args memory v k ≡ observed n function args memory v k
+  run_alike = observed-same m n functions-same
 
-pub run_alike : (m n : Module) → IsReadable m → SameModule m n → (function : Name) (args : List Value) (memory : Memory) (v : World) (k : ℕ) → observed m function args memory v k ≡ observed n function args memory v k
-run_alike m n r s = observed-same m n (functions-same m n r s)
+  pub costs_nothing : AllowsAtToll m n (λ k. false) []
+  costs_nothing = allows_at_toll-same m n functions-same
 
-pub costs_nothing : (m n : Module) → IsReadable m → SameModule m n → AllowsAtToll m n (λ k. false) []
-costs_nothing m n r s = allows_at_toll-same m n (functions-same m n r s)
-
-pub allowed : (m n : Module) → IsReadable m → SameModule m n → Allows m n 1
-allowed m n r s = toll-is-allowed m n (λ k. false) [] (costs_nothing m n r s)
+  pub allowed : Allows m n 1
+  allowed = toll-is-allowed m n (λ k. false) [] costs_nothing

@@ -1,6 +1,7 @@
 pub mod Readings
 pub mod Steps
 pub mod Order
+pub mod Operands
 pub mod Operations
 pub mod Onward
 pub mod Composed
@@ -14,4 +15,4 @@ pub mod AlikeValues
 pub mod Alike
 pub mod AlikeAllows
 mod Refused
-mod Longer
+mod Detour

@@ -1,5 +1,5 @@
 -- The operations of a step respect refinement.
-use Rattle.std.proofs.Common.{◌≡◌, ℕ, ◌+◌, ◌%◌, ◌^◌, ◌&&◌, eqb, ltb, eqb-true, List, [], ◌∷◌, Bool, true, false, Some, None, refl, sym, subst, ◌⊎◌, inl, inr}
+use Rattle.std.proofs.Common.{◌≡◌, ℕ, ◌+◌, ◌%◌, ◌^◌, ◌&&◌, eqb, ltb, eqb-true, List, [], ◌∷◌, Bool, true, false, if◌then◌else◌, nat_eq, Some, None, refl, sym, subst, ◌⊎◌, inl, inr}
 use Rattle.std.proofs.lemmas.Bool.{eq-eqb, lt-ltb}
 use Rattle.std.proofs.lemmas.Nat.{mod_below, pow_pos}
 use Rattle.ir_types.specs.declared.name.ValueId.{ValueId}
@@ -69,7 +69,11 @@ width_is w a n h = eqb-true a w (front (eqb a w) (ltb n (2 ^ w)) h)
 
 typed_result : (w : ℕ) (out : Ty) (result : ℕ → ℕ → ℕ → Value) → HasResults w out result → HasType out Poison → (v x : Value) → HasType (IntTy w) v → HasType (IntTy w) x → HasType out (of_numbers result v x)
 unfolding HasResults
-typed_result w out result has poison (Int a n) (Int b k) s t = let e : a ≡ w = width_is w a n s in subst (λ i. HasType out (result i n k)) (sym e) (has n k)
+typed_result w out result has poison (Int a n) (Int b k) s t = by (nat_eq a b)
+  where
+    by : (same : Bool) → HasType out (if same then result a n k else Poison)
+    by true = let e : a ≡ w = width_is w a n s in subst (λ i. HasType out (result i n k)) (sym e) (has n k)
+    by false = poison
 typed_result w out result has poison (Int a n) Poison s t = poison
 typed_result w out result has poison Poison x s t = poison
 typed_result w out result has poison (Int a n) (Ptr p) s t = poison
@@ -130,10 +134,10 @@ on_poison (a ∷ b ∷ c ∷ labels) v ty = waits
 branch_respects : (ty : Ty) (labels : List ValueId) (v w : Value) → HasType (IntTy 1) w → ValueRefines (IntTy 1) v w → EffectRefines ty (branched labels v) (branched labels w)
 branch_respects ty labels v w t r = elim (same_or_poison 1 v w t r) [ inl e ↦ subst (λ x. EffectRefines ty (branched labels v) (branched labels x)) e (same_effect ty (branched labels v)) | inr e ↦ subst (λ x. EffectRefines ty (branched labels v) (branched labels x)) (sym e) (on_poison labels v ty) ]
 
-module _ (m n : Module) (here other : Memory) (labels : List ValueId) where
+module _ (m : Module) (here other : Memory) (labels : List ValueId) where
   -- what is asked for by these values and by those
   abbrev Asked : InstKind → Ty → List Value → List Value → Type 0
-  Asked kind ty vs ws = EffectRefines (result_type kind ty) (effect_of m here kind ty labels vs) (effect_of n other kind ty labels ws)
+  Asked kind ty vs ws = EffectRefines (result_type kind ty) (effect_of m here kind ty labels vs) (effect_of m other kind ty labels ws)
 
   of_binary : (op : BinOp) (ty : Ty) (vs ws : List Value) → OperandsRefine (ty ∷ ty ∷ []) vs ws → Asked (Binary op) ty vs ws
   of_binary Add (IntTy w) vs ws h = two_of (IntTy w) (IntTy w) vs ws (Asked (Binary Add) (IntTy w)) h (λ v w' x y a b r c d q. sets (respects w (IntTy w) sum (sum_typed (IntTy w) w refl) refl v w' x y a b r c d q))
@@ -143,7 +147,7 @@ module _ (m n : Module) (here other : Memory) (labels : List ValueId) where
   of_compare p (IntTy w) ty vs ws h = two_of (IntTy w) (IntTy w) vs ws (Asked (Compare p (IntTy w)) ty) h (λ v w' x y a b r c d q. sets (respects w (IntTy 1) (λ w x y. truth (holds p w x y)) (holds_typed p w) refl v w' x y a b r c d q))
   of_compare p Void ty vs ws h = two_of Void Void vs ws (Asked (Compare p Void) ty) h (λ v w x y a b r c d q. no_void v _ a)
 
-  jumped : (ls : List ValueId) (ty : Ty) → EffectRefines ty (effect_of m here Jump ty ls []) (effect_of n other Jump ty ls [])
+  jumped : (ls : List ValueId) (ty : Ty) → EffectRefines ty (effect_of m here Jump ty ls []) (effect_of m other Jump ty ls [])
   jumped [] ty = waits
   jumped (a ∷ []) ty = goes
   jumped (a ∷ b ∷ ls) ty = waits

@@ -33,7 +33,7 @@ pointer-trans same_pointer h = h
 pointer-trans no_allocation same_pointer = no_allocation
 pointer-trans no_allocation no_allocation = no_allocation
 
-lane-trans : {w : ℕ} (a b c : Option ℕ) → LaneRefines w a b → LaneRefines w b c → LaneRefines w a c
+pub lane-trans : {w : ℕ} (a b c : Option ℕ) → LaneRefines w a b → LaneRefines w b c → LaneRefines w a c
 lane-trans a b c same_lane h = h
 lane-trans a b c (of_poison_lane lt) same_lane = of_poison_lane lt
 
@@ -89,7 +89,7 @@ memory-trans m n k f g = record { allocations = each-trans AllocationRefines all
 
 -- ---- events and observations
 
-typed-refl : (t : Typed) → TypedRefines t t
+pub typed-refl : (t : Typed) → TypedRefines t t
 typed-refl t = record { ty = refl; value = same_value }
 
 typed-trans : (a b c : Typed) → TypedRefines a b → TypedRefines b c → TypedRefines a c
@@ -101,11 +101,11 @@ event-refl e = record { name = refl; args = each-refl TypedRefines typed-refl e.
 pub event-trans : (a b c : Event) → EventRefines a b → EventRefines b c → EventRefines a c
 event-trans a b c f g = record { name = f.name ∙ g.name; args = each-trans TypedRefines typed-trans a.args b.args c.args f.args g.args; memory = memory-trans a.memory b.memory c.memory f.memory g.memory }
 
-result-refl : (v : Option Typed) → ResultRefines v v
+pub result-refl : (v : Option Typed) → ResultRefines v v
 result-refl None = no_result
 result-refl (Some v) = result (typed-refl v)
 
-result-trans : {u v w : Option Typed} → ResultRefines u v → ResultRefines v w → ResultRefines u w
+pub result-trans : {u v w : Option Typed} → ResultRefines u v → ResultRefines v w → ResultRefines u w
 result-trans no_result no_result = no_result
 result-trans (result f) (result g) = result (typed-trans _ _ _ f g)
 

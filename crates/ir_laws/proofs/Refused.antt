@@ -18,8 +18,9 @@ use Rattle.ir_laws.proofs.Steps.{run-halted}
 abbrev pub bare : Memory
 bare = record { allocations = []; symbols = λ name. record { address = 0; allocation = None } }
 
-pub bare-fits : Fits chooses bare
-bare-fits = record {
+-- it fits each module, as none has a variable
+pub bare-fits : (m : Module) → Fits m bare
+bare-fits m = record {
   allocations = tt;
   apart = λ i j d lt within. absurd (omega arith);
   addresses = λ name. omega arith;
@@ -43,7 +44,7 @@ defined : (g : Function) → function_of chooses f ≡ Some g → 0 < length g.b
 defined g e lt = record { found = e; body = lt }
 
 can_run : CanRun chooses f args bare
-can_run = record { f = _; defined = defined _ refl (omega arith); typed = (refl, (refl, tt)); fits = bare-fits }
+can_run = record { f = _; defined = defined _ refl (omega arith); typed = (refl, (refl, tt)); fits = bare-fits chooses }
 
 pub none_allowed : (c : ℕ) → Allows chooses empty c → ⊥
 none_allowed c h = let g = h.covers.functions f _ (defined _ refl (omega arith)) in let e = g.1.found in cc

@@ -85,13 +85,13 @@ start-give : (m : Module) (function : Name) (args : List Value) (memory : Memory
 start-give m function args memory v numbers =
     elim (first_frame m function args) as (λ o. (elim o [ None ↦ Wrong | Some frame ↦ Live frame [] memory (record { replies = v.replies; numbers = numbers }) [] ]) ≡ give (elim o [ None ↦ Wrong | Some frame ↦ Live frame [] memory v [] ]) numbers) [ None ↦ refl | Some frame ↦ refl ]
 
-module _ (read printed : Module) (changed : BlockName → Bool) (charges : List Charge) (R : State → State → Type 0) (potential : State → ℕ) where
+module _ (read printed : Module) (changed : BlockName → Bool) (charges : List Charge) (R : State → State → Type 0) (potential : State → ℕ) (owed : BlockName → State → ℕ) where
   -- as `ReturnsAtToll`, with the potential beside the toll
   record Returns (s t : State) (n : ℕ) : Type 0 where
     pub steps : ℕ
     pub within : steps ≤ potential s + toll read charges n t
     pub returned : HasReturned (seen (run (step printed) steps s))
-    pub at_most : (k : BlockName) → HasBlock read k → entries printed k steps s ≤ entries read k n t
+    pub at_most : (k : BlockName) → HasBlock read k → entries printed k steps s ≤ owed k s + entries read k n t
     pub as_often : (k : BlockName) → HasBlock read k → IsFalse (changed k) → entries printed k steps s ≡ entries read k n t
 
   -- the printed run from s isn't short of numbers in its first n steps
@@ -105,7 +105,7 @@ module _ (read printed : Module) (changed : BlockName → Bool) (charges : List 
     pub returns : (n : ℕ) → HasReturned (seen (run (step read) n t)) → potential s + toll read charges n t < N → Suffices s (potential s + toll read charges n t) → Returns s t n
 
   -- where the printed run returns from its next state, it returns from here
-  returns-on : (s : State) (j : ℕ) (u u' : State) (n : ℕ) → j ≤ n → run (step read) j u ≡ u' → Pays read printed changed charges potential s j u → Returns (step printed s) u' (n - j) → Returns s u n
+  returns-on : (s : State) (j : ℕ) (u u' : State) (n : ℕ) → j ≤ n → run (step read) j u ≡ u' → Pays read printed changed charges potential owed s j u → Returns (step printed s) u' (n - j) → Returns s u n
   returns-on s j u u' n le there pays r =
       let sum = λ (k : BlockName). entries-behind read k j n u u' le there in
       record {
@@ -126,7 +126,7 @@ module _ (read printed : Module) (changed : BlockName → Bool) (charges : List 
     as_often = λ k has same. sym (no-entries read k n u there);
   }
 
-  module _ (sim : IsSimulation read printed changed charges R potential) where
+  module _ (sim : IsSimulation read printed changed charges R potential owed) where
     follows-at-once : (s t : State) → R s t → (rest : List ℕ) → Follows 0 s (give t rest)
     follows-at-once s t r rest = record {
       steps = λ n. 0;
@@ -135,7 +135,7 @@ module _ (read printed : Module) (changed : BlockName → Bool) (charges : List 
     }
 
     -- the next step is matched: what follows from there follows from here
-    follows-on : (N : ℕ) (s : State) (j : ℕ) (u u' : State) → Refines (seen s) (seen u) → run (step read) j u ≡ u' → ((i : ℕ) → i < j → ¬ HasReturned (seen (run (step read) i u))) → Pays read printed changed charges potential s j u → Follows N (step printed s) u' → Follows (suc N) s u
+    follows-on : (N : ℕ) (s : State) (j : ℕ) (u u' : State) → Refines (seen s) (seen u) → run (step read) j u ≡ u' → ((i : ℕ) → i < j → ¬ HasReturned (seen (run (step read) i u))) → Pays read printed changed charges potential owed s j u → Follows N (step printed s) u' → Follows (suc N) s u
     follows-on N s j u u' first there busy pays f = record {
       steps = λ n. elim n [ zero ↦ 0 | suc m ↦ j + f.steps m ];
       refined = λ n. elim n as (λ n. n ≤ suc N → Refines (seen (run (step printed) n s)) (seen (run (step read) (elim n [ zero ↦ 0 | suc m ↦ j + f.steps m ]) u))) [ zero ↦ (λ le. first) | suc m ↦ (λ le. subst (λ q. Refines (seen (run (step printed) m (step printed s))) (seen q)) (sym (run-add (step read) j (f.steps m) u ∙ ap (run (step read) (f.steps m)) there)) (f.refined m (omega arith))) ];
@@ -154,7 +154,7 @@ module _ (read printed : Module) (changed : BlockName → Bool) (charges : List 
     returns-short s u (suc n) first short over enough = enough 0 (omega (arith, toll-steps read charges (suc n) u)) short
 
     -- the numbers that the read run takes while the printed one makes N steps
-    taken_by : (s t : State) → ((s' t' : State) → R s' t' → List ℕ) → Moves read printed changed charges R potential s t → List ℕ
+    taken_by : (s t : State) → ((s' t' : State) → R s' t' → List ℕ) → Moves read printed changed charges R potential owed s t → List ℕ
     taken_by s t later (on j x t' comes r pays) = x ++ later (step printed s) t' r
     taken_by s t later (undefined j x wrong) = x
     taken_by s t later (halts still why) = []
@@ -163,7 +163,7 @@ module _ (read printed : Module) (changed : BlockName → Bool) (charges : List 
     taken zero s t r = []
     taken (suc N) s t r = taken_by s t (taken N) (sim.move s t r)
 
-    by_move : (N : ℕ) (s t : State) → R s t → (m : Moves read printed changed charges R potential s t) → ((s' t' : State) (r : R s' t') (rest : List ℕ) → Follows N s' (give t' (taken N s' t' r ++ rest))) → (rest : List ℕ) → Follows (suc N) s (give t (taken_by s t (taken N) m ++ rest))
+    by_move : (N : ℕ) (s t : State) → R s t → (m : Moves read printed changed charges R potential owed s t) → ((s' t' : State) (r : R s' t') (rest : List ℕ) → Follows N s' (give t' (taken N s' t' r ++ rest))) → (rest : List ℕ) → Follows (suc N) s (give t (taken_by s t (taken N) m ++ rest))
     unfolding taken_by
     by_move N s t r (on j x t' comes r' pays) ih rest =
         let x' = taken N (step printed s) t' r' in
@@ -188,18 +188,18 @@ module _ (read printed : Module) (changed : BlockName → Bool) (charges : List 
     follows (suc N) s t r rest = by_move N s t r (sim.move s t r) (follows N) rest
 
   -- from a state without potential
-  serves : (v : World) (horizon far : ℕ) (s t : State) → horizon ≤ far → length v.numbers < far → Has (length v.numbers) s → potential s ≡ 0 → Follows far s t → ServesAtToll read printed changed charges v horizon s t
-  serves v horizon far s t le lt has none f = record {
+  serves : (v : World) (horizon far : ℕ) (s t : State) → horizon ≤ far → length v.numbers < far → Has (length v.numbers) s → potential s ≡ 0 → ((k : BlockName) → owed k s ≡ 0) → Follows far s t → ServesAtToll read printed changed charges v horizon s t
+  serves v horizon far s t le lt has none nothing f = record {
     steps = f.steps;
     refined = λ n h. f.refined n (omega arith);
     returns = λ n over many. at-toll n (f.returns n over (omega arith) (λ k below. not-short printed k s (has-less (512 * (k + 1)) (length v.numbers) s (omega arith) has)));
   }
     where
       at-toll : (n : ℕ) → Returns s t n → ReturnsAtToll read printed changed charges s t n
-      at-toll n r = record { steps = r.steps; within = omega (arith, r.within); returned = r.returned; at_most = r.at_most; as_often = r.as_often }
+      at-toll n r = record { steps = r.steps; within = omega (arith, r.within); returned = r.returned; at_most = λ k h. omega (arith, r.at_most k h, nothing k); as_often = r.as_often }
 
   -- a printed module that a simulation relates to the read one is allowed
-  pub simulated : Covers read printed → ((k : BlockName) → HasBlock read k → HasBlock printed k) → IsSimulation read printed changed charges R potential → AllowsAtToll read printed changed charges
+  pub simulated : Covers read printed → ((k : BlockName) → HasBlock read k → HasBlock printed k) → IsSimulation read printed changed charges R potential owed → AllowsAtToll read printed changed charges
   simulated covers keeps sim = record {
     covers = covers;
     keeps = keeps;
@@ -211,5 +211,5 @@ module _ (read printed : Module) (changed : BlockName → Bool) (charges : List 
         let x = taken sim far s t first.0 in
         let pad = replicate (length v.numbers) 0 in
         let f = follows sim far s t first.0 pad in
-        (record { replies = v.replies; numbers = x ++ pad }, record { replies = refl; numbers = omega (arith, length-append x pad, length-replicate {A = ℕ} (length v.numbers) 0) }, subst (ServesAtToll read printed changed charges v horizon s) (sym (start-give read function args memory v (x ++ pad))) (serves v horizon far s (give t (x ++ pad)) (omega arith) (omega arith) (has-start printed function args memory v) first.1 f));
+        (record { replies = v.replies; numbers = x ++ pad }, record { replies = refl; numbers = omega (arith, length-append x pad, length-replicate {A = ℕ} (length v.numbers) 0) }, subst (ServesAtToll read printed changed charges v horizon s) (sym (start-give read function args memory v (x ++ pad))) (serves v horizon far s (give t (x ++ pad)) (omega arith) (omega arith) (has-start printed function args memory v) first.1 first.2 f));
   }

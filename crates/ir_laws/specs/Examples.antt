@@ -1,5 +1,5 @@
 -- Small modules, to try the definitions on.
-use Rattle.std.specs.Prelude.{ℕ, ◌+◌, codes, List, [], ◌∷◌, ◌++◌, map, Some, None}
+use Rattle.std.specs.Prelude.{◌≡◌, ℕ, ◌+◌, Bool, ◌&&◌, codes, List, [], ◌∷◌, ◌++◌, map, Some, None}
 use Rattle.ir_types.specs.declared.name.Name.{Name}
 use Rattle.ir_types.specs.declared.name.Name.TheVariants.{Text, Number}
 use Rattle.ir_types.specs.declared.name.ValueId.{ValueId}
@@ -17,11 +17,13 @@ use Rattle.ir_types.specs.declared.module.Param.{Param}
 use Rattle.ir_types.specs.declared.module.Module.{Module}
 use Rattle.ir_types.specs.declared.value.Value.{Value}
 use Rattle.ir_types.specs.declared.value.Value.TheVariants.{Int}
+use Rattle.ir_types.specs.Names.{same_name}
 use Rattle.ir_types.specs.Values.{Typed}
 use Rattle.ir_types.specs.Memory.{Memory}
 use Rattle.ir_types.specs.State.{World}
-use Rattle.ir_types.specs.Runs.{Observation, Returned, observed}
-use Rattle.ir_laws.specs.Tolls.{Charge}
+use Rattle.ir_types.specs.Meaning.{step, start}
+use Rattle.ir_types.specs.Runs.{run, Observation, Going, Returned, observed}
+use Rattle.ir_laws.specs.Tolls.{BlockName, Charge}
 
 -- the name `@f`
 abbrev pub f : Name
@@ -113,19 +115,6 @@ abbrev pub loops : Module
 loops =
     one_function (param i32 0 ∷ param i1 1 ∷ []) (block 2 (jump 2 ∷ []) ∷ block 3 (jump 4 ∷ []) ∷ block 4 (phi 5 (at 0) 2 (IntOperand 7) 3 ∷ ret (at 5) ∷ []) ∷ [])
 
--- the first example with a sum more, which nothing uses, behind the phi
-abbrev pub longer : Module
-longer =
-    one_function (param i32 0 ∷ param i1 1 ∷ [])
-    (block 2 (branch 1 3 4 ∷ []) ∷
-    block 3 (jump 4 ∷ []) ∷
-    block 4 (phi 5 (at 0) 2 (IntOperand 7) 3 ∷ add 6 (IntOperand 1) (IntOperand 1) ∷ ret (at 5) ∷ []) ∷
-    [])
-
--- each entry of the block %4 of @f, in which that sum is, costs one step
-abbrev pub one_more : Charge
-one_more = record { header = record { function = f; block = Number 4 }; cost = 1 }
-
 -- no function
 abbrev pub empty : Module
 empty = record { functions = [] }
@@ -144,7 +133,34 @@ abbrev pub reads_the_old : Module
 reads_the_old =
     one_function [] (block 0 (jump 1 ∷ []) ∷ block 1 (phi 2 (IntOperand 5) 0 (IntOperand 10) 1 ∷ phi 3 (IntOperand 0) 0 (at 2) 1 ∷ icmp 4 Ne (at 3) (IntOperand 0) ∷ branch 4 5 1 ∷ []) ∷ block 5 (ret (at 3) ∷ []) ∷ [])
 
+-- ---- a block more
+
+-- define i32 @f(): from %0 to %1, which returns 5
+abbrev pub direct : Module
+direct = one_function [] (block 0 (jump 1 ∷ []) ∷ block 1 (ret (IntOperand 5) ∷ []) ∷ [])
+
+-- the same by way of a block %2 between them
+abbrev pub detour : Module
+detour = one_function [] (block 0 (jump 2 ∷ []) ∷ block 1 (ret (IntOperand 5) ∷ []) ∷ block 2 (jump 1 ∷ []) ∷ [])
+
+-- the block %n of @f
+abbrev pub block_name : ℕ → BlockName
+block_name n = record { function = f; block = Number n }
+
+-- whether that is the block %1
+abbrev pub is_last : BlockName → Bool
+is_last k = same_name f k.function && same_name (Number 1) k.block
+
+-- each entry of %1 costs one step
+abbrev pub one_more : Charge
+one_more = record { header = block_name 1; cost = 1 }
+
 -- ---- modules that stand still, and such in which the first of several counts
+
+-- the run stands still after 9 steps: a further one changes nothing, and it has not returned
+abbrev pub StandsStill : Module → List Value → Memory → World → Type 0
+StandsStill m args memory v =
+    (run (step m) 10 (start m f args memory v) ≡ run (step m) 9 (start m f args memory v)) × (observed m f args memory v 9 ≡ Going [])
 
 -- define i32 @f(): returns %1, which has no value
 abbrev pub without_value : Module

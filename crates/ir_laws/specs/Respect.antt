@@ -1,14 +1,27 @@
 -- What it means that the operations of a step respect refinement.
-use Rattle.std.specs.Prelude.{List, [], ◌∷◌, Option}
+use Rattle.std.specs.Prelude.{◌≡◌, List, [], ◌∷◌, Option, Some}
 use Rattle.ir_types.specs.declared.name.ValueId.{ValueId}
 use Rattle.ir_types.specs.declared.inst.Ty.{Ty}
 use Rattle.ir_types.specs.declared.inst.Ty.TheVariants.{Int as IntTy}
 use Rattle.ir_types.specs.declared.inst.InstKind.{InstKind}
 use Rattle.ir_types.specs.declared.inst.InstKind.TheVariants.{Compare}
+use Rattle.ir_types.specs.declared.inst.Operand.{Operand}
+use Rattle.ir_types.specs.declared.inst.Operand.TheVariants.{Local, Int as IntOperand}
 use Rattle.ir_types.specs.declared.value.Value.{Value}
 use Rattle.ir_types.specs.Values.{HasType, Typed}
+use Rattle.ir_types.specs.State.{Env}
 use Rattle.ir_types.specs.Meaning.{Effect, Sets, Goes, Leaves, Fails, Waits}
 use Rattle.ir_types.specs.Refines.{ValueRefines, ResultRefines}
+
+-- where a name has a value there, of the name's type, it has one here that refines it
+abbrev pub EnvRefines : (types : ValueId → Ty) → (here other : Env) → Type 0
+EnvRefines types here other =
+    (name : ValueId) (w : Value) → other name ≡ Some w → (v : Value) × (here name ≡ Some v) × HasType (types name) v × HasType (types name) w × ValueRefines (types name) v w
+
+-- an operand of that type: a name that has it, or a number
+abbrev pub IsOperandOf : (types : ValueId → Ty) → Ty → Operand → Type 0
+IsOperandOf types ty (Local name) = types name ≡ ty
+IsOperandOf types ty (IntOperand x) = Unit {0}
 
 -- values of these types, one by one, each of which refines the other
 abbrev pub OperandsRefine : List Ty → (here other : List Value) → Type 0

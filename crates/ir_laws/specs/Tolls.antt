@@ -56,7 +56,7 @@ abbrev pub count_of : BlockName → Option BlockName → ℕ
 count_of k None = 0
 count_of k (Some j) = if same_name j.function k.function && same_name j.block k.block then 1 else 0
 
--- how often the next step enters the block: once or not at all
+-- how often the next step enters the block by a branch: once or not at all
 abbrev pub enters : Module → BlockName → State → ℕ
 enters m k s = count_of k (entered_next m s)
 
@@ -65,7 +65,7 @@ abbrev pub total : {S : Type 0} → (S → S) → (S → ℕ) → ℕ → S → 
 total step count zero s = 0
 total step count (suc n) s = count s + total step count n (step s)
 
--- how often the first n steps from a state enter the block
+-- how often the first n steps from a state enter the block by a branch; a call or the start of a run counts for none
 abbrev pub entries : Module → BlockName → ℕ → State → ℕ
 entries m k n s = total (step m) (enters m k) n s
 
@@ -104,5 +104,6 @@ pub record ServesAtToll (read printed : Module) (changed : BlockName → Bool) (
 -- As `Allows`, with a toll. This is what a pass proves: for one loop, its blocks are the changed ones, and its header is charged.
 pub record AllowsAtToll (read printed : Module) (changed : BlockName → Bool) (charges : List Charge) : Type 0 where
   pub covers : Covers read printed
+  -- no block of the read module is lost
   pub keeps : (k : BlockName) → HasBlock read k → HasBlock printed k
   pub serves : (function : Name) (args : List Value) (memory : Memory) (v : World) (horizon : ℕ) → CanRun read function args memory → (u : World) × Answers v u × ServesAtToll read printed changed charges v horizon (start printed function args memory v) (start read function args memory u)

@@ -6,20 +6,21 @@ ghost use Rattle.ir_types.specs.declared.module.Module.{Module};
 ghost use Rattle.ir_types.specs.declared.value.Value.{Value};
 ghost use Rattle.ir_types.specs.Memory.{Memory};
 ghost use Rattle.ir_types.specs.State.{World};
-ghost use Rattle.ir_types.specs.Reads.{SameModule, IsReadable};
+ghost use Rattle.ir_types.specs.Reads.{SameModule};
 ghost use Rattle.ir_types.specs.Allows.{Allows, CanRun, IsServed};
+ghost use Rattle.ir_shape.specs.Placed.{IsPlaced};
 
 /// A module allows itself.
 pub fn module_allows_itself()
     ensures { (m : Module) → Allows m m 1 }
 {}
 
-/// A module that some text reads as allows each module that denotes the same tree.
+/// A module allows each module that denotes the same tree, where the positions of names stand in their tables.
 pub fn same_module_is_allowed()
-    ensures { (m n : Module) → IsReadable m → SameModule m n → Allows m n 1 }
+    ensures { (m n : Module) → IsPlaced m → IsPlaced n → SameModule m n → Allows m n 1 }
 {}
 
-/// What an allowed module allows is allowed.
+/// What an allowed module allows is allowed: with the factors i and j, j at least 1, with the factor j(i + 1).
 pub fn allowing_composes()
     ensures { (a b c : Module) (i j : ℕ) → 1 ≤ j → Allows a b i → Allows b c j → Allows a c (j * (i + 1)) }
 {}

@@ -13,7 +13,8 @@ pub use allowing::{
     same_module_is_allowed,
 };
 pub use refining::{
-    operations_respect_refinement, refinement_is_reflexive, refinement_is_transitive,
+    operands_respect_refinement, operations_respect_refinement, refinement_is_reflexive,
+    refinement_is_transitive,
 };
 pub use runs::{runs_go_on, same_modules_run_alike};
 pub use texts::{

@@ -1,26 +1,35 @@
 // Refinement.
 
-ghost use Rattle.std.specs.Prelude.{List};
+ghost use Rattle.std.specs.Prelude.{◌≡◌, ℕ, List, Option, Some};
+ghost use Rattle.std.specs.List.{AllZip, AllByRecursion};
 ghost use Rattle.ir_types.specs.declared.inst.Ty.{Ty};
 ghost use Rattle.ir_types.specs.declared.inst.InstKind.{InstKind};
 ghost use Rattle.ir_types.specs.declared.name.ValueId.{ValueId};
 ghost use Rattle.ir_types.specs.declared.module.Module.{Module};
+ghost use Rattle.ir_types.specs.declared.inst.Inst.{Inst};
+ghost use Rattle.ir_types.specs.declared.inst.Operand.{Operand};
+ghost use Rattle.ir_types.specs.declared.value.Allocation.{Allocation};
 ghost use Rattle.ir_types.specs.declared.value.Byte.{Byte};
 ghost use Rattle.ir_types.specs.declared.value.Pointer.{Pointer};
 ghost use Rattle.ir_types.specs.declared.value.Value.{Value};
 ghost use Rattle.ir_types.specs.Memory.{Memory};
-ghost use Rattle.ir_types.specs.State.{Event};
-ghost use Rattle.ir_types.specs.Meaning.{effect_of, operand_types};
-ghost use Rattle.ir_types.specs.Refines.{PointerRefines, ValueRefines, BytesRefine, MemoryRefines, EventRefines, Refines};
+ghost use Rattle.ir_types.specs.Values.{Typed};
+ghost use Rattle.ir_types.specs.State.{Env, Event};
+ghost use Rattle.ir_types.specs.Meaning.{effect_of, operand_types, values_of, phi_value};
+ghost use Rattle.ir_types.specs.Refines.{PointerRefines, LaneRefines, ValueRefines, ByteRefines, BytesRefine, AllocationRefines, MemoryRefines, ResultRefines, EventRefines, Refines};
 ghost use Rattle.ir_types.specs.Runs.{Observation};
-ghost use Rattle.ir_laws.specs.Respect.{OperandsRefine, EffectRefines, result_type};
+ghost use Rattle.ir_laws.specs.Respect.{EnvRefines, IsOperandOf, OperandsRefine, EffectRefines, result_type};
 
 /// Refinement of each kind is reflexive.
 pub fn refinement_is_reflexive()
     ensures pointers { (p : Pointer) → PointerRefines p p }
+    ensures lanes { (w : ℕ) (x : Option ℕ) → LaneRefines w x x }
     ensures values { (ty : Ty) (v : Value) → ValueRefines ty v v }
+    ensures single_bytes { (b : Byte) → ByteRefines b b }
     ensures bytes { (bs : List Byte) → BytesRefine bs bs }
+    ensures allocations { (a : Allocation) → AllocationRefines a a }
     ensures memories { (m : Memory) → MemoryRefines m m }
+    ensures results { (v : Option Typed) → ResultRefines v v }
     ensures events { (e : Event) → EventRefines e e }
     ensures observations { (o : Observation) → Refines o o }
 {}
@@ -28,14 +37,24 @@ pub fn refinement_is_reflexive()
 /// Refinement of each kind is transitive.
 pub fn refinement_is_transitive()
     ensures pointers { (p q r : Pointer) → PointerRefines p q → PointerRefines q r → PointerRefines p r }
+    ensures lanes { (w : ℕ) (x y z : Option ℕ) → LaneRefines w x y → LaneRefines w y z → LaneRefines w x z }
     ensures values { (ty : Ty) (u v w : Value) → ValueRefines ty u v → ValueRefines ty v w → ValueRefines ty u w }
+    ensures single_bytes { (a b c : Byte) → ByteRefines a b → ByteRefines b c → ByteRefines a c }
     ensures bytes { (bs cs ds : List Byte) → BytesRefine bs cs → BytesRefine cs ds → BytesRefine bs ds }
+    ensures allocations { (a b c : Allocation) → AllocationRefines a b → AllocationRefines b c → AllocationRefines a c }
     ensures memories { (m n k : Memory) → MemoryRefines m n → MemoryRefines n k → MemoryRefines m k }
+    ensures results { (u v w : Option Typed) → ResultRefines u v → ResultRefines v w → ResultRefines u w }
     ensures events { (e f g : Event) → EventRefines e f → EventRefines f g → EventRefines e g }
     ensures observations { (o p q : Observation) → Refines o p → Refines p q → Refines o q }
 {}
 
+/// Operands respect refinement: where the names have values that refine others, so have operands of their types, and the operand of a phi.
+pub fn operands_respect_refinement()
+    ensures operands { (m : Module) (here other : Memory) (types : ValueId → Ty) (env there : Env) (tys : List Ty) (args : List Operand) (ws : List Value) → MemoryRefines here other → EnvRefines types env there → AllZip (IsOperandOf types) tys args → values_of m other there tys args ≡ Some ws → (vs : List Value) × (values_of m here env tys args ≡ Some vs) × OperandsRefine tys vs ws }
+    ensures phis { (m : Module) (here other : Memory) (types : ValueId → Ty) (env there : Env) (left : ValueId) (i : Inst) (w : Value) → MemoryRefines here other → EnvRefines types env there → AllByRecursion (IsOperandOf types i.ty) i.args → phi_value m other there left i ≡ Some w → (v : Value) × (phi_value m here env left i ≡ Some v) × ValueRefines i.ty v w }
+{}
+
 /// Each operation respects refinement: by operands of its types that refine others, it asks for what refines what they ask for.
 pub fn operations_respect_refinement()
-    ensures { (m n : Module) (here other : Memory) (kind : InstKind) (ty : Ty) (labels : List ValueId) (vs ws : List Value) → MemoryRefines here other → OperandsRefine (operand_types kind ty) vs ws → EffectRefines (result_type kind ty) (effect_of m here kind ty labels vs) (effect_of n other kind ty labels ws) }
+    ensures { (m : Module) (here other : Memory) (kind : InstKind) (ty : Ty) (labels : List ValueId) (vs ws : List Value) → MemoryRefines here other → OperandsRefine (operand_types kind ty) vs ws → EffectRefines (result_type kind ty) (effect_of m here kind ty labels vs) (effect_of m other kind ty labels ws) }
 {}

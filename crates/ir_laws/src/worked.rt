@@ -8,7 +8,7 @@ ghost use Rattle.ir_types.specs.State.{World};
 ghost use Rattle.ir_types.specs.Runs.{observed, Undefined, Going, Returned};
 ghost use Rattle.ir_types.specs.Allows.{Allows};
 ghost use Rattle.ir_laws.specs.Tolls.{AllowsAtToll};
-ghost use Rattle.ir_laws.specs.Examples.{f, int32, bit, of_i32, chooses, swapped, another_entry, loops, longer, one_more, empty, adds, reads_the_old, without_value, of_another_type, without_block, phi_at_the_start, phi_behind, without_entry, two_functions, two_parameters, two_blocks, two_entries, table_of, lines};
+ghost use Rattle.ir_laws.specs.Examples.{f, int32, bit, of_i32, chooses, swapped, another_entry, loops, direct, detour, is_last, one_more, empty, adds, reads_the_old, without_value, of_another_type, without_block, phi_at_the_start, phi_behind, without_entry, two_functions, two_parameters, two_blocks, two_entries, StandsStill, table_of, lines};
 
 /// Runs that are worked out, from any memory and any world. The first example of the README with 5 and false, with 5 and true, and with
 /// 5 and poison; a sum that wraps; a phi that reads another one of its block.
@@ -24,12 +24,12 @@ pub fn worked_runs()
 /// Where no value of the type, no block or no entry is there, and at a phi that no branch enters, a run stands still. Of several functions,
 /// parameters, blocks or entries with one name the first counts.
 pub fn worked_stops()
-    ensures value { (memory : Memory) (v : World) → observed without_value f [] memory v 9 ≡ Going [] }
-    ensures ty { (memory : Memory) (v : World) → observed of_another_type f (bit 1 ∷ []) memory v 9 ≡ Going [] }
-    ensures block { (memory : Memory) (v : World) → observed without_block f [] memory v 9 ≡ Going [] }
-    ensures start { (memory : Memory) (v : World) → observed phi_at_the_start f [] memory v 9 ≡ Going [] }
-    ensures behind { (memory : Memory) (v : World) → observed phi_behind f [] memory v 9 ≡ Going [] }
-    ensures entry { (memory : Memory) (v : World) → observed without_entry f [] memory v 9 ≡ Going [] }
+    ensures value { (memory : Memory) (v : World) → StandsStill without_value [] memory v }
+    ensures ty { (memory : Memory) (v : World) → StandsStill of_another_type (bit 1 ∷ []) memory v }
+    ensures block { (memory : Memory) (v : World) → StandsStill without_block [] memory v }
+    ensures start { (memory : Memory) (v : World) → StandsStill phi_at_the_start [] memory v }
+    ensures behind { (memory : Memory) (v : World) → StandsStill phi_behind [] memory v }
+    ensures entry { (memory : Memory) (v : World) → StandsStill without_entry [] memory v }
     ensures first_function { (memory : Memory) (v : World) → observed two_functions f [] memory v 1 ≡ Returned [] (Some (of_i32 1)) memory }
     ensures first_parameter { (memory : Memory) (v : World) → observed two_parameters f (int32 1 ∷ int32 2 ∷ []) memory v 1 ≡ Returned [] (Some (of_i32 1)) memory }
     ensures first_block { (memory : Memory) (v : World) → observed two_blocks f [] memory v 2 ≡ Returned [] (Some (of_i32 1)) memory }
@@ -60,10 +60,10 @@ pub fn allows_no_other_module()
     ensures for_ever { (c : ℕ) → Allows chooses loops c → ⊥ }
 {}
 
-/// The first example allows itself with a sum more, at a toll of one step for each entry of the block with the sum; and so with the
-/// factor 2. Without that charge it isn't allowed.
+/// A block put before another is allowed at a toll of one step for each entry of the other, which is the one changed block; and so with the
+/// factor 2. With no charge it isn't.
 pub fn worked_toll()
-    ensures toll { AllowsAtToll chooses longer (λ k. false) (one_more ∷ []) }
-    ensures factor { Allows chooses longer 2 }
-    ensures needed { AllowsAtToll chooses longer (λ k. false) [] → ⊥ }
+    ensures toll { AllowsAtToll direct detour is_last (one_more ∷ []) }
+    ensures factor { Allows direct detour 2 }
+    ensures needed { AllowsAtToll direct detour is_last [] → ⊥ }
 {}

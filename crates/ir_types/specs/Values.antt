@@ -35,9 +35,9 @@ pub record Typed : Type 0 where
 
 -- ---- operations
 
--- the result of an operation of two integers of one type, by their width and numbers; else, and so for a poison operand, poison
+-- the result of an operation of two integers of one width, by the width and their numbers; else, and so for a poison operand, poison
 abbrev pub of_numbers : ((width x y : ℕ) → Value) → Value → Value → Value
-of_numbers result (Int w x) (Int v y) = result w x y
+of_numbers result (Int w x) (Int v y) = if nat_eq w v then result w x y else Poison
 of_numbers result x y = Poison
 
 -- the sum, modulo 2^w

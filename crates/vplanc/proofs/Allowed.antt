@@ -5,6 +5,7 @@ use Rattle.std.specs.declared.option.Option.TheVariants.{None, Some}
 use Rattle.ir_types.specs.declared.module.Module.{Module}
 use Rattle.ir_types.specs.Allows.{Allows, factor_of}
 use Rattle.ir_types.specs.Reads.{Reads, SameModule}
+use Rattle.ir_shape.proofs.Placing.{readable_placed}
 use Rattle.ir_laws.proofs.Composed.{allowing-grows}
 use Rattle.ir_laws.proofs.AlikeAllows.{allowed}
 use Rattle.ir_laws.proofs.Readings.{one_reading, reads-too}
@@ -15,7 +16,7 @@ use Rattle.vplanc.specs.Answers.{TookAll, OutHolds, OutLeft, IsAllowed, TookAllo
 -- two texts that read as one module allow whatever modules they read as
 text-allows : (text printed : List ℕ) (meant m n : Module) → Reads text meant → Reads printed meant → Reads text m → Reads printed n → Allows m n (factor_of n)
 text-allows text printed meant m n a b r s =
-    allowing-grows m n 1 (factor_of n) (omega arith) (allowed m n (text, r) (one_reading text m n r (reads-too text meant n a (one_reading printed meant n b s))))
+    allowing-grows m n 1 (factor_of n) (omega arith) (allowed m n (readable_placed m (text, r)) (readable_placed n (printed, s)) (one_reading text m n r (reads-too text meant n a (one_reading printed meant n b s))))
 
 took-allowed : (told before now : Option (List ℕ)) → TookAll told before now → TookAllowed told before now
 took-allowed None before now t = tt

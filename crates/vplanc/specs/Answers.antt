@@ -162,6 +162,11 @@ OutHolds told before now (Text fault) = now ≡ before
 OutHolds told before now (ReadFault which) = now ≡ before
 OutHolds told before now Memory = now ≡ before
 
+-- the same for any words
+abbrev pub OutLeft : Option (List ℕ) → (List ℕ → Option (List ℕ)) → (before now : Option (List ℕ)) → Status → Type 0
+OutLeft None told before now status = now ≡ before
+OutLeft (Some file) told before now status = OutHolds (told file) before now status
+
 -- Of a file's text and what was printed of it: both read as a module, and whichever modules these are, the first allows the second, with
 -- one more than the number of the second's instructions as the factor.
 pub record IsAllowed (text printed : List ℕ) : Type 0 where
@@ -177,8 +182,3 @@ TookAllowed told before now = IfSome told (λ text. IfSome before (λ old. (prin
 abbrev pub AllowedLeft : Option (List ℕ) → (List ℕ → Option (List ℕ)) → (before now : Option (List ℕ)) → Status → Type 0
 AllowedLeft (Some file) told before now Done = TookAllowed (told file) before now
 AllowedLeft command told before now status = Unit {0}
-
--- the same for any words
-abbrev pub OutLeft : Option (List ℕ) → (List ℕ → Option (List ℕ)) → (before now : Option (List ℕ)) → Status → Type 0
-OutLeft None told before now status = now ≡ before
-OutLeft (Some file) told before now status = OutHolds (told file) before now status

@@ -1,4 +1,4 @@
-use Rattle.ir_laws.proofs.Longer.{at_toll, with_factor, charge_needed}
+use Rattle.ir_laws.proofs.Detour.{at_toll, with_factor, charge_needed}
 use Rattle.ir_laws.proofs.worked.worked_toll.Goals as goal
 
 pub returns-clause-toll : goal.returns-clause-toll

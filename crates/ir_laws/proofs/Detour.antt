@@ -1,0 +1,190 @@
+-- A block put before another is allowed at a toll, by a simulation that owes the other's entry.
+use Rattle.std.proofs.Common.{◌≡◌, ℕ, zero, suc, ◌+◌, ◌*◌, ◌≤◌, ◌<◌, Bool, true, false, cond, IsFalse, if◌then◌else◌, ◌&&◌, nat_eq, List, [], ◌∷◌, map, Option, Some, None, codes, refl, ap, sym, ◌∙◌, subst, replicate, inl, true≢false, arith, bytes_eq, Contains}
+use Rattle.std.proofs.lemmas.List.{length-replicate}
+use Rattle.std.proofs.lemmas.Slice.Eq.{bytes_eq-Decides}
+use Rattle.ir_types.specs.declared.name.Name.{Name}
+use Rattle.ir_types.specs.declared.name.Name.TheVariants.{Text, Number}
+use Rattle.ir_types.specs.declared.inst.Operand.TheVariants.{Int as IntOperand}
+use Rattle.ir_types.specs.declared.module.Function.{Function}
+use Rattle.ir_types.specs.declared.value.Value.{Value}
+use Rattle.ir_types.specs.Values.{Typed}
+use Rattle.ir_types.specs.Names.{same_name}
+use Rattle.ir_types.specs.Denotes.{name_in}
+use Rattle.ir_types.specs.declared.module.Block.{Block}
+use Rattle.ir_types.specs.Memory.{Memory}
+use Rattle.ir_types.specs.State.{World, State, Live, Over, Wrong, no_values, same_id}
+use Rattle.ir_types.specs.Meaning.{step, start, function_of}
+use Rattle.ir_types.specs.Runs.{run, seen, observed}
+use Rattle.ir_types.specs.Refines.{Refines}
+use Rattle.ir_types.specs.Allows.{Allows, Defines, SameSignature, Covers, CanRun, HasReturned}
+use Rattle.ir_laws.specs.Examples.{f, id, of_i32, i32, jump, ret, block, direct, detour, block_name, is_last, one_more}
+use Rattle.ir_laws.specs.Tolls.{BlockName, HasBlock, count_of, AllowsAtToll}
+use Rattle.ir_laws.specs.Simulation.{give, Moves, on, halts, IsSimulation}
+use Rattle.ir_laws.proofs.Order.{refines-refl}
+use Rattle.ir_laws.proofs.Refused.{bare, bare-fits}
+use Rattle.ir_laws.proofs.Simulated.{simulated}
+use Rattle.ir_laws.proofs.Ledger.{toll-is-allowed}
+
+abbrev live : ℕ → Memory → World → State
+live n memory v = Live (record { function = f; block = id n; place = 0; env = no_values }) [] memory v []
+
+data Related : State → State → Type 0 where
+  at_first : {memory : Memory} {v w : World} → Related (live 0 memory v) (live 0 memory w)
+  before : {memory : Memory} {v w : World} → Related (live 2 memory v) (live 1 memory w)
+  at_last : {memory : Memory} {v w : World} → Related (live 1 memory v) (live 1 memory w)
+  both_over : {memory : Memory} {x : Option Typed} → Related (Over x memory []) (Over x memory [])
+
+abbrev potential : State → ℕ
+potential (Live frame callers memory world events) = if same_id frame.block (id 2) then 1 else 0
+potential (Over v memory events) = 0
+potential Wrong = 0
+
+abbrev owed : BlockName → State → ℕ
+owed k (Live frame callers memory world events) = if same_id frame.block (id 2) then count_of k (Some (block_name 1)) else 0
+owed k (Over v memory events) = 0
+owed k Wrong = 0
+
+seen-alike : (s t : State) → Related s t → (rest : List ℕ) → Refines (seen s) (seen (give t rest))
+seen-alike s t at_first rest = refines-refl (seen s)
+seen-alike s t before rest = refines-refl (seen s)
+seen-alike s t at_last rest = refines-refl (seen s)
+seen-alike s t both_over rest = refines-refl (seen s)
+
+abbrev direct_function : Function
+direct_function = record { name = f; ret = i32; params = []; body = block 0 (jump 1 ∷ []) ∷ block 1 (ret (IntOperand 5) ∷ []) ∷ []; names = map Number (0 ∷ 1 ∷ 2 ∷ 3 ∷ 4 ∷ 5 ∷ 6 ∷ 7 ∷ []) }
+
+only : (name : Name) (g : Function) → function_of direct name ≡ Some g → (f ≡ name) × (direct_function ≡ g)
+only (Text t) g found = by (bytes_eq (codes "f") t) refl found
+  where
+    by : (b : Bool) → bytes_eq (codes "f") t ≡ b → cond b (Some direct_function) None ≡ Some g → (f ≡ Text t) × (direct_function ≡ g)
+    by true e h = (ap Text ((bytes_eq-Decides (codes "f") t).0 e), (cc))
+    by false e h = absurd (cc)
+only (Number n) g found = absurd (cc)
+
+abbrev num : Bool → ℕ
+num b = if b then 1 else 0
+
+none-of : (b : Bool) → IsFalse b → num b ≡ 0
+none-of true h = absurd (true≢false h)
+none-of false h = refl
+
+same-as : (k : BlockName) → IsFalse (is_last k) → count_of k (Some (block_name 1)) ≡ 0
+same-as k h = none-of (is_last k) h
+
+not-two : (g : Function) (k : BlockName) (b : Block) → direct_function ≡ g → Contains g.body b → name_in g.names b.name ≡ k.block → nat_eq 2 b.name.0 ≡ false × (b.name.0 < 2)
+not-two g k b e h n = subst (λ (g : Function). Contains g.body b → nat_eq 2 b.name.0 ≡ false × (b.name.0 < 2)) e (λ c. by c) h
+  where
+    by : Contains direct_function.body b → nat_eq 2 b.name.0 ≡ false × (b.name.0 < 2)
+    by (zero, lt, same) = let z : 0 ≡ b.name.0 = ap (λ (b : Block). b.name.0) same in (subst (λ n. nat_eq 2 n ≡ false) z refl, omega (arith, z))
+    by (suc zero, lt, same) = let z : 1 ≡ b.name.0 = ap (λ (b : Block). b.name.0) same in (subst (λ n. nat_eq 2 n ≡ false) z refl, omega (arith, z))
+    by (suc (suc i), lt, same) = absurd (omega arith)
+
+name-small : (n : ℕ) → n < 2 → same_name (Number 2) (name_in direct_function.names (record { 0 = n })) ≡ false
+name-small zero lt = refl
+name-small (suc zero) lt = refl
+name-small (suc (suc n)) lt = absurd (omega arith)
+
+fresh : (k : BlockName) → HasBlock direct k → count_of k (Some (block_name 2)) ≡ 0
+fresh k h =
+    let one = only k.function h.f h.found in
+    let small = not-two h.f k h.b one.1 h.there h.name in
+    let name : name_in direct_function.names h.b.name ≡ k.block = subst (λ (g : Function). name_in g.names h.b.name ≡ k.block) (sym one.1) h.name in
+    let no : same_name (Number 2) k.block ≡ false = ap (λ n. same_name (Number 2) n) (sym name) ∙ name-small h.b.name.0 small.1 in
+    none-of (same_name f k.function && same_name (Number 2) k.block) (last (same_name f k.function) (same_name (Number 2) k.block) no)
+  where
+    last : (x y : Bool) → y ≡ false → IsFalse (x && y)
+    last true y e = e
+    last false y e = refl
+
+move : (s t : State) → Related s t → Moves direct detour is_last (one_more ∷ []) Related potential owed s t
+move s t (at_first {memory = memory} {v = v} {w = w}) =
+    on 1 [] (live 1 memory w) (record { there = λ rest. refl; busy = λ rest i lt. let e : i ≡ 0 = omega arith in subst (λ n. ¬ HasReturned (seen (run (step direct) n (give (live 0 memory w) rest)))) (sym e) (λ h. h) }) before
+    (λ rest. record { toll = omega arith; at_most = λ k has. first-most k (fresh k has); as_often = λ k has same. fresh k has ∙ sym (first-often k (same-as k same)) })
+  where
+    first-most : (k : BlockName) → count_of k (Some (block_name 2)) ≡ 0 → count_of k (Some (block_name 1)) + count_of k (Some (block_name 2)) ≤ 0 + (count_of k (Some (block_name 1)) + 0)
+    first-most k e = omega (arith, e)
+
+    first-often : (k : BlockName) → count_of k (Some (block_name 1)) ≡ 0 → count_of k (Some (block_name 1)) + 0 ≡ 0
+    first-often k e = omega (arith, e)
+move s t (before {memory = memory} {v = v} {w = w}) =
+    on 0 [] (live 1 memory w) (record { there = λ rest. refl; busy = λ rest i lt. absurd (omega arith) }) at_last
+    (λ rest. record { toll = omega arith; at_most = λ k has. second-most k; as_often = λ k has same. same-as k same })
+  where
+    second-most : (k : BlockName) → 0 + count_of k (Some (block_name 1)) ≤ count_of k (Some (block_name 1)) + 0
+    second-most k = omega arith
+move s t (at_last {memory = memory} {v = v} {w = w}) =
+    on 1 [] (Over (Some (of_i32 5)) memory []) (record { there = λ rest. refl; busy = λ rest i lt. let e : i ≡ 0 = omega arith in subst (λ n. ¬ HasReturned (seen (run (step direct) n (give (live 1 memory w) rest)))) (sym e) (λ h. h) }) both_over
+    (λ rest. record { toll = omega arith; at_most = λ k has. omega arith; as_often = λ k has same. refl })
+move s t both_over = halts refl (inl tt)
+
+begins : (name : Name) (args : List Value) (memory : Memory) (v : World) → CanRun direct name args memory → Related (start detour name args memory v) (start direct name args memory v) × (potential (start detour name args memory v) ≡ 0) × ((k : BlockName) → owed k (start detour name args memory v) ≡ 0)
+begins name args memory v can =
+    let one = only name can.f can.defined.found in
+    subst (λ n. Related (start detour n args memory v) (start direct n args memory v) × (potential (start detour n args memory v) ≡ 0) × ((k : BlockName) → owed k (start detour n args memory v) ≡ 0)) one.0 (at_first, refl, λ k. refl)
+
+simulation : IsSimulation direct detour is_last (one_more ∷ []) Related potential owed
+simulation = record { seen = seen-alike; move = move; start = begins }
+
+-- ---- what can be run
+
+abbrev detour_function : Function
+detour_function = record { name = f; ret = i32; params = []; body = block 0 (jump 2 ∷ []) ∷ block 1 (ret (IntOperand 5) ∷ []) ∷ block 2 (jump 1 ∷ []) ∷ []; names = direct_function.names }
+
+defined : (name : Name) (g : Function) → Defines direct name g → (k : Function) × Defines detour name k × SameSignature g k
+defined name g d =
+    let one = only name g d.found in (
+      detour_function,
+      record { found = subst (λ n. function_of detour n ≡ Some detour_function) one.0 refl; body = omega arith },
+      subst (λ k. SameSignature k detour_function) one.1 (record { params = refl; ret = refl }),
+    )
+
+covered : Covers direct detour
+covered = record {
+  fits = λ memory h. record { allocations = h.allocations; apart = h.apart; addresses = h.addresses; variables = h.variables; own = h.own; others = h.others };
+  functions = defined;
+}
+
+kept : (k : BlockName) → HasBlock direct k → HasBlock detour k
+kept k h =
+    let one = only k.function h.f h.found in
+    let there = by (subst (λ (g : Function). Contains g.body h.b) (sym one.1) h.there) in
+    record {
+      f = detour_function;
+      b = there.0;
+      found = subst (λ n. function_of detour n ≡ Some detour_function) one.0 refl;
+      there = there.1;
+      name = ap (name_in detour_function.names) (sym there.2) ∙ subst (λ (g : Function). name_in g.names h.b.name ≡ k.block) (sym one.1) h.name;
+    }
+  where
+    by : Contains direct_function.body h.b → (c : Block) × Contains detour_function.body c × (h.b.name ≡ c.name)
+    by (zero, lt, same) = (block 0 (jump 2 ∷ []), (0, omega arith, refl), ap (λ (b : Block). b.name) (sym same))
+    by (suc zero, lt, same) = (block 1 (ret (IntOperand 5) ∷ []), (1, omega arith, refl), ap (λ (b : Block). b.name) (sym same))
+    by (suc (suc i), lt, same) = absurd (omega arith)
+
+-- ---- the toll
+
+pub at_toll : AllowsAtToll direct detour is_last (one_more ∷ [])
+at_toll = simulated direct detour is_last (one_more ∷ []) Related potential owed covered kept simulation
+
+pub with_factor : Allows direct detour 2
+with_factor = toll-is-allowed direct detour is_last (one_more ∷ []) at_toll
+
+-- ---- no toll
+
+can_run : CanRun direct f [] bare
+can_run = record { f = direct_function; defined = record { found = refl; body = omega arith }; typed = tt; fits = bare-fits direct }
+
+-- the longer way takes 3 steps
+not-in-two : (v : World) (n : ℕ) → n ≤ 2 → ¬ HasReturned (observed detour f [] bare v n)
+not-in-two v zero le h = h
+not-in-two v (suc zero) le h = h
+not-in-two v (suc (suc zero)) le h = h
+not-in-two v (suc (suc (suc n))) le h = omega arith
+
+-- and the shorter one 2, which are the toll where nothing is charged
+pub charge_needed : AllowsAtToll direct detour is_last [] → ⊥
+charge_needed h =
+    let v : World = record { replies = []; numbers = replicate (512 * 2) 0 } in
+    let a = h.serves f [] bare v 0 can_run in
+    let r = a.2.returns 2 tt (omega (arith, length-replicate {A = ℕ} (512 * 2) 0)) in
+    not-in-two v r.steps r.within r.returned
