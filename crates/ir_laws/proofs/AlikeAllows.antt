@@ -13,7 +13,7 @@ use Rattle.ir_types.specs.Meaning.{function_of, Effect, effect_in, entered, step
 use Rattle.ir_types.specs.Runs.{run, observed}
 use Rattle.ir_types.specs.Reads.{SameModule}
 use Rattle.ir_types.specs.Refines.{Refines}
-use Rattle.ir_types.specs.Allows.{Defines, SameSignature, Covers, Answers, HasReturned, Allows}
+use Rattle.ir_types.specs.Allows.{Defines, SameSignature, Covers, IsWorldFor, HasReturned, Allows}
 use Rattle.ir_types.specs.Fits.{Fits}
 use Rattle.ir_shape.specs.Placed.{IsPlaced}
 use Rattle.ir_laws.specs.Tolls.{BlockName, HasBlock, names_of, label_of, entered_next, count_of, enters, entries, ServesAtToll, AllowsAtToll}
@@ -103,8 +103,8 @@ module _ (m n : Module) where
       returns-same : (k : ℕ) → HasReturned (observed m function args memory world k) → HasReturned (observed n function args memory world k)
       returns-same k h = subst HasReturned (observed-same k) h
 
-      answers-same : Answers world world
-      answers-same = record { replies = refl; numbers = le_refl (length world.numbers) }
+      world-same : IsWorldFor world world
+      world-same = record { replies = refl; numbers = le_refl (length world.numbers) }
 
       counts-same : (b : BlockName) (k : ℕ) → entries m b k (start m function args memory world) ≡ entries n b k (start n function args memory world)
       counts-same b k = entries-same b k (start m function args memory world) (start n function args memory world) (start-same m n functions function args memory world)
@@ -123,7 +123,7 @@ module _ (m n : Module) where
       }
 
     allows_at_toll-same : AllowsAtToll m n (λ k. false) []
-    allows_at_toll-same = record { covers = covers-same; keeps = keeps-same; serves = λ function args memory world horizon can. (world, answers-same function args memory world, toll-same function args memory world horizon) }
+    allows_at_toll-same = record { covers = covers-same; keeps = keeps-same; serves = λ function args memory world horizon can. (world, world-same function args memory world, toll-same function args memory world horizon) }
 
 -- ---- modules of one tree
 

@@ -12,7 +12,7 @@ use Rattle.ir_types.specs.Memory.{Memory}
 use Rattle.ir_types.specs.State.{World}
 use Rattle.ir_types.specs.Meaning.{start}
 use Rattle.ir_types.specs.Runs.{observed}
-use Rattle.ir_types.specs.Allows.{CanRun, Covers, SameSignature, Answers, Allows}
+use Rattle.ir_types.specs.Allows.{CanRun, Covers, SameSignature, IsWorldFor, Allows}
 use Rattle.ir_laws.proofs.Order.{refines-refl, refines-trans}
 use Rattle.ir_laws.proofs.Steps.{returned-later}
 
@@ -48,11 +48,11 @@ can-run function args memory c r =
 
 -- ---- worlds and horizons
 
-pub answers-refl : (v : World) → Answers v v
-answers-refl v = record { replies = refl; numbers = omega arith }
+pub world-refl : (v : World) → IsWorldFor v v
+world-refl v = record { replies = refl; numbers = omega arith }
 
-pub answers-trans : (u v w : World) → Answers u v → Answers v w → Answers u w
-answers-trans u v w f g = record { replies = g.replies ∙ f.replies; numbers = omega (arith, f.numbers, g.numbers) }
+pub world-trans : (u v w : World) → IsWorldFor u v → IsWorldFor v w → IsWorldFor u w
+world-trans u v w f g = record { replies = g.replies ∙ f.replies; numbers = omega (arith, f.numbers, g.numbers) }
 
 -- the greatest of f at 0 to n
 pub greatest : (ℕ → ℕ) → ℕ → ℕ
@@ -71,7 +71,7 @@ allows-itself m = record {
   covers = covers-refl m;
   serves = λ function args memory v horizon r. (
     v,
-    answers-refl v,
+    world-refl v,
     record {
       steps = λ n. n;
       refined = λ n h. refines-refl (observed m function args memory v n);
@@ -112,7 +112,7 @@ allowing-composes a b c i j le_j f g = record {
       let h = g.serves function args memory v horizon (can-run function args memory f.covers r) in
       let k = f.serves function args memory h.0 (greatest h.2.steps horizon) r in (
         k.0,
-        answers-trans v h.0 k.0 h.1 k.1,
+        world-trans v h.0 k.0 h.1 k.1,
         record {
           steps = λ n. k.2.steps (h.2.steps n);
           refined = λ n le. refines-trans (h.2.refined n le) (k.2.refined (h.2.steps n) (greatest-bounds h.2.steps horizon n le));

@@ -12,14 +12,14 @@ use Rattle.ir_types.specs.Names.{same_name}
 use Rattle.ir_types.specs.Denotes.{name_in}
 use Rattle.ir_types.specs.declared.module.Block.{Block}
 use Rattle.ir_types.specs.Memory.{Memory}
-use Rattle.ir_types.specs.State.{World, State, Live, Over, Wrong, no_values, same_id}
+use Rattle.ir_types.specs.State.{World, State, Live, Over, no_values}
 use Rattle.ir_types.specs.Meaning.{step, start, function_of}
 use Rattle.ir_types.specs.Runs.{run, seen, observed}
 use Rattle.ir_types.specs.Refines.{Refines}
 use Rattle.ir_types.specs.Allows.{Allows, Defines, SameSignature, Covers, CanRun, HasReturned}
-use Rattle.ir_laws.specs.Examples.{f, id, of_i32, i32, jump, ret, block, direct, detour, block_name, is_last, one_more}
+use Rattle.ir_laws.specs.Examples.{f, id, of_i32, i32, jump, ret, block, direct, detour, block_name, one_more}
 use Rattle.ir_laws.specs.Tolls.{BlockName, HasBlock, count_of, AllowsAtToll}
-use Rattle.ir_laws.specs.Simulation.{give, Moves, on, halts, IsSimulation}
+use Rattle.ir_laws.specs.Simulation.{give, Account, balanced, Moves, on, halts, IsSimulation}
 use Rattle.ir_laws.proofs.Order.{refines-refl}
 use Rattle.ir_laws.proofs.Refused.{bare, bare-fits}
 use Rattle.ir_laws.proofs.Simulated.{simulated}
@@ -28,27 +28,22 @@ use Rattle.ir_laws.proofs.Ledger.{toll-is-allowed}
 abbrev live : ℕ → Memory → World → State
 live n memory v = Live (record { function = f; block = id n; place = 0; env = no_values }) [] memory v []
 
-data Related : State → State → Type 0 where
-  at_first : {memory : Memory} {v w : World} → Related (live 0 memory v) (live 0 memory w)
-  before : {memory : Memory} {v w : World} → Related (live 2 memory v) (live 1 memory w)
-  at_last : {memory : Memory} {v w : World} → Related (live 1 memory v) (live 1 memory w)
-  both_over : {memory : Memory} {x : Option Typed} → Related (Over x memory []) (Over x memory [])
+-- one step is paid, and the entry of %1 owed
+abbrev ahead : Account
+ahead = record { paid = 1; owed = λ k. count_of k (Some (block_name 1)) }
 
-abbrev potential : State → ℕ
-potential (Live frame callers memory world events) = if same_id frame.block (id 2) then 1 else 0
-potential (Over v memory events) = 0
-potential Wrong = 0
+data Related : State → State → Account → Type 0 where
+  at_first : {memory : Memory} {v w : World} → Related (live 0 memory v) (live 0 memory w) balanced
+  -- in the block more, while the read run is in %1
+  before : {memory : Memory} {v w : World} → Related (live 2 memory v) (live 1 memory w) ahead
+  at_last : {memory : Memory} {v w : World} → Related (live 1 memory v) (live 1 memory w) balanced
+  both_over : {memory : Memory} {x : Option Typed} → Related (Over x memory []) (Over x memory []) balanced
 
-abbrev owed : BlockName → State → ℕ
-owed k (Live frame callers memory world events) = if same_id frame.block (id 2) then count_of k (Some (block_name 1)) else 0
-owed k (Over v memory events) = 0
-owed k Wrong = 0
-
-seen-alike : (s t : State) → Related s t → (rest : List ℕ) → Refines (seen s) (seen (give t rest))
-seen-alike s t at_first rest = refines-refl (seen s)
-seen-alike s t before rest = refines-refl (seen s)
-seen-alike s t at_last rest = refines-refl (seen s)
-seen-alike s t both_over rest = refines-refl (seen s)
+seen-alike : (s t : State) (a : Account) → Related s t a → (rest : List ℕ) → Refines (seen s) (seen (give t rest))
+seen-alike s t a at_first rest = refines-refl (seen s)
+seen-alike s t a before rest = refines-refl (seen s)
+seen-alike s t a at_last rest = refines-refl (seen s)
+seen-alike s t a both_over rest = refines-refl (seen s)
 
 abbrev direct_function : Function
 direct_function = record { name = f; ret = i32; params = []; body = block 0 (jump 1 ∷ []) ∷ block 1 (ret (IntOperand 5) ∷ []) ∷ []; names = map Number (0 ∷ 1 ∷ 2 ∷ 3 ∷ 4 ∷ 5 ∷ 6 ∷ 7 ∷ []) }
@@ -67,9 +62,6 @@ num b = if b then 1 else 0
 none-of : (b : Bool) → IsFalse b → num b ≡ 0
 none-of true h = absurd (true≢false h)
 none-of false h = refl
-
-same-as : (k : BlockName) → IsFalse (is_last k) → count_of k (Some (block_name 1)) ≡ 0
-same-as k h = none-of (is_last k) h
 
 not-two : (g : Function) (k : BlockName) (b : Block) → direct_function ≡ g → Contains g.body b → name_in g.names b.name ≡ k.block → nat_eq 2 b.name.0 ≡ false × (b.name.0 < 2)
 not-two g k b e h n = subst (λ (g : Function). Contains g.body b → nat_eq 2 b.name.0 ≡ false × (b.name.0 < 2)) e (λ c. by c) h
@@ -96,34 +88,38 @@ fresh k h =
     last true y e = e
     last false y e = refl
 
-move : (s t : State) → Related s t → Moves direct detour is_last (one_more ∷ []) Related potential owed s t
-move s t (at_first {memory = memory} {v = v} {w = w}) =
-    on 1 [] (live 1 memory w) (record { there = λ rest. refl; busy = λ rest i lt. let e : i ≡ 0 = omega arith in subst (λ n. ¬ HasReturned (seen (run (step direct) n (give (live 0 memory w) rest)))) (sym e) (λ h. h) }) before
-    (λ rest. record { toll = omega arith; at_most = λ k has. first-most k (fresh k has); as_often = λ k has same. fresh k has ∙ sym (first-often k (same-as k same)) })
-  where
-    first-most : (k : BlockName) → count_of k (Some (block_name 2)) ≡ 0 → count_of k (Some (block_name 1)) + count_of k (Some (block_name 2)) ≤ 0 + (count_of k (Some (block_name 1)) + 0)
-    first-most k e = omega (arith, e)
+abbrev Matches : State → State → Account → Type 0
+Matches s t a = Moves direct detour (λ k. false) (one_more ∷ []) Related s t a
 
-    first-often : (k : BlockName) → count_of k (Some (block_name 1)) ≡ 0 → count_of k (Some (block_name 1)) + 0 ≡ 0
-    first-often k e = omega (arith, e)
-move s t (before {memory = memory} {v = v} {w = w}) =
-    on 0 [] (live 1 memory w) (record { there = λ rest. refl; busy = λ rest i lt. absurd (omega arith) }) at_last
-    (λ rest. record { toll = omega arith; at_most = λ k has. second-most k; as_often = λ k has same. same-as k same })
-  where
-    second-most : (k : BlockName) → 0 + count_of k (Some (block_name 1)) ≤ count_of k (Some (block_name 1)) + 0
-    second-most k = omega arith
-move s t (at_last {memory = memory} {v = v} {w = w}) =
-    on 1 [] (Over (Some (of_i32 5)) memory []) (record { there = λ rest. refl; busy = λ rest i lt. let e : i ≡ 0 = omega arith in subst (λ n. ¬ HasReturned (seen (run (step direct) n (give (live 1 memory w) rest)))) (sym e) (λ h. h) }) both_over
-    (λ rest. record { toll = omega arith; at_most = λ k has. omega arith; as_often = λ k has same. refl })
-move s t both_over = halts refl (inl tt)
+-- the printed run's entries now, and those of the read run
+booked : (k : BlockName) → count_of k (Some (block_name 2)) ≡ 0 → count_of k (Some (block_name 1)) + count_of k (Some (block_name 2)) ≡ 0 + (count_of k (Some (block_name 1)) + 0)
+booked k e = omega (arith, e)
 
-begins : (name : Name) (args : List Value) (memory : Memory) (v : World) → CanRun direct name args memory → Related (start detour name args memory v) (start direct name args memory v) × (potential (start detour name args memory v) ≡ 0) × ((k : BlockName) → owed k (start detour name args memory v) ≡ 0)
+move : (s t : State) (a : Account) → Related s t a → Matches s t a
+move s t a (at_first {memory = memory} {v = v} {w = w}) =
+    on 1 [] (live 1 memory w) ahead (record { there = λ rest. refl; busy = λ rest i lt. let e : i ≡ 0 = omega arith in subst (λ n. ¬ HasReturned (seen (run (step direct) n (give (live 0 memory w) rest)))) (sym e) (λ h. h) }) before
+    (λ rest. record { steps = omega arith; at_most = λ k has. omega (arith, booked k (fresh k has)); as_often = λ k has same. booked k (fresh k has) })
+move s t a (before {memory = memory} {v = v} {w = w}) =
+    on 0 [] (live 1 memory w) balanced (record { there = λ rest. refl; busy = λ rest i lt. absurd (omega arith) }) at_last
+    (λ rest. record { steps = omega arith; at_most = λ k has. omega arith; as_often = λ k has same. omega arith })
+move s t a (at_last {memory = memory} {v = v} {w = w}) =
+    on 1 [] (Over (Some (of_i32 5)) memory []) balanced (record { there = λ rest. refl; busy = λ rest i lt. let e : i ≡ 0 = omega arith in subst (λ n. ¬ HasReturned (seen (run (step direct) n (give (live 1 memory w) rest)))) (sym e) (λ h. h) }) both_over
+    (λ rest. record { steps = omega arith; at_most = λ k has. omega arith; as_often = λ k has same. refl })
+move s t a both_over = halts refl (inl tt)
+
+begins : (name : Name) (args : List Value) (memory : Memory) (v : World) → CanRun direct name args memory → Related (start detour name args memory v) (start direct name args memory v) balanced
 begins name args memory v can =
     let one = only name can.f can.defined.found in
-    subst (λ n. Related (start detour n args memory v) (start direct n args memory v) × (potential (start detour n args memory v) ≡ 0) × ((k : BlockName) → owed k (start detour n args memory v) ≡ 0)) one.0 (at_first, refl, λ k. refl)
+    subst (λ n. Related (start detour n args memory v) (start direct n args memory v) balanced) one.0 at_first
 
-simulation : IsSimulation direct detour is_last (one_more ∷ []) Related potential owed
-simulation = record { seen = seen-alike; move = move; start = begins }
+settled : (s t : State) (a : Account) → Related s t a → HasReturned (seen s) → (k : BlockName) → IsFalse false → a.owed k ≡ 0
+settled s t a at_first h k same = absurd h
+settled s t a before h k same = absurd h
+settled s t a at_last h k same = absurd h
+settled s t a both_over h k same = refl
+
+simulation : IsSimulation direct detour (λ k. false) (one_more ∷ []) Related
+simulation = record { seen = seen-alike; move = move; settled = settled; start = begins }
 
 -- ---- what can be run
 
@@ -163,11 +159,11 @@ kept k h =
 
 -- ---- the toll
 
-pub at_toll : AllowsAtToll direct detour is_last (one_more ∷ [])
-at_toll = simulated direct detour is_last (one_more ∷ []) Related potential owed covered kept simulation
+pub at_toll : AllowsAtToll direct detour (λ k. false) (one_more ∷ [])
+at_toll = simulated direct detour (λ k. false) (one_more ∷ []) Related covered kept simulation
 
 pub with_factor : Allows direct detour 2
-with_factor = toll-is-allowed direct detour is_last (one_more ∷ []) at_toll
+with_factor = toll-is-allowed direct detour (λ k. false) (one_more ∷ []) at_toll
 
 -- ---- no toll
 
@@ -182,7 +178,7 @@ not-in-two v (suc (suc zero)) le h = h
 not-in-two v (suc (suc (suc n))) le h = omega arith
 
 -- and the shorter one 2, which are the toll where nothing is charged
-pub charge_needed : AllowsAtToll direct detour is_last [] → ⊥
+pub charge_needed : AllowsAtToll direct detour (λ k. false) [] → ⊥
 charge_needed h =
     let v : World = record { replies = []; numbers = replicate (512 * 2) 0 } in
     let a = h.serves f [] bare v 0 can_run in

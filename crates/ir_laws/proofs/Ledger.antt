@@ -9,7 +9,7 @@ use Rattle.ir_types.specs.Allows.{Allows}
 use Rattle.ir_laws.specs.Tolls.{BlockName, HasBlock, Charge, costs_of, count_of, entered_next, entries, toll, ReturnsAtToll, AllowsAtToll}
 use Rattle.ir_laws.proofs.Order.{refines-trans}
 use Rattle.ir_laws.proofs.Steps.{returned-later}
-use Rattle.ir_laws.proofs.Composed.{covers-trans, can-run, answers-trans, greatest, greatest-bounds}
+use Rattle.ir_laws.proofs.Composed.{covers-trans, can-run, world-trans, greatest, greatest-bounds}
 
 -- ---- sums of tolls
 
@@ -26,11 +26,11 @@ toll-append m (c ∷ charges) more n s = omega (arith, toll-append m charges mor
 toll-of-fewer : (a b : Module) (more : List Charge) (n j p : ℕ) (t s : State) →
     j ≤ p →
     ((k : BlockName) → HasBlock a k → entries b k j s ≤ entries a k n t) →
-    AllByRecursion (λ x. HasBlock a x.header) more →
+    AllByRecursion (λ x. HasBlock a x.block) more →
     toll b more j s + n ≤ p + toll a more n t
 toll-of-fewer a b [] n j p t s le fewer has = omega arith
 toll-of-fewer a b (c ∷ more) n j p t s le fewer has =
-    omega (arith, mul-le-mul_left c.cost (fewer c.header has.0), toll-of-fewer a b more n j p t s le fewer has.1)
+    omega (arith, mul-le-mul_left c.cost (fewer c.block has.0), toll-of-fewer a b more n j p t s le fewer has.1)
 
 -- ---- two passes
 
@@ -41,7 +41,7 @@ false-parts false y h = (refl, h)
 -- where the read run has returned within the first toll, and the printed one within the second for those steps
 returns-at-both : (a b c : Module) (changed also : BlockName → Bool) (charges more : List Charge) (s t u : State) (n : ℕ) →
     ((k : BlockName) → HasBlock a k → HasBlock b k) →
-    AllByRecursion (λ x. HasBlock a x.header) more →
+    AllByRecursion (λ x. HasBlock a x.block) more →
     (first : ReturnsAtToll a b changed charges t u n) →
     ReturnsAtToll b c also more s t first.steps →
     ReturnsAtToll a c (λ k. changed k || also k) (charges ++ more) s u n
@@ -58,7 +58,7 @@ returns-at-both a b c changed also charges more s t u n keeps has first second =
 
 -- The second answers a world of c by one of b, up to its horizon, and the first answers that one by one of a, up to the most steps
 -- that were needed.
-pub tolls-add : (a b c : Module) (changed also : BlockName → Bool) (charges more : List Charge) → AllowsAtToll a b changed charges → AllowsAtToll b c also more → AllByRecursion (λ x. HasBlock a x.header) more → AllowsAtToll a c (λ k. changed k || also k) (charges ++ more)
+pub tolls-add : (a b c : Module) (changed also : BlockName → Bool) (charges more : List Charge) → AllowsAtToll a b changed charges → AllowsAtToll b c also more → AllByRecursion (λ x. HasBlock a x.block) more → AllowsAtToll a c (λ k. changed k || also k) (charges ++ more)
 tolls-add a b c changed also charges more f g has = record {
   covers = covers-trans f.covers g.covers;
   keeps = λ k h. g.keeps k (f.keeps k h);
@@ -69,7 +69,7 @@ tolls-add a b c changed also charges more f g has = record {
       let t = start b function args memory h.0 in
       let u = start a function args memory k.0 in (
         k.0,
-        answers-trans v h.0 k.0 h.1 k.1,
+        world-trans v h.0 k.0 h.1 k.1,
         record {
           steps = λ n. k.2.steps (h.2.steps n);
           refined = λ n le. refines-trans (h.2.refined n le) (k.2.refined (h.2.steps n) (greatest-bounds h.2.steps horizon n le));
@@ -88,7 +88,7 @@ tolls-add a b c changed also charges more f g has = record {
 -- what the entry of a block costs
 fee : List Charge → Option BlockName → ℕ
 fee [] o = 0
-fee (c ∷ charges) o = c.cost * count_of c.header o + fee charges o
+fee (c ∷ charges) o = c.cost * count_of c.block o + fee charges o
 
 -- no steps
 toll-of-nothing : (m : Module) (charges : List Charge) (s : State) → toll m charges zero s ≡ 0
@@ -112,7 +112,7 @@ once k (Some j) = by (same_name j.function k.function && same_name j.block k.blo
 fee-at-most : (charges : List Charge) (o : Option BlockName) → fee charges o ≤ costs_of charges
 unfolding fee
 fee-at-most [] o = omega arith
-fee-at-most (c ∷ charges) o = omega (arith, mul-le-mul_left c.cost (once c.header o), fee-at-most charges o)
+fee-at-most (c ∷ charges) o = omega (arith, mul-le-mul_left c.cost (once c.block o), fee-at-most charges o)
 
 toll-at-most : (m : Module) (charges : List Charge) (n : ℕ) (s : State) → toll m charges n s ≤ (1 + costs_of charges) * n
 toll-at-most m charges zero s = omega (arith, toll-of-nothing m charges s)

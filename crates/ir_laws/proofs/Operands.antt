@@ -78,9 +78,9 @@ module _ (m : Module) (here other : Memory) (types : ValueId → Ty) (env there 
       by later true k = let same : x ≡ a = cc in subst P same all.0
       by later false k = later k
 
-  pub phi-respects : (left : ValueId) (i : Inst) (w : Value) → MemoryRefines here other → EnvRefines types env there → AllByRecursion (IsOperandOf types i.ty) i.args → phi_value m other there left i ≡ Some w → (v : Value) × (phi_value m here env left i ≡ Some v) × ValueRefines i.ty v w
+  pub phi-respects : (left : ValueId) (i : Inst) (w : Value) → MemoryRefines here other → EnvRefines types env there → AllByRecursion (IsOperandOf types i.ty) i.args → phi_value m other there left i ≡ Some w → (v : Value) × (phi_value m here env left i ≡ Some v) × HasType i.ty v × HasType i.ty w × ValueRefines i.ty v w
   phi-respects left i w mem h all e = by (entry_for left i.args i.labels) refl e
     where
-      by : (o : Option Operand) → entry_for left i.args i.labels ≡ o → (o >>= λ a. operand_value m other there i.ty a) ≡ Some w → (v : Value) × ((o >>= λ a. operand_value m here env i.ty a) ≡ Some v) × ValueRefines i.ty v w
+      by : (o : Option Operand) → entry_for left i.args i.labels ≡ o → (o >>= λ a. operand_value m other there i.ty a) ≡ Some w → (v : Value) × ((o >>= λ a. operand_value m here env i.ty a) ≡ Some v) × HasType i.ty v × HasType i.ty w × ValueRefines i.ty v w
       by None f k = absurd (cc)
-      by (Some a) f k = let r = operand-respects i.ty a w mem h (entry-is (IsOperandOf types i.ty) left i.args i.labels a all f) k in (r.0, r.1, r.4)
+      by (Some a) f k = let r = operand-respects i.ty a w mem h (entry-is (IsOperandOf types i.ty) left i.args i.labels a all f) k in r

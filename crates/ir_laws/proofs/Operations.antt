@@ -1,5 +1,5 @@
 -- The operations of a step respect refinement.
-use Rattle.std.proofs.Common.{◌≡◌, ℕ, ◌+◌, ◌%◌, ◌^◌, ◌&&◌, eqb, ltb, eqb-true, List, [], ◌∷◌, Bool, true, false, if◌then◌else◌, nat_eq, Some, None, refl, sym, subst, ◌⊎◌, inl, inr}
+use Rattle.std.proofs.Common.{◌≡◌, ℕ, ◌+◌, ◌%◌, ◌^◌, ◌&&◌, eqb, ltb, eqb-true, List, [], ◌∷◌, Bool, true, false, if◌then◌else◌, nat_eq, refl, sym, subst, ◌⊎◌, inl, inr}
 use Rattle.std.proofs.lemmas.Bool.{eq-eqb, lt-ltb}
 use Rattle.std.proofs.lemmas.Nat.{mod_below, pow_pos}
 use Rattle.ir_types.specs.declared.name.ValueId.{ValueId}
@@ -15,8 +15,8 @@ use Rattle.ir_types.specs.declared.value.Value.{Value}
 use Rattle.ir_types.specs.declared.value.Value.TheVariants.{Int, Ptr, Poison, Lanes}
 use Rattle.ir_types.specs.Values.{HasType, of_numbers, sum, holds, truth}
 use Rattle.ir_types.specs.Memory.{Memory}
-use Rattle.ir_types.specs.Meaning.{Effect, Sets, Goes, Leaves, Fails, Waits, effect_of, branched, operand_types}
-use Rattle.ir_types.specs.Refines.{ValueRefines, same_value, of_poison, of_pointer, of_lanes, MemoryRefines, no_result, result as a_result}
+use Rattle.ir_types.specs.Meaning.{effect_of, branched, operand_types}
+use Rattle.ir_types.specs.Refines.{ValueRefines, same_value, of_poison, of_pointer, of_lanes, MemoryRefines, result as a_result}
 use Rattle.ir_laws.specs.Respect.{OperandsRefine, result_type, EffectRefines, sets, goes, leaves, of_fails, waits}
 
 -- a relation of two lists
@@ -116,13 +116,14 @@ no_void v P h = absurd (cc)
 
 -- ---- what is asked for
 
-same_effect : (ty : Ty) (e : Effect) → EffectRefines ty e e
-same_effect ty (Sets v) = sets same_value
-same_effect ty (Goes label) = goes
-same_effect ty (Leaves None) = leaves no_result
-same_effect ty (Leaves (Some v)) = leaves (a_result (record { ty = refl; value = same_value }))
-same_effect ty Fails = of_fails
-same_effect ty Waits = waits
+same_branch : (ty : Ty) (labels : List ValueId) (v : Value) → EffectRefines ty (branched labels v) (branched labels v)
+same_branch ty [] v = waits
+same_branch ty (a ∷ []) v = waits
+same_branch ty (a ∷ b ∷ []) (Int w x) = goes
+same_branch ty (a ∷ b ∷ []) Poison = of_fails
+same_branch ty (a ∷ b ∷ []) (Ptr p) = waits
+same_branch ty (a ∷ b ∷ []) (Lanes w xs) = waits
+same_branch ty (a ∷ b ∷ c ∷ labels) v = waits
 
 -- where there are no two labels, a branch stands still
 on_poison : (labels : List ValueId) (v : Value) (ty : Ty) → EffectRefines ty (branched labels v) (branched labels Poison)
@@ -132,7 +133,7 @@ on_poison (a ∷ b ∷ []) v ty = of_fails
 on_poison (a ∷ b ∷ c ∷ labels) v ty = waits
 
 branch_respects : (ty : Ty) (labels : List ValueId) (v w : Value) → HasType (IntTy 1) w → ValueRefines (IntTy 1) v w → EffectRefines ty (branched labels v) (branched labels w)
-branch_respects ty labels v w t r = elim (same_or_poison 1 v w t r) [ inl e ↦ subst (λ x. EffectRefines ty (branched labels v) (branched labels x)) e (same_effect ty (branched labels v)) | inr e ↦ subst (λ x. EffectRefines ty (branched labels v) (branched labels x)) (sym e) (on_poison labels v ty) ]
+branch_respects ty labels v w t r = elim (same_or_poison 1 v w t r) [ inl e ↦ subst (λ x. EffectRefines ty (branched labels v) (branched labels x)) e (same_branch ty labels v) | inr e ↦ subst (λ x. EffectRefines ty (branched labels v) (branched labels x)) (sym e) (on_poison labels v ty) ]
 
 module _ (m : Module) (here other : Memory) (labels : List ValueId) where
   -- what is asked for by these values and by those
@@ -140,11 +141,11 @@ module _ (m : Module) (here other : Memory) (labels : List ValueId) where
   Asked kind ty vs ws = EffectRefines (result_type kind ty) (effect_of m here kind ty labels vs) (effect_of m other kind ty labels ws)
 
   of_binary : (op : BinOp) (ty : Ty) (vs ws : List Value) → OperandsRefine (ty ∷ ty ∷ []) vs ws → Asked (Binary op) ty vs ws
-  of_binary Add (IntTy w) vs ws h = two_of (IntTy w) (IntTy w) vs ws (Asked (Binary Add) (IntTy w)) h (λ v w' x y a b r c d q. sets (respects w (IntTy w) sum (sum_typed (IntTy w) w refl) refl v w' x y a b r c d q))
+  of_binary Add (IntTy w) vs ws h = two_of (IntTy w) (IntTy w) vs ws (Asked (Binary Add) (IntTy w)) h (λ v w' x y a b r c d q. sets (typed_result w (IntTy w) sum (sum_typed (IntTy w) w refl) refl v x a c) (typed_result w (IntTy w) sum (sum_typed (IntTy w) w refl) refl w' y b d) (respects w (IntTy w) sum (sum_typed (IntTy w) w refl) refl v w' x y a b r c d q))
   of_binary Add Void vs ws h = two_of Void Void vs ws (Asked (Binary Add) Void) h (λ v w x y a b r c d q. no_void v _ a)
 
   of_compare : (p : Pred) (of ty : Ty) (vs ws : List Value) → OperandsRefine (of ∷ of ∷ []) vs ws → Asked (Compare p of) ty vs ws
-  of_compare p (IntTy w) ty vs ws h = two_of (IntTy w) (IntTy w) vs ws (Asked (Compare p (IntTy w)) ty) h (λ v w' x y a b r c d q. sets (respects w (IntTy 1) (λ w x y. truth (holds p w x y)) (holds_typed p w) refl v w' x y a b r c d q))
+  of_compare p (IntTy w) ty vs ws h = two_of (IntTy w) (IntTy w) vs ws (Asked (Compare p (IntTy w)) ty) h (λ v w' x y a b r c d q. sets (typed_result w (IntTy 1) (λ w x y. truth (holds p w x y)) (holds_typed p w) refl v x a c) (typed_result w (IntTy 1) (λ w x y. truth (holds p w x y)) (holds_typed p w) refl w' y b d) (respects w (IntTy 1) (λ w x y. truth (holds p w x y)) (holds_typed p w) refl v w' x y a b r c d q))
   of_compare p Void ty vs ws h = two_of Void Void vs ws (Asked (Compare p Void) ty) h (λ v w x y a b r c d q. no_void v _ a)
 
   jumped : (ls : List ValueId) (ty : Ty) → EffectRefines ty (effect_of m here Jump ty ls []) (effect_of m other Jump ty ls [])

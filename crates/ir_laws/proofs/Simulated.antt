@@ -12,7 +12,7 @@ use Rattle.ir_types.specs.Runs.{run, seen, Undefined}
 use Rattle.ir_types.specs.Refines.{Refines, of_undefined}
 use Rattle.ir_types.specs.Allows.{Covers, HasReturned}
 use Rattle.ir_laws.specs.Tolls.{BlockName, HasBlock, enters, entries, Charge, toll, ReturnsAtToll, ServesAtToll, AllowsAtToll}
-use Rattle.ir_laws.specs.Simulation.{give, IsShort, Pays, Moves, on, undefined, halts, IsSimulation}
+use Rattle.ir_laws.specs.Simulation.{give, IsShort, Account, balanced, IsBooked, Moves, on, undefined, halts, IsSimulation}
 use Rattle.ir_laws.proofs.Steps.{run-add, run-behind, run-halted, total-add, undefined-stays, returned-later}
 use Rattle.ir_laws.proofs.Numbers.{Has, has-less, has-start, not-short}
 
@@ -21,8 +21,8 @@ use Rattle.ir_laws.proofs.Numbers.{Has, has-less, has-start, not-short}
 toll-add : (m : Module) (charges : List Charge) (j k : ℕ) (s : State) → toll m charges (j + k) s ≡ toll m charges j s + toll m charges k (run (step m) j s)
 toll-add m [] j k s = refl
 toll-add m (c ∷ charges) j k s =
-    let here : c.cost * entries m c.header (j + k) s ≡ c.cost * entries m c.header j s + c.cost * entries m c.header k (run (step m) j s) =
-    ap (λ e. c.cost * e) (total-add (step m) (enters m c.header) j k s) ∙ mul-add c.cost (entries m c.header j s) (entries m c.header k (run (step m) j s)) in
+    let here : c.cost * entries m c.block (j + k) s ≡ c.cost * entries m c.block j s + c.cost * entries m c.block k (run (step m) j s) =
+    ap (λ e. c.cost * e) (total-add (step m) (enters m c.block) j k s) ∙ mul-add c.cost (entries m c.block j s) (entries m c.block k (run (step m) j s)) in
     omega (arith, here, toll-add m charges j k s)
 
 -- the toll of n steps is that of the first j, and that of the others from the state behind them
@@ -85,121 +85,121 @@ start-give : (m : Module) (function : Name) (args : List Value) (memory : Memory
 start-give m function args memory v numbers =
     elim (first_frame m function args) as (λ o. (elim o [ None ↦ Wrong | Some frame ↦ Live frame [] memory (record { replies = v.replies; numbers = numbers }) [] ]) ≡ give (elim o [ None ↦ Wrong | Some frame ↦ Live frame [] memory v [] ]) numbers) [ None ↦ refl | Some frame ↦ refl ]
 
-module _ (read printed : Module) (changed : BlockName → Bool) (charges : List Charge) (R : State → State → Type 0) (potential : State → ℕ) (owed : BlockName → State → ℕ) where
-  -- as `ReturnsAtToll`, with the potential beside the toll
-  record Returns (s t : State) (n : ℕ) : Type 0 where
+module _ (read printed : Module) (changed : BlockName → Bool) (charges : List Charge) (R : State → State → Account → Type 0) where
+  -- as `ReturnsAtToll`, with an account from before
+  record Returns (s t : State) (a : Account) (n : ℕ) : Type 0 where
     pub steps : ℕ
-    pub within : steps ≤ potential s + toll read charges n t
+    pub within : steps ≤ a.paid + toll read charges n t
     pub returned : HasReturned (seen (run (step printed) steps s))
-    pub at_most : (k : BlockName) → HasBlock read k → entries printed k steps s ≤ owed k s + entries read k n t
-    pub as_often : (k : BlockName) → HasBlock read k → IsFalse (changed k) → entries printed k steps s ≡ entries read k n t
+    pub at_most : (k : BlockName) → HasBlock read k → entries printed k steps s ≤ a.owed k + entries read k n t
+    pub as_often : (k : BlockName) → HasBlock read k → IsFalse (changed k) → entries printed k steps s ≡ a.owed k + entries read k n t
 
   -- the printed run from s isn't short of numbers in its first n steps
   abbrev Suffices : State → ℕ → Type 0
   Suffices s n = (k : ℕ) → k < n → ¬ IsShort (run (step printed) k s)
 
   -- the runs from s and from t, as far as N steps of the printed one show
-  record Follows (N : ℕ) (s t : State) : Type 0 where
+  record Follows (N : ℕ) (s t : State) (a : Account) : Type 0 where
     pub steps : ℕ → ℕ
     pub refined : (n : ℕ) → n ≤ N → Refines (seen (run (step printed) n s)) (seen (run (step read) (steps n) t))
-    pub returns : (n : ℕ) → HasReturned (seen (run (step read) n t)) → potential s + toll read charges n t < N → Suffices s (potential s + toll read charges n t) → Returns s t n
+    pub returns : (n : ℕ) → HasReturned (seen (run (step read) n t)) → a.paid + toll read charges n t < N → Suffices s (a.paid + toll read charges n t) → Returns s t a n
 
   -- where the printed run returns from its next state, it returns from here
-  returns-on : (s : State) (j : ℕ) (u u' : State) (n : ℕ) → j ≤ n → run (step read) j u ≡ u' → Pays read printed changed charges potential owed s j u → Returns (step printed s) u' (n - j) → Returns s u n
-  returns-on s j u u' n le there pays r =
+  returns-on : (s : State) (j : ℕ) (u u' : State) (a b : Account) (n : ℕ) → j ≤ n → run (step read) j u ≡ u' → IsBooked read printed changed charges s j u a b → Returns (step printed s) u' b (n - j) → Returns s u a n
+  returns-on s j u u' a b n le there booked r =
       let sum = λ (k : BlockName). entries-behind read k j n u u' le there in
       record {
         steps = suc r.steps;
-        within = omega (arith, toll-behind read charges j n u u' le there, pays.toll, r.within);
+        within = omega (arith, toll-behind read charges j n u u' le there, booked.steps, r.within);
         returned = r.returned;
-        at_most = λ k has. omega (arith, sum k, pays.at_most k has, r.at_most k has);
-        as_often = λ k has same. omega (arith, sum k, pays.as_often k has same, r.as_often k has same);
+        at_most = λ k has. omega (arith, sum k, booked.at_most k has, r.at_most k has);
+        as_often = λ k has same. omega (arith, sum k, booked.as_often k has same, r.as_often k has same);
       }
 
   -- where both runs have returned, neither enters a block any more
-  returns-at-once : (s u : State) (n : ℕ) → HasReturned (seen s) → HasReturned (seen u) → Returns s u n
-  returns-at-once s u n here there = record {
+  returns-at-once : (s u : State) (a : Account) (n : ℕ) → HasReturned (seen s) → HasReturned (seen u) → ((k : BlockName) → IsFalse (changed k) → a.owed k ≡ 0) → Returns s u a n
+  returns-at-once s u a n here there settled = record {
     steps = 0;
     within = omega arith;
     returned = here;
     at_most = λ k has. omega arith;
-    as_often = λ k has same. sym (no-entries read k n u there);
+    as_often = λ k has same. omega (arith, no-entries read k n u there, settled k same);
   }
 
-  module _ (sim : IsSimulation read printed changed charges R potential owed) where
-    follows-at-once : (s t : State) → R s t → (rest : List ℕ) → Follows 0 s (give t rest)
-    follows-at-once s t r rest = record {
+  module _ (sim : IsSimulation read printed changed charges R) where
+    follows-at-once : (s t : State) (a : Account) → R s t a → (rest : List ℕ) → Follows 0 s (give t rest) a
+    follows-at-once s t a r rest = record {
       steps = λ n. 0;
-      refined = λ n le. let e : n ≡ 0 = omega arith in subst (λ i. Refines (seen (run (step printed) i s)) (seen (give t rest))) (sym e) (sim.seen s t r rest);
+      refined = λ n le. let e : n ≡ 0 = omega arith in subst (λ i. Refines (seen (run (step printed) i s)) (seen (give t rest))) (sym e) (sim.seen s t a r rest);
       returns = λ n over lt enough. absurd (omega arith);
     }
 
     -- the next step is matched: what follows from there follows from here
-    follows-on : (N : ℕ) (s : State) (j : ℕ) (u u' : State) → Refines (seen s) (seen u) → run (step read) j u ≡ u' → ((i : ℕ) → i < j → ¬ HasReturned (seen (run (step read) i u))) → Pays read printed changed charges potential owed s j u → Follows N (step printed s) u' → Follows (suc N) s u
-    follows-on N s j u u' first there busy pays f = record {
+    follows-on : (N : ℕ) (s : State) (j : ℕ) (u u' : State) (a b : Account) → Refines (seen s) (seen u) → run (step read) j u ≡ u' → ((i : ℕ) → i < j → ¬ HasReturned (seen (run (step read) i u))) → IsBooked read printed changed charges s j u a b → Follows N (step printed s) u' b → Follows (suc N) s u a
+    follows-on N s j u u' a b first there busy booked f = record {
       steps = λ n. elim n [ zero ↦ 0 | suc m ↦ j + f.steps m ];
       refined = λ n. elim n as (λ n. n ≤ suc N → Refines (seen (run (step printed) n s)) (seen (run (step read) (elim n [ zero ↦ 0 | suc m ↦ j + f.steps m ]) u))) [ zero ↦ (λ le. first) | suc m ↦ (λ le. subst (λ q. Refines (seen (run (step printed) m (step printed s))) (seen q)) (sym (run-add (step read) j (f.steps m) u ∙ ap (run (step read) (f.steps m)) there)) (f.refined m (omega arith))) ];
       returns = λ n over lt enough. ⊎_elim (λ early. absurd (busy n early over)) (λ late. later n late over lt enough) (cases_lt n j);
     }
       where
-        later : (n : ℕ) → j ≤ n → HasReturned (seen (run (step read) n u)) → potential s + toll read charges n u < suc N → Suffices s (potential s + toll read charges n u) → Returns s u n
+        later : (n : ℕ) → j ≤ n → HasReturned (seen (run (step read) n u)) → a.paid + toll read charges n u < suc N → Suffices s (a.paid + toll read charges n u) → Returns s u a n
         later n late over lt enough =
             let here : run (step read) n u ≡ run (step read) (n - j) u' = run-behind (step read) j n u late ∙ ap (run (step read) (n - j)) there in
             let cost = toll-behind read charges j n u u' late there in
-            returns-on s j u u' n late there pays (f.returns (n - j) (subst (λ q. HasReturned (seen q)) here over) (omega (arith, cost, pays.toll)) (λ k lt' short. enough (suc k) (omega (arith, cost, pays.toll)) short))
+            returns-on s j u u' a b n late there booked (f.returns (n - j) (subst (λ q. HasReturned (seen q)) here over) (omega (arith, cost, booked.steps)) (λ k lt' short. enough (suc k) (omega (arith, cost, booked.steps)) short))
 
     -- a printed run that stands still for want of numbers, though the read one returns
-    returns-short : (s u : State) (n : ℕ) → Refines (seen s) (seen u) → IsShort s → HasReturned (seen (run (step read) n u)) → Suffices s (potential s + toll read charges n u) → ⊥
-    returns-short s u zero first short over enough = short-goes-on s short (returned-here s u first over)
-    returns-short s u (suc n) first short over enough = enough 0 (omega (arith, toll-steps read charges (suc n) u)) short
+    returns-short : (s u : State) (a : Account) (n : ℕ) → Refines (seen s) (seen u) → IsShort s → HasReturned (seen (run (step read) n u)) → Suffices s (a.paid + toll read charges n u) → ⊥
+    returns-short s u a zero first short over enough = short-goes-on s short (returned-here s u first over)
+    returns-short s u a (suc n) first short over enough = enough 0 (omega (arith, toll-steps read charges (suc n) u)) short
 
     -- the numbers that the read run takes while the printed one makes N steps
-    taken_by : (s t : State) → ((s' t' : State) → R s' t' → List ℕ) → Moves read printed changed charges R potential owed s t → List ℕ
-    taken_by s t later (on j x t' comes r pays) = x ++ later (step printed s) t' r
-    taken_by s t later (undefined j x wrong) = x
-    taken_by s t later (halts still why) = []
+    taken_by : (s t : State) (a : Account) → ((s' t' : State) (b : Account) → R s' t' b → List ℕ) → Moves read printed changed charges R s t a → List ℕ
+    taken_by s t a later (on j x t' b comes r booked) = x ++ later (step printed s) t' b r
+    taken_by s t a later (undefined j x wrong) = x
+    taken_by s t a later (halts still why) = []
 
-    taken : ℕ → (s t : State) → R s t → List ℕ
-    taken zero s t r = []
-    taken (suc N) s t r = taken_by s t (taken N) (sim.move s t r)
+    taken : ℕ → (s t : State) (a : Account) → R s t a → List ℕ
+    taken zero s t a r = []
+    taken (suc N) s t a r = taken_by s t a (taken N) (sim.move s t a r)
 
-    by_move : (N : ℕ) (s t : State) → R s t → (m : Moves read printed changed charges R potential owed s t) → ((s' t' : State) (r : R s' t') (rest : List ℕ) → Follows N s' (give t' (taken N s' t' r ++ rest))) → (rest : List ℕ) → Follows (suc N) s (give t (taken_by s t (taken N) m ++ rest))
+    by_move : (N : ℕ) (s t : State) (a : Account) → R s t a → (m : Moves read printed changed charges R s t a) → ((s' t' : State) (b : Account) (r : R s' t' b) (rest : List ℕ) → Follows N s' (give t' (taken N s' t' b r ++ rest)) b) → (rest : List ℕ) → Follows (suc N) s (give t (taken_by s t a (taken N) m ++ rest)) a
     unfolding taken_by
-    by_move N s t r (on j x t' comes r' pays) ih rest =
-        let x' = taken N (step printed s) t' r' in
+    by_move N s t a r (on j x t' b comes r' booked) ih rest =
+        let x' = taken N (step printed s) t' b r' in
         let all = x' ++ rest in
-        subst (λ l. Follows (suc N) s (give t l)) (sym (append_assoc x x' rest)) (follows-on N s j (give t (x ++ all)) (give t' all) (sim.seen s t r (x ++ all)) (comes.there all) (comes.busy all) (pays all) (ih (step printed s) t' r' rest))
-    by_move N s t r (undefined j x wrong) ih rest = record {
+        subst (λ l. Follows (suc N) s (give t l) a) (sym (append_assoc x x' rest)) (follows-on N s j (give t (x ++ all)) (give t' all) a b (sim.seen s t a r (x ++ all)) (comes.there all) (comes.busy all) (booked all) (ih (step printed s) t' b r' rest))
+    by_move N s t a r (undefined j x wrong) ih rest = record {
       steps = λ n. j;
       refined = λ n le. subst (Refines (seen (run (step printed) n s))) (sym (wrong rest)) of_undefined;
       returns = λ n over lt enough. absurd (never-returns read j n (give t (x ++ rest)) (wrong rest) over);
     }
-    by_move N s t r (halts still why) ih rest = record {
+    by_move N s t a r (halts still why) ih rest = record {
       steps = λ n. 0;
-      refined = λ n le. subst (λ p. Refines (seen p) (seen (give t rest))) (sym (run-halted (step printed) n s still)) (sim.seen s t r rest);
+      refined = λ n le. subst (λ p. Refines (seen p) (seen (give t rest))) (sym (run-halted (step printed) n s still)) (sim.seen s t a r rest);
       returns = λ n over lt enough.
-          let first = sim.seen s t r rest in
-          ⊎_elim (λ done. returns-at-once s (give t rest) n done (returned-there read n s (give t rest) first done over)) (λ w. absurd (⊎_elim (λ short. returns-short s (give t rest) n first short over enough) (λ never. never rest n over) w)) why;
+          let first = sim.seen s t a r rest in
+          ⊎_elim (λ done. returns-at-once s (give t rest) a n done (returned-there read n s (give t rest) first done over) (sim.settled s t a r done)) (λ w. absurd (⊎_elim (λ short. returns-short s (give t rest) a n first short over enough) (λ never. never rest n over) w)) why;
     }
 
-    follows : (N : ℕ) (s t : State) (r : R s t) (rest : List ℕ) → Follows N s (give t (taken N s t r ++ rest))
+    follows : (N : ℕ) (s t : State) (a : Account) (r : R s t a) (rest : List ℕ) → Follows N s (give t (taken N s t a r ++ rest)) a
     unfolding taken
-    follows zero s t r rest = follows-at-once s t r rest
-    follows (suc N) s t r rest = by_move N s t r (sim.move s t r) (follows N) rest
+    follows zero s t a r rest = follows-at-once s t a r rest
+    follows (suc N) s t a r rest = by_move N s t a r (sim.move s t a r) (follows N) rest
 
-  -- from a state without potential
-  serves : (v : World) (horizon far : ℕ) (s t : State) → horizon ≤ far → length v.numbers < far → Has (length v.numbers) s → potential s ≡ 0 → ((k : BlockName) → owed k s ≡ 0) → Follows far s t → ServesAtToll read printed changed charges v horizon s t
-  serves v horizon far s t le lt has none nothing f = record {
+  -- with the account balanced
+  serves : (v : World) (horizon far : ℕ) (s t : State) → horizon ≤ far → length v.numbers < far → Has (length v.numbers) s → Follows far s t balanced → ServesAtToll read printed changed charges v horizon s t
+  serves v horizon far s t le lt has f = record {
     steps = f.steps;
     refined = λ n h. f.refined n (omega arith);
     returns = λ n over many. at-toll n (f.returns n over (omega arith) (λ k below. not-short printed k s (has-less (512 * (k + 1)) (length v.numbers) s (omega arith) has)));
   }
     where
-      at-toll : (n : ℕ) → Returns s t n → ReturnsAtToll read printed changed charges s t n
-      at-toll n r = record { steps = r.steps; within = omega (arith, r.within); returned = r.returned; at_most = λ k h. omega (arith, r.at_most k h, nothing k); as_often = r.as_often }
+      at-toll : (n : ℕ) → Returns s t balanced n → ReturnsAtToll read printed changed charges s t n
+      at-toll n r = record { steps = r.steps; within = omega (arith, r.within); returned = r.returned; at_most = λ k h. omega (arith, r.at_most k h); as_often = λ k h same. omega (arith, r.as_often k h same) }
 
   -- a printed module that a simulation relates to the read one is allowed
-  pub simulated : Covers read printed → ((k : BlockName) → HasBlock read k → HasBlock printed k) → IsSimulation read printed changed charges R potential owed → AllowsAtToll read printed changed charges
+  pub simulated : Covers read printed → ((k : BlockName) → HasBlock read k → HasBlock printed k) → IsSimulation read printed changed charges R → AllowsAtToll read printed changed charges
   simulated covers keeps sim = record {
     covers = covers;
     keeps = keeps;
@@ -208,8 +208,8 @@ module _ (read printed : Module) (changed : BlockName → Bool) (charges : List 
         let s = start printed function args memory v in
         let t = start read function args memory v in
         let far = max horizon (length v.numbers + 1) in
-        let x = taken sim far s t first.0 in
+        let x = taken sim far s t balanced first in
         let pad = replicate (length v.numbers) 0 in
-        let f = follows sim far s t first.0 pad in
-        (record { replies = v.replies; numbers = x ++ pad }, record { replies = refl; numbers = omega (arith, length-append x pad, length-replicate {A = ℕ} (length v.numbers) 0) }, subst (ServesAtToll read printed changed charges v horizon s) (sym (start-give read function args memory v (x ++ pad))) (serves v horizon far s (give t (x ++ pad)) (omega arith) (omega arith) (has-start printed function args memory v) first.1 first.2 f));
+        let f = follows sim far s t balanced first pad in
+        (record { replies = v.replies; numbers = x ++ pad }, record { replies = refl; numbers = omega (arith, length-append x pad, length-replicate {A = ℕ} (length v.numbers) 0) }, subst (ServesAtToll read printed changed charges v horizon s) (sym (start-give read function args memory v (x ++ pad))) (serves v horizon far s (give t (x ++ pad)) (omega arith) (omega arith) (has-start printed function args memory v) f));
   }

@@ -1,5 +1,5 @@
 -- Small modules, to try the definitions on.
-use Rattle.std.specs.Prelude.{◌≡◌, ℕ, ◌+◌, Bool, ◌&&◌, codes, List, [], ◌∷◌, ◌++◌, map, Some, None}
+use Rattle.std.specs.Prelude.{◌≡◌, ℕ, ◌+◌, codes, List, [], ◌∷◌, ◌++◌, map, Some, None}
 use Rattle.ir_types.specs.declared.name.Name.{Name}
 use Rattle.ir_types.specs.declared.name.Name.TheVariants.{Text, Number}
 use Rattle.ir_types.specs.declared.name.ValueId.{ValueId}
@@ -17,7 +17,6 @@ use Rattle.ir_types.specs.declared.module.Param.{Param}
 use Rattle.ir_types.specs.declared.module.Module.{Module}
 use Rattle.ir_types.specs.declared.value.Value.{Value}
 use Rattle.ir_types.specs.declared.value.Value.TheVariants.{Int}
-use Rattle.ir_types.specs.Names.{same_name}
 use Rattle.ir_types.specs.Values.{Typed}
 use Rattle.ir_types.specs.Memory.{Memory}
 use Rattle.ir_types.specs.State.{World}
@@ -147,13 +146,9 @@ detour = one_function [] (block 0 (jump 2 ∷ []) ∷ block 1 (ret (IntOperand 5
 abbrev pub block_name : ℕ → BlockName
 block_name n = record { function = f; block = Number n }
 
--- whether that is the block %1
-abbrev pub is_last : BlockName → Bool
-is_last k = same_name f k.function && same_name (Number 1) k.block
-
 -- each entry of %1 costs one step
 abbrev pub one_more : Charge
-one_more = record { header = block_name 1; cost = 1 }
+one_more = record { block = block_name 1; cost = 1 }
 
 -- ---- modules that stand still, and such in which the first of several counts
 
@@ -212,7 +207,7 @@ abbrev pub digit_of : Value → ℕ
 digit_of (Int w x) = 48 + x
 digit_of v = 63
 
--- the digit of a returned number below 10; a question mark for everything else
+-- the digit of a returned number, which is below 10 here; a question mark for everything else
 abbrev pub digit_in : Observation → ℕ
 digit_in (Returned [] (Some t) memory) = digit_of t.value
 digit_in o = 63

@@ -1,4 +1,4 @@
--- What it takes to show, step by step, that a module allows another at a toll.
+-- What it takes to show, step by step, that a module allows another at a toll. Of two states the printed run's comes first.
 use Rattle.std.specs.Prelude.{◌≡◌, ℕ, ◌+◌, ◌<◌, ◌≤◌, ◌⊎◌, Bool, IsFalse, List, ◌++◌, length}
 use Rattle.ir_types.specs.declared.name.Name.{Name}
 use Rattle.ir_types.specs.declared.module.Module.{Module}
@@ -28,28 +28,38 @@ pub record Comes (read : Module) (t : State) (j : ℕ) (x : List ℕ) (t' : Stat
   pub there : (rest : List ℕ) → run (step read) j (give t (x ++ rest)) ≡ give t' rest
   pub busy : (rest : List ℕ) (i : ℕ) → i < j → ¬ HasReturned (seen (run (step read) i (give t (x ++ rest))))
 
--- The step of the printed run is paid: by what the potential falls, and by the toll of the read run's j steps. The entries of these j
--- steps that the printed run has not made yet are owed to it; blocks that are not changed it enters in the step as the j steps do.
-pub record Pays (read printed : Module) (changed : BlockName → Bool) (charges : List Charge) (potential : State → ℕ) (owed : BlockName → State → ℕ) (s : State) (j : ℕ) (t : State) : Type 0 where
-  pub toll : potential (step printed s) + 1 ≤ potential s + toll read charges j t
-  pub at_most : (k : BlockName) → HasBlock read k → owed k (step printed s) + enters printed k s ≤ owed k s + entries read k j t
-  pub as_often : (k : BlockName) → HasBlock read k → IsFalse (changed k) → enters printed k s ≡ entries read k j t
+-- What is paid for the printed run and what is owed to it, between two states: how many steps of it are paid and not made yet; and for each
+-- block, how many entries the read run has made that the printed one has yet to make (of a changed block, may make).
+pub record Account : Type 0 where
+  pub paid : ℕ
+  pub owed : BlockName → ℕ
 
-module _ (read printed : Module) (changed : BlockName → Bool) (charges : List Charge) (R : State → State → Type 0) (potential : State → ℕ) (owed : BlockName → State → ℕ) where
+-- nothing is paid, and nothing owed
+abbrev pub balanced : Account
+balanced = record { paid = 0; owed = λ k. 0 }
+
+-- The account after a step of the printed run from s and j steps of the read one from t. The toll of these j steps pays, and their
+-- entries of blocks come to what is owed; the printed run's step takes one off, and so does its entry of a block.
+pub record IsBooked (read printed : Module) (changed : BlockName → Bool) (charges : List Charge) (s : State) (j : ℕ) (t : State) (before after : Account) : Type 0 where
+  pub steps : after.paid + 1 ≤ before.paid + toll read charges j t
+  pub at_most : (k : BlockName) → HasBlock read k → after.owed k + enters printed k s ≤ before.owed k + entries read k j t
+  pub as_often : (k : BlockName) → HasBlock read k → IsFalse (changed k) → after.owed k + enters printed k s ≡ before.owed k + entries read k j t
+
+module _ (read printed : Module) (changed : BlockName → Bool) (charges : List Charge) (R : State → State → Account → Type 0) where
   -- one step of the printed run from s, against any number of steps of the read one from t
-  pub data Moves (s t : State) : Type 0 where
+  pub data Moves (s t : State) (a : Account) : Type 0 where
     -- the read run goes on by j steps, for which it takes the numbers x, and the states are again related
-    on : (j : ℕ) (x : List ℕ) (t' : State) → Comes read t j x t' → R (step printed s) t' → ((rest : List ℕ) → Pays read printed changed charges potential owed s j (give t (x ++ rest))) → Moves s t
+    on : (j : ℕ) (x : List ℕ) (t' : State) (b : Account) → Comes read t j x t' → R (step printed s) t' b → ((rest : List ℕ) → IsBooked read printed changed charges s j (give t (x ++ rest)) a b) → Moves s t a
     -- the read run becomes undefined
-    undefined : (j : ℕ) (x : List ℕ) → ((rest : List ℕ) → seen (run (step read) j (give t (x ++ rest))) ≡ Undefined) → Moves s t
+    undefined : (j : ℕ) (x : List ℕ) → ((rest : List ℕ) → seen (run (step read) j (give t (x ++ rest))) ≡ Undefined) → Moves s t a
     -- the printed run stands still: it has returned, or is short of numbers, or the read run never returns
-    halts : step printed s ≡ s → HasReturned (seen s) ⊎ (IsShort s ⊎ ((rest : List ℕ) (n : ℕ) → ¬ HasReturned (seen (run (step read) n (give t rest))))) → Moves s t
+    halts : step printed s ≡ s → HasReturned (seen s) ⊎ (IsShort s ⊎ ((rest : List ℕ) (n : ℕ) → ¬ HasReturned (seen (run (step read) n (give t rest))))) → Moves s t a
 
-  -- A relation between states of the printed and of the read run. Related states are seen alike, and stay related; the first states are.
-  -- The potential is how many steps are paid that the printed run has not made: it bounds the steps that it makes while the read one makes
-  -- none, and may be held back. What is owed are the entries of a block that the read run has made and the printed one may still make. At
-  -- the start there is neither.
+  -- A relation between a state of the printed run, one of the read run, and an account. What is seen of the printed run refines what is
+  -- seen of the read one; the states stay related; where the printed run has returned, no entry is owed but of changed blocks; and the
+  -- first states are related with the account balanced.
   pub record IsSimulation : Type 0 where
-    pub seen : (s t : State) → R s t → (rest : List ℕ) → Refines (seen s) (seen (give t rest))
-    pub move : (s t : State) → R s t → Moves s t
-    pub start : (function : Name) (args : List Value) (memory : Memory) (v : World) → CanRun read function args memory → R (start printed function args memory v) (start read function args memory v) × (potential (start printed function args memory v) ≡ 0) × ((k : BlockName) → owed k (start printed function args memory v) ≡ 0)
+    pub settled : (s t : State) (a : Account) → R s t a → HasReturned (seen s) → (k : BlockName) → IsFalse (changed k) → a.owed k ≡ 0
+    pub move : (s t : State) (a : Account) → R s t a → Moves s t a
+    pub start : (function : Name) (args : List Value) (memory : Memory) (v : World) → CanRun read function args memory → R (start printed function args memory v) (start read function args memory v) balanced
+    pub seen : (s t : State) (a : Account) → R s t a → (rest : List ℕ) → Refines (seen s) (seen (give t rest))

@@ -14,7 +14,7 @@ use Rattle.ir_types.specs.State.{World, State, Live, Over, Wrong}
 use Rattle.ir_types.specs.Meaning.{Effect, Sets, Goes, Leaves, Fails, Waits, function_of, inst_at, effect_in, entered, step, start}
 use Rattle.ir_types.specs.Runs.{run, seen}
 use Rattle.ir_types.specs.Refines.{Refines}
-use Rattle.ir_types.specs.Allows.{CanRun, Covers, Answers, HasReturned}
+use Rattle.ir_types.specs.Allows.{CanRun, Covers, IsWorldFor, HasReturned}
 
 -- ---- entries of blocks
 
@@ -73,7 +73,7 @@ entries m k n s = total (step m) (enters m k) n s
 
 -- what each entry of a block costs, in steps
 pub record Charge : Type 0 where
-  pub header : BlockName
+  pub block : BlockName
   pub cost : ℕ
 
 -- all costs together
@@ -84,10 +84,10 @@ costs_of (c ∷ charges) = c.cost + costs_of charges
 -- the first n steps, and what their entries of charged blocks cost
 abbrev pub toll : Module → List Charge → ℕ → State → ℕ
 toll m [] n s = n
-toll m (c ∷ charges) n s = c.cost * entries m c.header n s + toll m charges n s
+toll m (c ∷ charges) n s = c.cost * entries m c.block n s + toll m charges n s
 
--- Where the read run from t has returned after n steps, the printed run from s has within the toll of these steps. Each block of the
--- read module is entered at most as often as there, and exactly as often where it is not a changed one.
+-- For a read run from t that has returned after n steps: the printed run from s has returned within the toll of these steps. Each block
+-- of the read module is entered at most as often as there, and exactly as often where it is not a changed one.
 pub record ReturnsAtToll (read printed : Module) (changed : BlockName → Bool) (charges : List Charge) (s t : State) (n : ℕ) : Type 0 where
   pub steps : ℕ
   pub within : steps ≤ toll read charges n t
@@ -106,4 +106,4 @@ pub record AllowsAtToll (read printed : Module) (changed : BlockName → Bool) (
   pub covers : Covers read printed
   -- no block of the read module is lost
   pub keeps : (k : BlockName) → HasBlock read k → HasBlock printed k
-  pub serves : (function : Name) (args : List Value) (memory : Memory) (v : World) (horizon : ℕ) → CanRun read function args memory → (u : World) × Answers v u × ServesAtToll read printed changed charges v horizon (start printed function args memory v) (start read function args memory u)
+  pub serves : (function : Name) (args : List Value) (memory : Memory) (v : World) (horizon : ℕ) → CanRun read function args memory → (u : World) × IsWorldFor v u × ServesAtToll read printed changed charges v horizon (start printed function args memory v) (start read function args memory u)

@@ -13,7 +13,7 @@ ghost use Rattle.ir_types.specs.declared.value.Byte.{Byte};
 ghost use Rattle.ir_types.specs.declared.value.Pointer.{Pointer};
 ghost use Rattle.ir_types.specs.declared.value.Value.{Value};
 ghost use Rattle.ir_types.specs.Memory.{Memory};
-ghost use Rattle.ir_types.specs.Values.{Typed};
+ghost use Rattle.ir_types.specs.Values.{HasType, Typed};
 ghost use Rattle.ir_types.specs.State.{Env, Event};
 ghost use Rattle.ir_types.specs.Meaning.{effect_of, operand_types, values_of, phi_value};
 ghost use Rattle.ir_types.specs.Refines.{PointerRefines, LaneRefines, ValueRefines, ByteRefines, BytesRefine, AllocationRefines, MemoryRefines, ResultRefines, EventRefines, Refines};
@@ -51,7 +51,7 @@ pub fn refinement_is_transitive()
 /// Operands respect refinement: where the names have values that refine others, so have operands of their types, and the operand of a phi.
 pub fn operands_respect_refinement()
     ensures operands { (m : Module) (here other : Memory) (types : ValueId → Ty) (env there : Env) (tys : List Ty) (args : List Operand) (ws : List Value) → MemoryRefines here other → EnvRefines types env there → AllZip (IsOperandOf types) tys args → values_of m other there tys args ≡ Some ws → (vs : List Value) × (values_of m here env tys args ≡ Some vs) × OperandsRefine tys vs ws }
-    ensures phis { (m : Module) (here other : Memory) (types : ValueId → Ty) (env there : Env) (left : ValueId) (i : Inst) (w : Value) → MemoryRefines here other → EnvRefines types env there → AllByRecursion (IsOperandOf types i.ty) i.args → phi_value m other there left i ≡ Some w → (v : Value) × (phi_value m here env left i ≡ Some v) × ValueRefines i.ty v w }
+    ensures phis { (m : Module) (here other : Memory) (types : ValueId → Ty) (env there : Env) (left : ValueId) (i : Inst) (w : Value) → MemoryRefines here other → EnvRefines types env there → AllByRecursion (IsOperandOf types i.ty) i.args → phi_value m other there left i ≡ Some w → (v : Value) × (phi_value m here env left i ≡ Some v) × HasType i.ty v × HasType i.ty w × ValueRefines i.ty v w }
 {}
 
 /// Each operation respects refinement: by operands of its types that refine others, it asks for what refines what they ask for.

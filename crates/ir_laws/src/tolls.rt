@@ -11,7 +11,7 @@ ghost use Rattle.ir_laws.specs.Tolls.{BlockName, HasBlock, Charge, costs_of, All
 /// Tolls add up: where one pass and then another are allowed, and the second charges blocks that the first module has, both together are
 /// allowed at the charges of both.
 pub fn tolls_add()
-    ensures { (a b c : Module) (changed also : BlockName → Bool) (charges more : List Charge) → AllowsAtToll a b changed charges → AllowsAtToll b c also more → AllByRecursion (λ x. HasBlock a x.header) more → AllowsAtToll a c (λ k. changed k || also k) (charges ++ more) }
+    ensures { (a b c : Module) (changed also : BlockName → Bool) (charges more : List Charge) → AllowsAtToll a b changed charges → AllowsAtToll b c also more → AllByRecursion (λ x. HasBlock a x.block) more → AllowsAtToll a c (λ k. changed k || also k) (charges ++ more) }
 {}
 
 /// What is allowed at a toll is allowed with a factor: one more than all costs together.

@@ -8,7 +8,7 @@ ghost use Rattle.ir_types.specs.State.{World};
 ghost use Rattle.ir_types.specs.Runs.{observed, Undefined, Going, Returned};
 ghost use Rattle.ir_types.specs.Allows.{Allows};
 ghost use Rattle.ir_laws.specs.Tolls.{AllowsAtToll};
-ghost use Rattle.ir_laws.specs.Examples.{f, int32, bit, of_i32, chooses, swapped, another_entry, loops, direct, detour, is_last, one_more, empty, adds, reads_the_old, without_value, of_another_type, without_block, phi_at_the_start, phi_behind, without_entry, two_functions, two_parameters, two_blocks, two_entries, StandsStill, table_of, lines};
+ghost use Rattle.ir_laws.specs.Examples.{f, int32, bit, of_i32, chooses, swapped, another_entry, loops, direct, detour, one_more, empty, adds, reads_the_old, without_value, of_another_type, without_block, phi_at_the_start, phi_behind, without_entry, two_functions, two_parameters, two_blocks, two_entries, StandsStill, table_of, lines};
 
 /// Runs that are worked out, from any memory and any world. The first example of the README with 5 and false, with 5 and true, and with
 /// 5 and poison; a sum that wraps; a phi that reads another one of its block.
@@ -60,10 +60,10 @@ pub fn allows_no_other_module()
     ensures for_ever { (c : ℕ) → Allows chooses loops c → ⊥ }
 {}
 
-/// A block put before another is allowed at a toll of one step for each entry of the other, which is the one changed block; and so with the
-/// factor 2. With no charge it isn't.
+/// A block put before another is allowed at a toll of one step for each entry of the other, with no block changed; and so with the factor 2.
+/// With no charge it isn't.
 pub fn worked_toll()
-    ensures toll { AllowsAtToll direct detour is_last (one_more ∷ []) }
+    ensures toll { AllowsAtToll direct detour (λ k. false) (one_more ∷ []) }
     ensures factor { Allows direct detour 2 }
-    ensures needed { AllowsAtToll direct detour is_last [] → ⊥ }
+    ensures needed { AllowsAtToll direct detour (λ k. false) [] → ⊥ }
 {}

@@ -1,4 +1,5 @@
--- When a module allows another: what the other, the printed one, does is what the module that was read may do.
+-- When a module allows another: what the other, the printed one, does is what the module that was read may do. Of two modules the read
+-- one comes first; of two runs or values, the printed one, which refines the other.
 use Rattle.std.specs.Prelude.{◌≡◌, ℕ, ◌+◌, ◌*◌, ◌<◌, ◌≤◌, List, length, map, sum_by, Some}
 use Rattle.std.specs.List.{AllZip}
 use Rattle.ir_types.specs.declared.name.Name.{Name}
@@ -38,7 +39,7 @@ pub record Covers (read printed : Module) : Type 0 where
   pub functions : (name : Name) (f : Function) → Defines read name f → (g : Function) × Defines printed name g × SameSignature f g
 
 -- a world u of the read module for a world v of the printed one: the same replies, and at least as many numbers
-pub record Answers (v u : World) : Type 0 where
+pub record IsWorldFor (v u : World) : Type 0 where
   pub replies : u.replies ≡ v.replies
   pub numbers : length v.numbers ≤ length u.numbers
 
@@ -59,7 +60,7 @@ pub record Serves (printed read : ℕ → Observation) (c : ℕ) (v : World) (ho
 -- worlds of the printed module, and every horizon, there is a world of the read module under which its run serves.
 pub record Allows (read printed : Module) (c : ℕ) : Type 0 where
   pub covers : Covers read printed
-  pub serves : (function : Name) (args : List Value) (memory : Memory) (v : World) (horizon : ℕ) → CanRun read function args memory → (u : World) × Answers v u × Serves (observed printed function args memory v) (observed read function args memory u) c v horizon
+  pub serves : (function : Name) (args : List Value) (memory : Memory) (v : World) (horizon : ℕ) → CanRun read function args memory → (u : World) × IsWorldFor v u × Serves (observed printed function args memory v) (observed read function args memory u) c v horizon
 
 -- the number of a module's instructions
 abbrev pub instructions_of : Module → ℕ
@@ -72,4 +73,4 @@ factor_of printed = 1 + instructions_of printed
 -- one world of the read module under which its run serves the printed run at every horizon
 abbrev pub IsServed : (read printed : Module) (c : ℕ) (function : Name) (args : List Value) (memory : Memory) (v : World) → Type 0
 IsServed read printed c function args memory v =
-    (u : World) × Answers v u × ((horizon : ℕ) → Serves (observed printed function args memory v) (observed read function args memory u) c v horizon)
+    (u : World) × IsWorldFor v u × ((horizon : ℕ) → Serves (observed printed function args memory v) (observed read function args memory u) c v horizon)

@@ -16,13 +16,13 @@ pub record Variable : Type 0 where
 abbrev pub variables_of : Module → List Variable
 variables_of m = []
 
--- an allocation that touches neither 0 nor 2^64
+-- an allocation of bytes that touches neither 0 nor 2^64
 pub record IsAllocation (a : Allocation) : Type 0 where
   pub above : 0 < a.base
   pub below : a.base + length a.bytes < 2 ^ 64
   pub bytes : AllByRecursion IsByte a.bytes
 
--- two allocations with different numbers that don't touch: there is an address between the end of one and the base of the other
+-- two allocations with different numbers that don't touch: between the last byte of one and the first of the other lies another byte
 pub record AreApart (a b : Allocation) : Type 0 where
   pub numbers : a.number ≢ b.number
   pub apart : (a.base + length a.bytes < b.base) ⊎ (b.base + length b.bytes < a.base)

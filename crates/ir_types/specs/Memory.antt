@@ -19,21 +19,21 @@ IsByte (Part p k) = (p.address < 2 ^ 64) × (k < 8)
 
 -- ---- pointers in bytes
 
-abbrev pub same_allocation : Option ℕ → Option ℕ → Bool
-same_allocation None None = true
-same_allocation None (Some b) = false
-same_allocation (Some a) None = false
-same_allocation (Some a) (Some b) = nat_eq a b
+abbrev pub equal_allocations : Option ℕ → Option ℕ → Bool
+equal_allocations None None = true
+equal_allocations None (Some b) = false
+equal_allocations (Some a) None = false
+equal_allocations (Some a) (Some b) = nat_eq a b
 
-abbrev pub same_pointer : Pointer → Pointer → Bool
-same_pointer p q = nat_eq p.address q.address && same_allocation p.allocation q.allocation
+abbrev pub equal_pointers : Pointer → Pointer → Bool
+equal_pointers p q = nat_eq p.address q.address && equal_allocations p.allocation q.allocation
 
 -- whether the bytes are the parts of a pointer, from part k on
 abbrev pub are_parts : Pointer → ℕ → List Byte → Bool
 are_parts p k [] = true
 are_parts p k (Number b ∷ bytes) = false
 are_parts p k (Poison ∷ bytes) = false
-are_parts p k (Part q j ∷ bytes) = same_pointer p q && nat_eq j k && are_parts p (k + 1) bytes
+are_parts p k (Part q j ∷ bytes) = equal_pointers p q && nat_eq j k && are_parts p (k + 1) bytes
 
 -- the pointer as which eight bytes read: its parts 0 to 7
 abbrev pub pointer_of : List Byte → Option Pointer

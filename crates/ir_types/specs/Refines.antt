@@ -1,4 +1,5 @@
--- When a value, a memory or an observation refines another: what may be found here where the other stands there.
+-- When a value, a memory or an observation refines another: what may be found here where the other stands there. The refining one,
+-- which is the printed module's, comes first.
 use Rattle.std.specs.Prelude.{◌≡◌, ℕ, ◌<◌, ◌^◌, List, take, drop, Option, Some, None}
 use Rattle.std.specs.List.{AllZip}
 use Rattle.ir_types.specs.declared.name.Name.{Name}
@@ -32,7 +33,7 @@ pub data ValueRefines (ty : Ty) : Value → Value → Type 0 where
   of_pointer : {p q : Pointer} → PointerRefines p q → ValueRefines ty (Ptr p) (Ptr q)
   of_lanes : {w : ℕ} {xs ys : List (Option ℕ)} → AllZip (LaneRefines w) xs ys → ValueRefines ty (Lanes w xs) (Lanes w ys)
 
--- a byte refines itself and poison, and a part of a pointer the same part of one that the pointer refines
+-- a byte refines itself, and poison if it is a byte in its range; a part of a pointer refines the same part of one that the pointer refines
 pub data ByteRefines : Byte → Byte → Type 0 where
   same_byte : {b : Byte} → ByteRefines b b
   of_poison_byte : {b : Byte} → IsByte b → ByteRefines b PoisonByte
