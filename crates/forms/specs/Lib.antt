@@ -1,4 +1,6 @@
 pub mod Lexical
+pub mod Strings
+pub mod LeftOut
 pub mod Numbers
 pub mod Form
 pub mod Bind

@@ -2,11 +2,13 @@
 #![tactic(auto)]
 
 mod cursor;
+mod strings;
 #[cfg(test)]
 mod tests;
 mod words;
 
 pub use cursor::{Cursor, SyntaxFault};
+pub use strings::{unescaped, without_last};
 pub use words::find;
 
 /// What a token is: one variant for each kind of token.

@@ -1,5 +1,5 @@
 pub mod Modulo
-pub mod Strings
+pub mod Digits
 pub mod Lines
 pub mod Same
 pub mod Threads

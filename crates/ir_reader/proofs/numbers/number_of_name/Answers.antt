@@ -1,7 +1,7 @@
 use Rattle.std.proofs.Common.{◌≡◌, ◌+◌, ◌*◌, ◌-◌, ◌∷◌, drop, get_or, sym, ap, ◌∙◌, arith, add-one}
 use Rattle.std.proofs.Math.Seq.{drop-cons}
 use Rattle.ir_types.specs.Written.{number_from, number_of}
-use Rattle.ir_reader.proofs.Strings.{no_less, nothing_left}
+use Rattle.ir_reader.proofs.Digits.{no_less, nothing_left}
 use Rattle.ir_reader.proofs.numbers.number_of_name.Goals as goal
 
 pub returns-then-next-from : goal.returns-then-next-from

@@ -1,8 +1,8 @@
--- Strings, and what is left of them.
+-- The bytes of a string, one more.
 use Rattle.std.proofs.Common.{◌≡◌, ℕ, ◌+◌, ◌*◌, ◌-◌, ◌<◌, ◌≤◌, zero, suc, List, [], ◌∷◌, ◌++◌, length, drop, take, get_or, refl, sym, ap, ◌∙◌, append_assoc, arith, add-one, length-drop}
 use Rattle.std.proofs.Math.Seq.{drop-cons, take-length}
-use Rattle.std.proofs.lemmas.List.{drop-drop, nil_from_length}
-use Rattle.ir_types.specs.Written.{without_last, unescaped, unescaped_behind, byte_at, number_from}
+use Rattle.std.proofs.lemmas.List.{drop-drop}
+use Rattle.forms.specs.Strings.{without_last, unescaped, unescaped_behind, byte_at}
 
 pub front_of : (front : List ℕ) (x : ℕ) → without_last (front ++ x ∷ []) ≡ front
 front_of [] x = refl
@@ -29,11 +29,3 @@ unescapes_on front text i b whole lt seen e =
     let later : unescaped_behind b.1 (drop (i + 1) text) ≡ unescaped (drop (i + (1 + b.1)) text) =
     behind_escape b.1 (drop (i + 1) text) ∙ ap unescaped (drop-drop b.1 (i + 1) text ∙ ap (λ n. drop n text) there) in
     append_assoc front (b.0 ∷ []) _ ∙ sym (ap (λ (l : List ℕ). front ++ l) (one ∙ ap (λ (l : List ℕ). b.0 ∷ l) later)) ∙ e
-
--- further digits make a number no less
-pub no_less : (n : ℕ) (ds : List ℕ) → n ≤ number_from n ds
-no_less n [] = omega arith
-no_less n (d ∷ ds) = let h = no_less (n * 10 + (d - 48)) ds in omega arith
-
-pub nothing_left : (l : List ℕ) (i : ℕ) → length l ≤ i → drop i l ≡ []
-nothing_left l i le = nil_from_length (drop i l) (omega (arith, length-drop i l))

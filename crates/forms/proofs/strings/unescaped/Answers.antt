@@ -1,7 +1,7 @@
 use Rattle.std.proofs.Common.{◌+◌, arith, length-drop}
-use Rattle.ir_types.specs.Written.{unescaped}
-use Rattle.ir_reader.proofs.Strings.{unescapes_on}
-use Rattle.ir_reader.proofs.names.unescaped.Goals as goal
+use Rattle.forms.specs.Strings.{unescaped}
+use Rattle.forms.proofs.Unescaping.{unescapes_on}
+use Rattle.forms.proofs.strings.unescaped.Goals as goal
 
 pub loop-place-preserved : goal.loop-place-preserved
 loop-place-preserved c = record {

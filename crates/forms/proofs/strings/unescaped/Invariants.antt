@@ -1,6 +1,6 @@
 use Rattle.std.proofs.Common.{◌≡◌, ◌-◌, ◌≤◌, ◌++◌, length, drop}
-use Rattle.ir_types.specs.Written.{unescaped}
-use Rattle.ir_reader.proofs.names.unescaped.Given as goal
+use Rattle.forms.specs.Strings.{unescaped}
+use Rattle.forms.proofs.strings.unescaped.Given as goal
 
 abbrev pub invariant-loop-place : goal.invariant-loop-place
 invariant-loop-place l = record {
