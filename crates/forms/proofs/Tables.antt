@@ -1,10 +1,11 @@
 -- Looking a word up in a table.
 use Rattle.std.proofs.Common.{◌≡◌, ◌<◌, ◌+◌, ℕ, zero, suc, Bool, true, false, List, [], ◌∷◌, length, get_or, drop, map, add-one, eqb, ◌&&◌, Some, inl, inr, refl, sym, ap, ◌∙◌, arith}
+use Rattle.std.specs.List.{list_any}
 use lib.Pointwise.{pointwise}
 use Rattle.forms.specs.declared.TokenKind.TheVariants.{Word}
 use Rattle.std.specs.Option.{is_some}
 use Rattle.forms.proofs.Begins.{not_both, test}
-use Rattle.forms.specs.Form.{Lexeme, kind_code, same_text, entry}
+use Rattle.forms.specs.Form.{Lexeme, kind_code, same_text, is_one_of, entry}
 use Rattle.forms.specs.Reading.{next_in, words_of}
 use Rattle.forms.proofs.Tokens.{text_is, is_text}
 
@@ -33,6 +34,11 @@ same s r e = is_text s r (sym (tested s r) ∙ e)
 
 pub other : (s r : List ℕ) → pointwise eqb s r ≡ false → s ≡ r → ⊥
 other s r e h = not_both (pointwise eqb s r) (tested s r ∙ ap (λ (t : List ℕ). same_text t r) h ∙ text_is r) e
+
+-- the code's test of a word against some words
+pub tested_each : {W : Type 0} (v : W → List ℕ) (words : List W) (w : List ℕ) → list_any (λ x. pointwise eqb (v x) w) words ≡ is_one_of (map v words) w
+tested_each v [] w = refl
+tested_each v (x ∷ xs) w = rw (tested (v x) w, tested_each v xs w) refl
 
 -- a word of the table stands next
 pub word_next : {K : Type 0} (table : List (List ℕ × K)) (t : Lexeme) (ts : List Lexeme) → next_in (words_of table) (t ∷ ts) ≡ (eqb (kind_code t.kind) (kind_code Word) && is_some (entry table t.text))

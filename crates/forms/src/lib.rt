@@ -9,7 +9,7 @@ mod words;
 
 pub use cursor::{Cursor, SyntaxFault};
 pub use strings::{unescaped, without_last};
-pub use words::find;
+pub use words::{find, is_one_of};
 
 /// What a token is: one variant for each kind of token.
 #[derive(Clone, Copy, Debug, PartialEq, Eq)]

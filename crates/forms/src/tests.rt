@@ -1,6 +1,6 @@
 // Each public function once.
 
-use crate::{Cursor, SyntaxFault, Token, TokenKind, find};
+use crate::{Cursor, SyntaxFault, Token, TokenKind, find, is_one_of};
 
 const TOKENS: [Token; 3] = [
     Token {
@@ -70,4 +70,7 @@ fn finds_words(rt: HostRuntime) {
     let table: [(&[u8], u32); 3] = [(b"ret", 1), (b"br", 2), (b"br", 3)];
     assert_eq!(rt; find(&table, b"br"), Some(2));
     assert_eq!(rt; find(&table, b"re"), None);
+    let words: [&[u8]; 2] = [b"ret", b"br"];
+    assert!(rt; is_one_of(&words, b"br"));
+    assert!(rt; !is_one_of(&words, b"b"));
 }

@@ -1,7 +1,7 @@
 // Words that choose what stands behind them.
 
 ghost use Rattle.std.specs.Prelude.{◌≡◌, map};
-ghost use Rattle.forms.specs.Form.{entry};
+ghost use Rattle.forms.specs.Form.{entry, is_one_of};
 
 /// What the table has for the word: the first entry that has it.
 pub fn find<K: Copy>(table: &[(&[u8], K)], word: &[u8]) -> Option<K>
@@ -13,4 +13,11 @@ pub fn find<K: Copy>(table: &[(&[u8], K)], word: &[u8]) -> Option<K>
         }
     }
     None
+}
+
+/// Whether the word is one of these.
+pub fn is_one_of(words: &[&[u8]], word: &[u8]) -> bool
+    ensures { result ≡ is_one_of (map (λ w. w.now) words.now) word.now }
+{
+    words.contains(&word)
 }
