@@ -10,3 +10,4 @@ pub mod Marks
 pub mod Layouts
 pub mod Decimals
 pub mod Printed
+pub mod Omitted

@@ -1,12 +1,30 @@
 -- Which faults a text has.
-use Rattle.std.specs.Prelude.{◌≡◌, ◌≤◌, ◌<◌, ℕ, List, length}
-use Rattle.forms.specs.Lexical.{StopsAt}
+use Rattle.std.specs.Prelude.{◌≡◌, ◌≤◌, ◌<◌, ℕ, List, [], length, slice_get, Some}
+use Rattle.forms.specs.declared.Token.{Token}
+use Rattle.forms.specs.LeftOut.{FirstLeftOut}
+use Rattle.forms.specs.Lexical.{Lexes, Places, StopsAt}
+use Rattle.forms.specs.View.{lexeme_in, lexemes}
 use Rattle.text_lex.specs.declared.TheConstants.{TEXT_LIMIT}
 use Rattle.text_lex.specs.declared.fault.TextFault.{TextFault}
-use Rattle.text_lex.specs.declared.fault.TextFault.TheVariants.{TextLimit, NoReading, Memory}
+use Rattle.text_lex.specs.declared.fault.TextFault.TheVariants.{BadToken, LeftOut, TextLimit, NoReading, Memory}
 
--- the fault is one of the text: more bytes than the limit, or the first place where nothing can be read
+-- the text has tokens, and this word, which starts here, is the first of them that is left out
+pub record IsLeftOutAt (text word : List ℕ) (offset : ℕ) : Type 0 where
+  pub tokens : List Token
+  pub lexed : Lexes text (lexemes text tokens)
+  pub placed : Places (length text) text tokens []
+  pub place : ℕ
+  pub first : FirstLeftOut (lexemes text tokens) place
+  pub token : Token
+  pub found : slice_get tokens place ≡ Some token
+  pub starts : token.start ≡ offset
+  pub spelled : (lexeme_in text token).text ≡ word
+
+-- the fault is one of the text: more bytes than the limit, the first place where no token begins, or the first token that is left out; that
+-- nothing is read is no fault that finding the tokens has
 abbrev pub IsFaultOf : List ℕ → TextFault → Type 0
+IsFaultOf text (BadToken place) = (length text ≤ TEXT_LIMIT) × StopsAt text place
+IsFaultOf text (LeftOut word offset) = (length text ≤ TEXT_LIMIT) × IsLeftOutAt text word offset
 IsFaultOf text (TextLimit size) = (size ≡ length text) × (TEXT_LIMIT < length text)
-IsFaultOf text (NoReading place) = (length text ≤ TEXT_LIMIT) × StopsAt text place
+IsFaultOf text (NoReading place) = ⊥
 IsFaultOf text Memory = Unit {0}

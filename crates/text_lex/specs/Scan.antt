@@ -2,6 +2,7 @@
 use Rattle.std.specs.Prelude.{◌≡◌, ◌≤◌, ◌<◌, ◌+◌, ◌-◌, ℕ, zero, suc, Bool, true, false, not, ◌&&◌, ◌||◌, ◌==◌, nat_lt, List, [], ◌∷◌, length, take, drop, Option, Some, None, if◌then◌else◌}
 use Rattle.forms.specs.declared.TokenKind.{TokenKind}
 use Rattle.forms.specs.declared.Part.{Part}
+use Rattle.forms.specs.declared.Token.{Token}
 use Rattle.text_lex.specs.declared.names.NameRun.{NameRun}
 use Rattle.forms.specs.declared.Class.TheVariants.{NamePart}
 use Rattle.forms.specs.Lexical.{has, after, may_end, and_then, table, is_space, is_letter, is_digit, Longest}
@@ -93,3 +94,8 @@ pub record At (text : List ℕ) (kind : TokenKind) (size : ℕ) : Type 0 where
 -- from the place on, up to the run's end, the run says whether a colon stands behind the name
 abbrev pub TellsColon : List ℕ → ℕ → NameRun → Type 0
 TellsColon text place run = (q : ℕ) → place ≤ q → q < run.end → run.colon ≡ colon_behind (drop q text)
+
+-- the token stands within the text
+pub record IsWithin (text : List ℕ) (token : Token) : Type 0 where
+  pub ordered : token.start ≤ token.end
+  pub inside : token.end ≤ length text

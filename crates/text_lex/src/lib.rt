@@ -3,6 +3,7 @@
 
 ghost use Rattle.std.specs.Prelude.{[], ◌≡◌, ◌≤◌, ◌<◌, length, IfOk, OnOk, IfErr};
 ghost use Rattle.forms.specs.Lexical.{Lexes, Places};
+ghost use Rattle.forms.specs.LeftOut.{NoneLeftOut};
 ghost use Rattle.forms.specs.View.{lexemes};
 ghost use Rattle.text_lex.specs.Fault.{IsFaultOf};
 
@@ -12,11 +13,13 @@ mod blanks;
 mod classes;
 mod fault;
 mod front;
+mod left_out;
 mod names;
 mod table;
 
 use crate::blanks::blank;
 pub use crate::fault::TextFault;
+use crate::left_out::refuse_left_out;
 use crate::names::{NameRun, run_at};
 use crate::table::token_at;
 pub use forms::{Token, TokenKind};
@@ -24,23 +27,13 @@ pub use forms::{Token, TokenKind};
 /// The most bytes that a text may have.
 pub const TEXT_LIMIT: usize = 16_777_216;
 
-/// The tokens of the text, from left to right. Each is the longest that begins at its place; white space and
-/// comments, from `;` to the end of the line, stand between them.
-///
-/// # Errors
-///
-/// `TextLimit` for a text above the limit, `NoReading` for the first place where no token begins, and
-/// `Memory` where there is no room for the tokens.
-pub fn lex(alloc: Global, text: &[u8]) -> Result<Vec<Token>, TextFault>
+/// The tokens of the text, from left to right, whether they are left out or not.
+fn tokens_of(alloc: Global, text: &[u8]) -> Result<Vec<Token>, TextFault>
+    requires within { length text.now ≤ TEXT_LIMIT }
     ensures tokens { IfOk result (λ ts. Lexes text.now (lexemes text.now ts.items)) }
     ensures places { IfOk result (λ ts. Places (length text.now) text.now ts.items []) }
-    ensures within { OnOk result (length text.now ≤ TEXT_LIMIT) }
-    ensures too_long { TEXT_LIMIT < length text.now → result ≡ Err (TextFault.TextLimit (length text.now)) }
     ensures fault { IfErr result (IsFaultOf text.now) }
 {
-    if text.len() > TEXT_LIMIT {
-        return Err(TextFault::TextLimit(text.len() as u64));
-    }
     let mut tokens = Vec::new(alloc);
     let mut place = 0usize;
     let mut run = NameRun {
@@ -55,7 +48,7 @@ pub fn lex(alloc: Global, text: &[u8]) -> Result<Vec<Token>, TextFault>
         } else {
             run = run_at(text, place, run);
             let Some((kind, length)) = token_at(rest, run.colon) else {
-                return Err(TextFault::NoReading(place as u32));
+                return Err(TextFault::BadToken(place as u32));
             };
             let end = place + length;
             tokens.push(Token {
@@ -66,6 +59,29 @@ pub fn lex(alloc: Global, text: &[u8]) -> Result<Vec<Token>, TextFault>
             place = end;
         }
     }
+    Ok(tokens)
+}
+
+/// The tokens of the text, from left to right. Each is the longest that begins at its place; white space and
+/// comments, from `;` to the end of the line, stand between them.
+///
+/// # Errors
+///
+/// `TextLimit` for a text above the limit, `BadToken` for the first place where no token begins, `LeftOut` for the
+/// first token that is left out where a token begins at each place, and `Memory` where there is no room for the tokens.
+pub fn lex(alloc: Global, text: &[u8]) -> Result<Vec<Token>, TextFault>
+    ensures tokens { IfOk result (λ ts. Lexes text.now (lexemes text.now ts.items)) }
+    ensures places { IfOk result (λ ts. Places (length text.now) text.now ts.items []) }
+    ensures nothing_left_out { IfOk result (λ ts. NoneLeftOut (lexemes text.now ts.items)) }
+    ensures within { OnOk result (length text.now ≤ TEXT_LIMIT) }
+    ensures too_long { TEXT_LIMIT < length text.now → result ≡ Err (TextFault.TextLimit (length text.now)) }
+    ensures fault { IfErr result (IsFaultOf text.now) }
+{
+    if text.len() > TEXT_LIMIT {
+        return Err(TextFault::TextLimit(text.len() as u64));
+    }
+    let tokens = tokens_of(alloc, text)?;
+    refuse_left_out(alloc, text, &tokens)?;
     Ok(tokens)
 }
 
@@ -147,7 +163,7 @@ mod tests {
     fn names_the_place_with_no_token(rt: HostRuntime) {
         match lex(rt.alloc(), b"%a = \"b\"\n  %c = \"d") {
             Ok(_) => panic!(rt; "a text with an open string has tokens"),
-            Err(fault) => assert_eq!(rt; fault, TextFault::NoReading(16)),
+            Err(fault) => assert_eq!(rt; fault, TextFault::BadToken(16)),
         }
     }
 

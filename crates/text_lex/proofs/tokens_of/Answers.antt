@@ -4,7 +4,7 @@ use Rattle.forms.specs.Lexical.{here, here_placed}
 use Rattle.text_lex.proofs.Placing.{skip_placed, token_on_placed}
 use Rattle.text_lex.proofs.Reading.{skip_on, token_on, rest_is, stops_at}
 use Rattle.text_lex.proofs.Colons.{tells_on}
-use Rattle.text_lex.proofs.lex.Goals as goal
+use Rattle.text_lex.proofs.tokens_of.Goals as goal
 
 pub loop-place-init : goal.loop-place-init
 loop-place-init c = record {

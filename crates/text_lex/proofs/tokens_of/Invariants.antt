@@ -2,7 +2,7 @@ use Rattle.std.proofs.Common.{◌≤◌, ◌-◌, length, drop}
 use Rattle.forms.specs.Lexical.{LexesTo, Places}
 use Rattle.forms.specs.View.{lexemes}
 use Rattle.text_lex.specs.Scan.{TellsColon}
-use Rattle.text_lex.proofs.lex.Given as goal
+use Rattle.text_lex.proofs.tokens_of.Given as goal
 
 abbrev pub invariant-loop-place : goal.invariant-loop-place
 invariant-loop-place l = record {
