@@ -1,5 +1,5 @@
 -- What is left out of the language.
-use Rattle.std.proofs.Common.{◌≡◌, ◌<◌, ◌≤◌, ℕ, zero, suc, false, List, [], ◌∷◌, length, get_or, eqb, Some, None, refl, sym, ap, ◌∙◌, arith, inl, inr}
+use Rattle.std.proofs.Common.{◌≡◌, ◌<◌, ◌≤◌, ℕ, zero, suc, false, List, [], ◌∷◌, length, get_or, eqb, Some, None, refl, ap, ◌∙◌, arith, inl, inr}
 use lib.Pointwise.{pointwise}
 use Rattle.std.specs.Prelude.{slice_get}
 use Rattle.std.specs.List.{slice_split, onto_first}
@@ -9,7 +9,7 @@ use Rattle.std.proofs.lemmas.List.{length-append}
 use Rattle.std.proofs.lemmas.Option.{slice_get-map, slice_get_past, slice_get_read}
 use Rattle.forms.specs.declared.Token.{Token}
 use Rattle.forms.specs.declared.TokenKind.{TokenKind}
-use Rattle.forms.specs.Form.{kind_code, same_text}
+use Rattle.forms.specs.Form.{kind_code}
 use Rattle.forms.specs.LeftOut.{in_front, parts_of, stands_at, is_left_out_at, NoneLeftOut}
 use Rattle.forms.specs.Lexical.{Places, here_placed, space_placed, comment_placed, token_placed}
 use Rattle.forms.specs.View.{lexeme_in, lexemes}

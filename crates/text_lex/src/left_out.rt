@@ -137,9 +137,7 @@ fn is_foreign_part(part: &[u8]) -> bool
 fn has_foreign_part(layout: &[u8]) -> bool
     ensures { result ≡ list_any is_foreign_part (slice_split (λ byte. byte == 45) layout.now) }
 {
-    layout
-        .split(|byte| *byte == b'-')
-        .any(|part| is_foreign_part(part))
+    layout.split(|byte| *byte == b'-').any(is_foreign_part)
 }
 
 /// Whether a string, with its quotes, stands for such a layout.
@@ -207,11 +205,7 @@ fn is_left_out_at(
 }
 
 /// The place of the first token that is left out.
-fn first_left_out(
-    alloc: Global,
-    text: &[u8],
-    tokens: &[Token],
-) -> Result<Option<usize>, AllocError>
+fn first_left_out(alloc: Global, text: &[u8], tokens: &[Token]) -> Result<Option<usize>, AllocError>
     requires within { All (IsWithin text.now) tokens.now }
     ensures inside { IfOk result (λ first. IfSome first (λ place. place < length tokens.now)) }
     ensures first { IfOk result (λ first. MatchOption first (NoneLeftOut (lexemes text.now tokens.now)) (FirstLeftOut (lexemes text.now tokens.now))) }
@@ -225,11 +219,7 @@ fn first_left_out(
 }
 
 /// Refuses tokens of which one is left out.
-pub(crate) fn refuse_left_out(
-    alloc: Global,
-    text: &[u8],
-    tokens: &[Token],
-) -> Result<(), TextFault>
+pub(crate) fn refuse_left_out(alloc: Global, text: &[u8], tokens: &[Token]) -> Result<(), TextFault>
     requires within { length text.now ≤ TEXT_LIMIT }
     requires lexed { Lexes text.now (lexemes text.now tokens.now) }
     requires placed { Places (length text.now) text.now tokens.now [] }

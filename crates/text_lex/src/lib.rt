@@ -16,6 +16,8 @@ mod front;
 mod left_out;
 mod names;
 mod table;
+#[cfg(test)]
+mod tests;
 
 use crate::blanks::blank;
 pub use crate::fault::TextFault;
@@ -83,97 +85,4 @@ pub fn lex(alloc: Global, text: &[u8]) -> Result<Vec<Token>, TextFault>
     let tokens = tokens_of(alloc, text)?;
     refuse_left_out(alloc, text, &tokens)?;
     Ok(tokens)
-}
-
-#[cfg(test)]
-mod tests {
-    use super::*;
-    use std::alloc::AllocError;
-
-    #[test]
-    fn has_all_kinds(rt: HostRuntime) -> Result<(), TextFault> {
-        let text =
-            b"@g = c\"hi\" \"a b\" %x.1 %\"y z\" %7 @\"q\" @12 $c $\"d\" l-1: \"s\": 12:\n; a comment\nadd -5 42 c !n !3 !{ #7 #f ... ()[]{}<>*:|! 1.5 -2.5e+10 1.5e 0x1Fg -1:";
-        let tokens = lex(rt.alloc(), text)?;
-        let kinds = [
-            TokenKind::Global,
-            TokenKind::Equal,
-            TokenKind::TextConstant,
-            TokenKind::Quoted,
-            TokenKind::Local,
-            TokenKind::Local,
-            TokenKind::Local,
-            TokenKind::Global,
-            TokenKind::Global,
-            TokenKind::Comdat,
-            TokenKind::Comdat,
-            TokenKind::Label,
-            TokenKind::Label,
-            TokenKind::Label,
-            TokenKind::Word,
-            TokenKind::Number,
-            TokenKind::Number,
-            TokenKind::Word,
-            TokenKind::Metadata,
-            TokenKind::Metadata,
-            TokenKind::Bang,
-            TokenKind::LeftBrace,
-            TokenKind::AttributeGroup,
-            TokenKind::NamedGroup,
-            TokenKind::Dots,
-            TokenKind::LeftParen,
-            TokenKind::RightParen,
-            TokenKind::LeftBracket,
-            TokenKind::RightBracket,
-            TokenKind::LeftBrace,
-            TokenKind::RightBrace,
-            TokenKind::Less,
-            TokenKind::Greater,
-            TokenKind::Star,
-            TokenKind::Colon,
-            TokenKind::Bar,
-            TokenKind::Bang,
-            TokenKind::Decimal,
-            TokenKind::Decimal,
-            TokenKind::Decimal,
-            TokenKind::Word,
-            TokenKind::Hexadecimal,
-            TokenKind::Word,
-            TokenKind::Label,
-        ];
-        assert_eq!(rt; tokens.len(), kinds.len());
-        for (token, kind) in tokens.iter().zip(&kinds) {
-            assert_eq!(rt; token.kind, *kind);
-        }
-        Ok(())
-    }
-
-    #[test]
-    fn has_places(rt: HostRuntime) -> Result<(), TextFault> {
-        let tokens = lex(rt.alloc(), b";a\rb-1 ...\n-2:")?;
-        let places = [(3, 4), (4, 6), (7, 10), (11, 14)];
-        assert_eq!(rt; tokens.len(), places.len());
-        for (token, place) in tokens.iter().zip(&places) {
-            assert_eq!(rt; (token.start, token.end), *place);
-        }
-        Ok(())
-    }
-
-    #[test]
-    fn names_the_place_with_no_token(rt: HostRuntime) {
-        match lex(rt.alloc(), b"%a = \"b\"\n  %c = \"d") {
-            Ok(_) => panic!(rt; "a text with an open string has tokens"),
-            Err(fault) => assert_eq!(rt; fault, TextFault::BadToken(16)),
-        }
-    }
-
-    #[test]
-    fn refuses_a_long_text(rt: HostRuntime) -> Result<(), AllocError> {
-        let text = vec![in rt.alloc(); b' '; TEXT_LIMIT + 1]?;
-        match lex(rt.alloc(), &text) {
-            Ok(_) => panic!(rt; "a text above the limit has tokens"),
-            Err(fault) => assert_eq!(rt; fault, TextFault::TextLimit(16_777_217)),
-        }
-        Ok(())
-    }
 }

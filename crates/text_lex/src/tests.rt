@@ -1,0 +1,135 @@
+// What a text is made of, and what is refused.
+
+use crate::{TEXT_LIMIT, TextFault, TokenKind, lex};
+use std::alloc::AllocError;
+
+#[test]
+fn has_all_kinds(rt: HostRuntime) -> Result<(), TextFault> {
+    let text =
+        b"@g = c\"hi\" \"a b\" %x.1 %\"y z\" %7 @\"q\" @12 $c $\"d\" l-1: \"s\": 12:\n; a comment\nadd -5 42 c !n !3 !{ #7 ... ()[]{}<>*:|! -1:";
+    let tokens = lex(rt.alloc(), text)?;
+    let kinds = [
+        TokenKind::Global,
+        TokenKind::Equal,
+        TokenKind::TextConstant,
+        TokenKind::Quoted,
+        TokenKind::Local,
+        TokenKind::Local,
+        TokenKind::Local,
+        TokenKind::Global,
+        TokenKind::Global,
+        TokenKind::Comdat,
+        TokenKind::Comdat,
+        TokenKind::Label,
+        TokenKind::Label,
+        TokenKind::Label,
+        TokenKind::Word,
+        TokenKind::Number,
+        TokenKind::Number,
+        TokenKind::Word,
+        TokenKind::Metadata,
+        TokenKind::Metadata,
+        TokenKind::Bang,
+        TokenKind::LeftBrace,
+        TokenKind::AttributeGroup,
+        TokenKind::Dots,
+        TokenKind::LeftParen,
+        TokenKind::RightParen,
+        TokenKind::LeftBracket,
+        TokenKind::RightBracket,
+        TokenKind::LeftBrace,
+        TokenKind::RightBrace,
+        TokenKind::Less,
+        TokenKind::Greater,
+        TokenKind::Star,
+        TokenKind::Colon,
+        TokenKind::Bar,
+        TokenKind::Bang,
+        TokenKind::Label,
+    ];
+    assert_eq!(rt; tokens.len(), kinds.len());
+    for (token, kind) in tokens.iter().zip(&kinds) {
+        assert_eq!(rt; token.kind, *kind);
+    }
+    Ok(())
+}
+
+#[test]
+fn has_places(rt: HostRuntime) -> Result<(), TextFault> {
+    let tokens = lex(rt.alloc(), b";a\rb-1 ...\n-2:")?;
+    let places = [(3, 4), (4, 6), (7, 10), (11, 14)];
+    assert_eq!(rt; tokens.len(), places.len());
+    for (token, place) in tokens.iter().zip(&places) {
+        assert_eq!(rt; (token.start, token.end), *place);
+    }
+    Ok(())
+}
+
+#[test]
+fn names_the_place_with_no_token(rt: HostRuntime) {
+    match lex(rt.alloc(), b"%a = \"b\"\n  %c = \"d") {
+        Ok(_) => panic!(rt; "a text with an open string has tokens"),
+        Err(fault) => assert_eq!(rt; fault, TextFault::BadToken(16)),
+    }
+    match lex(rt.alloc(), b"double \"open") {
+        Ok(_) => panic!(rt; "a text with an open string has tokens"),
+        Err(fault) => assert_eq!(rt; fault, TextFault::BadToken(7)),
+    }
+}
+
+#[test]
+fn names_the_first_token_that_is_left_out(rt: HostRuntime) {
+    let cases: [(&[u8], &[u8], u32); 14] = [
+        (b"define double @f()", b"double", 7),
+        (b"define i3", b"i3", 7),
+        (b"x 1.5", b"1.5", 2),
+        (b"1.5e", b"1.5", 0),
+        (b"-2.5e+10", b"-2.5e+10", 0),
+        (b"0x1F", b"0x1F", 0),
+        (b"0x1Fg", b"0x1F", 0),
+        (b"#name", b"#name", 0),
+        (b"!DILocation(", b"!DILocation", 0),
+        (b"target datalayout = \"E-m:e\"", b"\"E-m:e\"", 20),
+        (b"target datalayout = \"e-p:32:32\"", b"\"e-p:32:32\"", 20),
+        (b"target datalayout = \"\\45-m:e\"", b"\"\\45-m:e\"", 20),
+        (b"ret half\nfloat", b"half", 4),
+        (b"target datalayout = \"E\" undef", b"\"E\"", 20),
+    ];
+    for (text, word, place) in &cases {
+        match lex(rt.alloc(), text) {
+            Err(TextFault::LeftOut(found, offset)) => {
+                assert_eq!(rt; found.as_bytes(), *word);
+                assert_eq!(rt; offset, *place);
+            }
+            _ => panic!(rt; "no token is left out that starts at {place}"),
+        }
+    }
+}
+
+#[test]
+fn leaves_in_what_is_near(rt: HostRuntime) -> Result<(), TextFault> {
+    let texts: [(&[u8], usize); 5] = [
+        (
+            b"target datalayout = \"e-m:e-p270:32:32-p:64:64-i64:64\"",
+            4,
+        ),
+        (b"target triple = \"E\"", 4),
+        (b"datalayout = \"E\"", 3),
+        (b"i1 i8 i16 i32 i64 i i3x doubles", 8),
+        (b"!D !\"DI\" !0 #0 %double @i3 undef:", 8),
+    ];
+    for (text, count) in &texts {
+        assert_eq!(rt; lex(rt.alloc(), text)?.len(), *count);
+    }
+    Ok(())
+}
+
+#[test]
+fn refuses_a_long_text(rt: HostRuntime) -> Result<(), AllocError> {
+    let text = vec![in rt.alloc(); b' '; TEXT_LIMIT + 1]?;
+    match lex(rt.alloc(), &text) {
+        Ok(_) => panic!(rt; "a text above the limit has tokens"),
+        Err(fault) => assert_eq!(rt; fault, TextFault::TextLimit(16_777_217)),
+    }
+    Ok(())
+}
