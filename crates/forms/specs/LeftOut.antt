@@ -85,6 +85,6 @@ pub record FirstLeftOut (tokens : List Lexeme) (k : ℕ) : Type 0 where
   pub left_out : is_left_out_at tokens k ≡ true
   pub none_before : (j : ℕ) → j < k → is_left_out_at tokens j ≡ false
 
--- no token is left out
+-- none of the tokens is left out
 abbrev pub NoneLeftOut : List Lexeme → Type 0
 NoneLeftOut tokens = (j : ℕ) → is_left_out_at tokens j ≡ false

@@ -7,9 +7,9 @@ use Rattle.forms.specs.Reading.{◌>>=◌, read_whole}
 use Rattle.forms.proofs.Exact.{read_spells, spells_read}
 use Rattle.forms.proofs.Sound.{bind_some}
 use Rattle.text_lex.specs.declared.fault.TextFault.{TextFault}
-use Rattle.text_lex.specs.declared.fault.TextFault.TheVariants.{TextLimit, NoReading, Memory}
+use Rattle.text_lex.specs.declared.fault.TextFault.TheVariants.{BadToken, LeftOut, TextLimit, NoReading, Memory}
 use Rattle.text_lex.specs.Fault.{IsFaultOf}
-use Rattle.text_lex.proofs.Unique.{lexes_unique, stops_lexes}
+use Rattle.text_lex.proofs.Unique.{lexes_unique}
 use Rattle.ir_types.specs.declared.module.Module.{Module}
 use Rattle.ir_types.specs.Names.{IsTable}
 use Rattle.ir_types.specs.Denotes.{tree_of}
@@ -43,6 +43,8 @@ no_reading text ts lexes e m r =
     absurd (cc (sym (ap module_read same) ∙ found))
 
 pub bad_token : (text : List ℕ) (f : TextFault) → IsFaultOf text f → IsRefusal text f
+bad_token text (BadToken place) h = h
+bad_token text (LeftOut word offset) h = h
 bad_token text (TextLimit n) h = h
-bad_token text (NoReading place) h = (h.0, (λ m r. stops_lexes text place r.tokens h.1 r.lexes), inr h.1)
+bad_token text (NoReading place) h = absurd h
 bad_token text Memory h = tt

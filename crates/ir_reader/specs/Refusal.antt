@@ -2,10 +2,13 @@
 use Rattle.std.specs.Prelude.{◌≡◌, ◌≤◌, ◌<◌, ◌⊎◌, ℕ, List, [], length}
 use Rattle.std.specs.Prelude.{slice_get, Some}
 use Rattle.forms.specs.declared.Token.{Token}
-use Rattle.forms.specs.Lexical.{Places, StopsAt}
+use Rattle.forms.specs.LeftOut.{NoneLeftOut}
+use Rattle.forms.specs.Lexical.{Lexes, Places, StopsAt}
+use Rattle.forms.specs.View.{lexemes}
 use Rattle.text_lex.specs.declared.TheConstants.{TEXT_LIMIT}
 use Rattle.text_lex.specs.declared.fault.TextFault.{TextFault}
-use Rattle.text_lex.specs.declared.fault.TextFault.TheVariants.{TextLimit, NoReading, Memory}
+use Rattle.text_lex.specs.declared.fault.TextFault.TheVariants.{BadToken, LeftOut, TextLimit, NoReading, Memory}
+use Rattle.text_lex.specs.Fault.{IsLeftOutAt}
 use Rattle.ir_types.specs.declared.module.Module.{Module}
 use Rattle.ir_types.specs.Reads.{Reads}
 
@@ -17,18 +20,18 @@ HasNoReading text = (m : Module) → Reads text m → ⊥
 abbrev pub StartsAt : List Token → ℕ → Type 0
 StartsAt tokens place = (i : ℕ) × (t : Token) × (slice_get tokens i ≡ Some t) × (t.start ≡ place)
 
--- the text has tokens, and the place is a token's start or the text's length
-pub record IsPlace (text : List ℕ) (place : ℕ) : Type 0 where
+-- the text has tokens, none of which is left out, and the place is a token's start or the text's length
+pub record IsStop (text : List ℕ) (place : ℕ) : Type 0 where
   pub tokens : List Token
   pub placed : Places (length text) text tokens []
+  pub lexed : Lexes text (lexemes text tokens)
+  pub none_left_out : NoneLeftOut (lexemes text tokens)
   pub here : StartsAt tokens place ⊎ (place ≡ length text)
 
--- where reading stops: at such a place, or where the text's tokens stop before its end
-abbrev pub IsStop : List ℕ → ℕ → Type 0
-IsStop text place = IsPlace text place ⊎ StopsAt text place
-
--- a text has more bytes than the limit, or it reads as no module
+-- a text has more bytes than the limit, no token at a place, or one that is left out; or it has none of these, and reads as no module
 abbrev pub IsRefusal : List ℕ → TextFault → Type 0
+IsRefusal text (BadToken place) = (length text ≤ TEXT_LIMIT) × StopsAt text place
+IsRefusal text (LeftOut word offset) = (length text ≤ TEXT_LIMIT) × IsLeftOutAt text word offset
 IsRefusal text (TextLimit size) = (size ≡ length text) × (TEXT_LIMIT < length text)
 IsRefusal text (NoReading place) = (length text ≤ TEXT_LIMIT) × HasNoReading text × IsStop text place
 IsRefusal text Memory = Unit {0}

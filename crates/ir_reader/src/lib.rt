@@ -5,6 +5,7 @@ ghost use Rattle.std.specs.Prelude.{◌≡◌, ◌≤◌, ◌<◌, ◌⊎◌, �
 ghost use Rattle.std.specs.List.{AllByRecursion};
 ghost use Rattle.forms.specs.declared.Token.{Token};
 ghost use Rattle.forms.specs.Gives.{Gives, left};
+ghost use Rattle.text_lex.specs.Fault.{HasNoneLeftOut};
 ghost use Rattle.ir_types.specs.Names.{IsTable};
 ghost use Rattle.ir_types.specs.Denotes.{tree_of};
 ghost use Rattle.ir_types.specs.Reads.{Reads};
@@ -63,11 +64,16 @@ fn stop(tokens: &[Token], place: u32, end: u32) -> u32
     end
 }
 
-/// The module that the text reads as. The place of `NoReading` is that of the first token at which reading from left to right
-/// stops, or the text's length; where no token begins somewhere, it is the first such place.
+/// The module that the text reads as.
+///
+/// # Errors
+///
+/// Those of `lex`; then `NoReading` with the place of the first token at which reading from left to right stops, or the text's length;
+/// and `Memory` where there is no room.
 pub fn read_module(alloc: Global, text: &[u8]) -> Result<Module, TextFault>
     ensures module { IfOk result (λ m. Reads text.now m) }
     ensures within { OnOk result (length text.now ≤ TEXT_LIMIT) }
+    ensures nothing_left_out { OnOk result (HasNoneLeftOut text.now) }
     ensures too_long { TEXT_LIMIT < length text.now → result ≡ Err (TextFault.TextLimit (length text.now)) }
     ensures fault { IfErr result (IsRefusal text.now) }
 {

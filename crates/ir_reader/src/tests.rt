@@ -27,7 +27,7 @@ fn reads_the_example(rt: HostRuntime) -> Result<(), Fail> {
 
 #[test]
 fn says_where_reading_stops(rt: HostRuntime) -> Result<(), Fail> {
-    let refused: [(&[u8], u32); 8] = [
+    let refused: [(&[u8], u32); 7] = [
         (b"define i32 @f() {", 17),
         (b"define i32 @f() { ; none\n", 25),
         (b"define i32 @f() { }", 18),
@@ -37,7 +37,6 @@ fn says_where_reading_stops(rt: HostRuntime) -> Result<(), Fail> {
             b"define i32 @f() { %4294967296 = add i32 1, 2 ret i32 0 }",
             18,
         ),
-        (b"define i32 @f() { ret i32 ~ }", 26),
         (b"define i32 @f() { ret i32 0 } }", 30),
     ];
     for (text, place) in &refused {
@@ -45,6 +44,21 @@ fn says_where_reading_stops(rt: HostRuntime) -> Result<(), Fail> {
             Err(TextFault::NoReading(found)) => assert_eq!(rt; found, *place),
             _ => rt.abort(),
         }
+    }
+    Ok(())
+}
+
+#[test]
+fn refuses_what_no_token_begins_or_is_left_out(rt: HostRuntime) -> Result<(), Fail> {
+    match read_module(rt.alloc(), b"define i32 @f() { ret i32 ~ }") {
+        Err(TextFault::BadToken(place)) => assert_eq!(rt; place, 26),
+        _ => rt.abort(),
+    }
+    match read_module(rt.alloc(), b"define double @f()") {
+        Err(TextFault::LeftOut(word, place)) => {
+            assert_eq!(rt; (word.as_bytes(), place), (b"double".as_slice(), 7));
+        }
+        _ => rt.abort(),
     }
     Ok(())
 }

@@ -1,7 +1,8 @@
 -- Which faults a text has.
 use Rattle.std.specs.Prelude.{◌≡◌, ◌≤◌, ◌<◌, ℕ, List, [], length, slice_get, Some}
 use Rattle.forms.specs.declared.Token.{Token}
-use Rattle.forms.specs.LeftOut.{FirstLeftOut}
+use Rattle.forms.specs.Form.{Lexeme}
+use Rattle.forms.specs.LeftOut.{FirstLeftOut, NoneLeftOut}
 use Rattle.forms.specs.Lexical.{Lexes, Places, StopsAt}
 use Rattle.forms.specs.View.{lexeme_in, lexemes}
 use Rattle.text_lex.specs.declared.TheConstants.{TEXT_LIMIT}
@@ -19,6 +20,12 @@ pub record IsLeftOutAt (text word : List ℕ) (offset : ℕ) : Type 0 where
   pub found : slice_get tokens place ≡ Some token
   pub starts : token.start ≡ offset
   pub spelled : (lexeme_in text token).text ≡ word
+
+-- the text has tokens, and none of them is left out
+pub record HasNoneLeftOut (text : List ℕ) : Type 0 where
+  pub tokens : List Lexeme
+  pub lexed : Lexes text tokens
+  pub none : NoneLeftOut tokens
 
 -- the fault is one of the text: more bytes than the limit, the first place where no token begins, or the first token that is left out; that
 -- nothing is read is no fault that finding the tokens has

@@ -10,7 +10,7 @@ mod pieces;
 
 pub use memory::{Shelf, SureShelf, SureTray, Tray};
 pub use outside::{Folder, Stream};
-pub use pieces::{PIECE, put_text};
+pub use pieces::{PIECE, put_text, put_three};
 use std::alloc::Global;
 use thiserror::Error;
 

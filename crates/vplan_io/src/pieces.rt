@@ -1,6 +1,6 @@
 // A text put in pieces.
 
-ghost use Rattle.std.specs.Prelude.{◌≡◌, []};
+ghost use Rattle.std.specs.Prelude.{◌≡◌, ◌++◌, []};
 ghost use Rattle.vplan_io.specs.Causes.{HasCause, Takes};
 
 use crate::{Failed, Sink};
@@ -21,4 +21,20 @@ pub fn put_text<S: Sink>(sink: &mut S, text: &[u8]) -> Result<(), Failed>
         done = end;
     }
     Ok(())
+}
+
+/// Puts three texts, one behind the other; where one fails, no later one is put.
+pub fn put_three<S: Sink>(
+    sink: &mut S,
+    first: &[u8],
+    middle: &[u8],
+    last: &[u8],
+) -> Result<(), Failed>
+    ensures bytes { Takes (S.taken sink.old) (S.taken sink.new) (first.now ++ middle.now ++ last.now) result }
+    ensures cause { HasCause (S.faults sink.old) (S.faults sink.new) result }
+    ensures none { first.now ++ middle.now ++ last.now ≡ [] → sink.new ≡ sink.old }
+{
+    put_text(sink, first)?;
+    put_text(sink, middle)?;
+    put_text(sink, last)
 }

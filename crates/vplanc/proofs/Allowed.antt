@@ -24,9 +24,9 @@ took-allowed (Some text) None now t = tt
 took-allowed (Some text) (Some old) now t =
     let p = t.is_printed in
     (t.printed, t.taken, record {
-      file_reads = (p.meant, p.file_reads.1);
+      file_reads = (p.meant, p.file_reads.2);
       print_reads = (p.meant, p.text_reads);
-      allows = λ m n r s. text-allows text t.printed p.meant m n p.file_reads.1 p.text_reads r s;
+      allows = λ m n r s. text-allows text t.printed p.meant m n p.file_reads.2 p.text_reads r s;
     })
 
 -- the same for any words

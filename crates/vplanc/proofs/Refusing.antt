@@ -1,29 +1,39 @@
 -- The cause of a refusal of the text, and that the causes leave nothing else.
-use Rattle.std.proofs.Common.{◌≡◌, ◌≤◌, ℕ, ◌⊎◌, List, length, refl, subst, sym, inl, inr, arith, IfSome, IfErr}
+use Rattle.std.proofs.Common.{◌≡◌, ◌≤◌, ℕ, ◌⊎◌, List, length, refl, subst, sym, ◌∙◌, inl, inr, arith, true≢false, IfSome, IfErr}
 use Rattle.std.specs.declared.option.Option.{Option}
 use Rattle.std.specs.declared.option.Option.TheVariants.{None, Some}
 use Rattle.std.specs.declared.result.Result.{Result}
 use Rattle.std.specs.declared.result.Result.TheVariants.{Ok, Err}
 use Rattle.std.specs.Result.{IsErrAnd}
+use Rattle.forms.specs.Form.{Lexeme}
+use Rattle.forms.specs.LeftOut.{FirstLeftOut}
+use Rattle.forms.specs.View.{lexemes}
 use Rattle.vplan_io.specs.Causes.{Rose, longest, IsWhole}
 use Rattle.text_lex.specs.declared.fault.TextFault.{TextFault}
-use Rattle.text_lex.specs.declared.fault.TextFault.TheVariants.{TextLimit, NoReading, Memory as TextMemory}
+use Rattle.text_lex.specs.declared.fault.TextFault.TheVariants.{BadToken, LeftOut, TextLimit, NoReading, Memory as TextMemory}
+use Rattle.text_lex.specs.Fault.{IsLeftOutAt, HasNoneLeftOut}
+use Rattle.text_lex.proofs.Unique.{lexes_unique, stops_lexes}
 use Rattle.ir_reader.specs.Refusal.{IsRefusal}
 use Rattle.vplanc.specs.declared.answer.Which.TheVariants.{Module as TheModule, Out}
 use Rattle.vplanc.specs.declared.answer.Status.{Status}
 use Rattle.vplanc.specs.declared.answer.Status.TheVariants.{Done, BadWords, Text, ReadFault, WriteFault, Memory}
-use Rattle.vplanc.specs.Answers.{text_status, IsAccepted, IsRefusedAt, IsBeforeOut, FileCause, Cause, WriteCause, FileCompletes, Completes}
+use Rattle.vplanc.specs.Answers.{text_status, IsAccepted, IsBeforeOut, FileCause, Cause, WriteCause, FileCompletes, Completes}
 
 -- what holds of the bytes that were loaded holds of the file, where it is told
 told-of : (P : List ℕ → Type 0) (told : Option (List ℕ)) (bytes : List ℕ) → IfSome told (λ file. bytes ≡ file) → P bytes → IfSome told P
 told-of P None bytes e p = tt
 told-of P (Some file) bytes e p = subst P e p
 
+-- what was loaded is short
+within : (bytes : List ℕ) (last : ℕ) → last ≡ length bytes → length bytes ≤ longest → last ≤ longest
+within bytes last took short = subst (λ n. n ≤ longest) (sym took) short
+
 -- a text that is loaded and not read is refused, and never for its length
 refused-text : (told : Option (List ℕ)) (bytes : List ℕ) (before now last : ℕ) (fault : TextFault) → last ≡ length bytes → IsWhole told bytes → IsRefusal bytes fault → IsBeforeOut (text_status fault) × FileCause told before now last (text_status fault)
+refused-text told bytes before now last (BadToken place) took whole r = (tt, (within bytes last took r.0, told-of (λ text. IsRefusal text (BadToken place)) told bytes whole.same r))
+refused-text told bytes before now last (LeftOut word place) took whole r = (tt, (within bytes last took r.0, told-of (λ text. IsRefusal text (LeftOut word place)) told bytes whole.same r))
 refused-text told bytes before now last (TextLimit n) took whole (size, long) = absurd (omega (arith, whole.short))
-refused-text told bytes before now last (NoReading place) took whole (short, none, stop) =
-    (tt, (subst (λ n. n ≤ longest) (sym took) whole.short, told-of (λ text. IsRefusedAt text place) told bytes whole.same (record { short = short; has_none = none; stop = stop })))
+refused-text told bytes before now last (NoReading place) took whole r = (tt, (within bytes last took r.0, told-of (λ text. IsRefusal text (NoReading place)) told bytes whole.same r))
 refused-text told bytes before now last TextMemory took whole refusal = (tt, tt)
 
 -- what holds of one status holds of an error that is that status
@@ -36,13 +46,22 @@ pub refused-error : {T : Type 0} (result : Result T Status) (told : Option (List
 refused-error result told bytes text b n l fault is took whole same refusal =
     if-err-is result (text_status fault) (λ s. IsBeforeOut s × FileCause told b n l s) is (refused-text told bytes b n l fault took whole (subst (λ t. IsRefusal t fault) same refusal))
 
+-- where none of the tokens is left out, none is the first
+none-is-left-out : (text word : List ℕ) (place : ℕ) → HasNoneLeftOut text → IsLeftOutAt text word place → ⊥
+none-is-left-out text word place free out =
+    let same : lexemes text out.tokens ≡ free.tokens = lexes_unique text (lexemes text out.tokens) free.tokens out.lexed free.lexed in
+    let first : FirstLeftOut free.tokens out.place = subst (λ (ts : List Lexeme). FirstLeftOut ts out.place) same out.first in
+    true≢false (sym first.left_out ∙ free.none out.place)
+
 -- an accepted file, with no fault, is printed, or memory is short
 accepted-done : (text : List ℕ) (before now last out_before out_now : ℕ) (status : Status) → FileCause (Some text) before now last status → WriteCause out_before out_now status → IsAccepted text → ¬ Rose before now → ¬ Rose out_before out_now → (status ≡ Done) ⊎ (status ≡ Memory)
 accepted-done text b n l ob on Done cause write ok read wrote = inl refl
 accepted-done text b n l ob on Memory cause write ok read wrote = inr refl
 accepted-done text b n l ob on BadWords cause write ok read wrote = absurd cause
 accepted-done text b n l ob on (Text (TextLimit size)) cause write ok read wrote = absurd (omega (arith, ok.short, cause.2))
-accepted-done text b n l ob on (Text (NoReading place)) cause write ok read wrote = absurd (cause.1.has_none ok.meant ok.reads)
+accepted-done text b n l ob on (Text (BadToken place)) cause write ok read wrote = absurd (stops_lexes text place ok.nothing_left_out.tokens cause.1.1 ok.nothing_left_out.lexed)
+accepted-done text b n l ob on (Text (LeftOut word place)) cause write ok read wrote = absurd (none-is-left-out text word place ok.nothing_left_out cause.1.1)
+accepted-done text b n l ob on (Text (NoReading place)) cause write ok read wrote = absurd (cause.1.1 ok.meant ok.reads)
 accepted-done text b n l ob on (Text TextMemory) cause write ok read wrote = absurd cause
 accepted-done text b n l ob on (ReadFault TheModule) cause write ok read wrote = absurd (read cause)
 accepted-done text b n l ob on (ReadFault Out) cause write ok read wrote = absurd cause

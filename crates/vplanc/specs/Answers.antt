@@ -8,12 +8,13 @@ use Rattle.vplan_io.specs.declared.LoadFault.{LoadFault}
 use Rattle.vplan_io.specs.declared.LoadFault.TheVariants.{Failed as LoadFailed, TooLong, Memory as LoadMemory}
 use Rattle.text_lex.specs.Layout.{text_of}
 use Rattle.text_lex.specs.declared.fault.TextFault.{TextFault}
-use Rattle.text_lex.specs.declared.fault.TextFault.TheVariants.{TextLimit, NoReading, Memory as TextMemory}
+use Rattle.text_lex.specs.declared.fault.TextFault.TheVariants.{BadToken, LeftOut, TextLimit, NoReading, Memory as TextMemory}
+use Rattle.text_lex.specs.Fault.{HasNoneLeftOut}
 use Rattle.ir_types.specs.declared.module.Module.{Module}
 use Rattle.ir_types.specs.Denotes.{tree_of}
 use Rattle.ir_types.specs.Reads.{Reads}
 use Rattle.ir_types.specs.Allows.{Allows, factor_of}
-use Rattle.ir_reader.specs.Refusal.{HasNoReading, IsStop}
+use Rattle.ir_reader.specs.Refusal.{IsRefusal}
 use Rattle.ir_printer.specs.Print.{module_pieces}
 use Rattle.vplanc.specs.declared.answer.Which.{Which}
 use Rattle.vplanc.specs.declared.answer.Which.TheVariants.{Module as TheModule, Out}
@@ -37,6 +38,8 @@ load_status LoadMemory = Memory
 
 -- the answer where its text is not read
 abbrev pub text_status : TextFault → Status
+text_status (BadToken place) = Text (BadToken place)
+text_status (LeftOut word place) = Text (LeftOut word place)
 text_status (TextLimit n) = Text (TextLimit n)
 text_status (NoReading place) = Text (NoReading place)
 text_status TextMemory = Memory
@@ -54,6 +57,8 @@ line text = codes "vplanc: " ++ text ++ 10 ∷ []
 abbrev pub line_of : Status → List ℕ
 line_of Done = []
 line_of BadWords = line (codes "words")
+line_of (Text (BadToken place)) = line (codes "text: bad token at " ++ decimal place)
+line_of (Text (LeftOut word place)) = line (codes "text: left out " ++ word ++ codes " at " ++ decimal place)
 line_of (Text (TextLimit n)) = line (codes "text: " ++ decimal n ++ codes " bytes")
 line_of (Text (NoReading place)) = line (codes "text: no reading at " ++ decimal place)
 line_of (Text TextMemory) = line (codes "memory")
@@ -61,21 +66,16 @@ line_of (ReadFault which) = line (codes "read fault: " ++ name_of which)
 line_of (WriteFault which) = line (codes "write fault: " ++ name_of which)
 line_of Memory = line (codes "memory")
 
--- a text within the limit that reads as a module
+-- a text within the limit that has no token that is left out, and reads as a module
 pub record IsAccepted (text : List ℕ) : Type 0 where
   pub short : length text ≤ longest
+  pub nothing_left_out : HasNoneLeftOut text
   pub meant : Module
   pub reads : Reads text meant
 
--- a text within the limit that reads as no module, and where its reading stops
-pub record IsRefusedAt (text : List ℕ) (place : ℕ) : Type 0 where
-  pub short : length text ≤ longest
-  pub has_none : HasNoReading text
-  pub stop : IsStop text place
-
 -- the module that the file reads as, where the file is told
 abbrev pub IsMeant : Option (List ℕ) → Module → Type 0
-IsMeant told m = IfSome told (λ text. (length text ≤ longest) × Reads text m)
+IsMeant told m = IfSome told (λ text. (length text ≤ longest) × HasNoneLeftOut text × Reads text m)
 
 -- what is printed of a file: the text of a module that the file reads as, which reads as that module too
 pub record IsPrinted (told : Option (List ℕ)) (printed : List ℕ) : Type 0 where
@@ -87,7 +87,9 @@ pub record IsPrinted (told : Option (List ℕ)) (printed : List ℕ) : Type 0 wh
 -- The causes of the answers that speak of the file: what is told of it, its count of faults before and now, and the last load's length.
 abbrev pub FileCause : Option (List ℕ) → (before now last : ℕ) → Status → Type 0
 FileCause told before now last (Text (TextLimit n)) = (n ≡ longest + 1) × (last ≡ n) × IfSome told (λ text. longest < length text)
-FileCause told before now last (Text (NoReading place)) = (last ≤ longest) × IfSome told (λ text. IsRefusedAt text place)
+FileCause told before now last (Text (BadToken place)) = (last ≤ longest) × IfSome told (λ text. IsRefusal text (BadToken place))
+FileCause told before now last (Text (LeftOut word place)) = (last ≤ longest) × IfSome told (λ text. IsRefusal text (LeftOut word place))
+FileCause told before now last (Text (NoReading place)) = (last ≤ longest) × IfSome told (λ text. IsRefusal text (NoReading place))
 FileCause told before now last (Text TextMemory) = ⊥
 FileCause told before now last (ReadFault TheModule) = Rose before now
 FileCause told before now last (ReadFault Out) = ⊥

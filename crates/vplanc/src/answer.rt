@@ -31,13 +31,13 @@ impl Which {
 }
 
 /// The answer of the program.
-#[derive(Clone, Copy, Debug, PartialEq, Eq)]
+#[derive(Debug, Drop, PartialEq, Eq)]
 pub enum Status {
     /// The module is printed.
     Done,
     /// The words give no command.
     BadWords,
-    /// The file's text is too long or reads as no module.
+    /// The file's text is too long, has a token that is none or is left out, or reads as no module.
     Text(TextFault),
     /// The file is not read.
     ReadFault(Which),

@@ -1,6 +1,7 @@
 // The line of an answer.
 
-ghost use Rattle.std.specs.Prelude.{◌≡◌, ℕ, ◌+◌, ◌≤◌, ◌++◌, length, take};
+ghost use Rattle.std.specs.Prelude.{◌≡◌, ℕ, ◌+◌, ◌≤◌, ◌++◌, codes, length, take};
+ghost use Rattle.std.specs.Fmt.{decimal};
 ghost use Rattle.vplan_io.specs.Causes.{Rose, and_then};
 ghost use Rattle.vplanc.specs.Answers.{line, line_of};
 ghost use Rattle.vplanc.specs.declared.answer.Status.TheVariants.{Done};
@@ -9,7 +10,7 @@ use crate::answer::Status;
 use arrayvec::ArrayString;
 use itoa::Buffer;
 use text_lex::TextFault;
-use vplan_io::{Sink, put_text};
+use vplan_io::{Sink, put_three};
 
 /// The most bytes of a line.
 const LINE: usize = 80;
@@ -28,33 +29,74 @@ fn line_with(head: &str, middle: &str, tail: &str) -> ArrayString<LINE>
     whole
 }
 
+/// A line in three parts: the middle one may be long.
+struct Line<'a> {
+    head: ArrayString<LINE>,
+    word: &'a [u8],
+    tail: ArrayString<LINE>,
+}
+
+// A line in one part.
+fn whole(head: ArrayString<LINE>) -> Line<'static>
+    ensures { result.head.bytes ++ result.word.now ++ result.tail.bytes ≡ head.bytes }
+{
+    Line {
+        head,
+        word: b"",
+        tail: ArrayString::new(),
+    }
+}
+
+// The line that names a token that is left out.
+fn left_out(word: &[u8], place: u32) -> Line<'_>
+    ensures { result.head.bytes ++ result.word.now ++ result.tail.bytes ≡ line (codes "text: left out " ++ word.now ++ codes " at " ++ decimal place) }
+{
+    let mut digits = Buffer::new();
+    let mut head = ArrayString::new();
+    head.push_str("vplanc: text: left out ");
+    let mut tail = ArrayString::new();
+    tail.push_str(" at ");
+    tail.push_str(digits.format(place));
+    tail.push_str("\n");
+    Line { head, word, tail }
+}
+
 // The line of an answer; it is empty where the program is done.
-fn line_for(status: Status) -> ArrayString<LINE>
-    ensures { result.bytes ≡ line_of status }
+fn line_for(status: &Status) -> Line<'_>
+    ensures { result.head.bytes ++ result.word.now ++ result.tail.bytes ≡ line_of status.now }
 {
     let mut digits = Buffer::new();
     match status {
-        Status::Done => ArrayString::new(),
-        Status::BadWords => line_with("words", "", ""),
+        Status::Done => whole(ArrayString::new()),
+        Status::BadWords => whole(line_with("words", "", "")),
+        Status::Text(TextFault::BadToken(place)) => {
+            whole(line_with("text: bad token at ", digits.format(*place), ""))
+        }
+        Status::Text(TextFault::LeftOut(word, place)) => left_out(word.as_bytes(), *place),
         Status::Text(TextFault::TextLimit(size)) => {
-            line_with("text: ", digits.format(size), " bytes")
+            whole(line_with("text: ", digits.format(*size), " bytes"))
         }
         Status::Text(TextFault::NoReading(place)) => {
-            line_with("text: no reading at ", digits.format(place), "")
+            whole(line_with("text: no reading at ", digits.format(*place), ""))
         }
-        Status::ReadFault(which) => line_with("read fault: ", which.name(), ""),
-        Status::WriteFault(which) => line_with("write fault: ", which.name(), ""),
-        Status::Text(TextFault::Memory) | Status::Memory => line_with("memory", "", ""),
+        Status::ReadFault(which) => whole(line_with("read fault: ", which.name(), "")),
+        Status::WriteFault(which) => whole(line_with("write fault: ", which.name(), "")),
+        Status::Text(TextFault::Memory) | Status::Memory => whole(line_with("memory", "", "")),
     }
 }
 
 /// Puts the line of an answer into the notes. A fault of theirs changes nothing else.
-pub fn put_line<N: Sink>(status: Status, notes: &mut N)
-    ensures whole { ¬ Rose (N.faults notes.old) (N.faults notes.new) → N.taken notes.new ≡ and_then (N.taken notes.old) (line_of status) }
-    ensures front { (n : ℕ) × (N.taken notes.new ≡ and_then (N.taken notes.old) (take n (line_of status))) }
-    ensures none { status ≡ Done → notes.new ≡ notes.old }
+pub fn put_line<N: Sink>(status: &Status, notes: &mut N)
+    ensures whole { ¬ Rose (N.faults notes.old) (N.faults notes.new) → N.taken notes.new ≡ and_then (N.taken notes.old) (line_of status.now) }
+    ensures front { (n : ℕ) × (N.taken notes.new ≡ and_then (N.taken notes.old) (take n (line_of status.now))) }
+    ensures none { status.now ≡ Done → notes.new ≡ notes.old }
     ensures later { N.faults notes.old ≤ N.faults notes.new }
 {
-    let text = line_for(status);
-    let _ = put_text(notes, text.as_str().as_bytes());
+    let line = line_for(status);
+    let _ = put_three(
+        notes,
+        line.head.as_str().as_bytes(),
+        line.word,
+        line.tail.as_str().as_bytes(),
+    );
 }

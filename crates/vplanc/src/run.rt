@@ -121,6 +121,6 @@ pub fn run<F: Files, O: Sink, N: Sink>(
     ensures notes_later { N.faults notes.old ≤ N.faults notes.new }
 {
     let status = answer(alloc, words, files, out);
-    put_line(status, notes);
+    put_line(&status, notes);
     status
 }

@@ -1,4 +1,4 @@
-use Rattle.std.proofs.Common.{◌≡◌, ◌⊎◌, length, Some, None, inl}
+use Rattle.std.proofs.Common.{◌≡◌, ◌⊎◌, length, Some, None}
 use Rattle.forms.specs.View.{lexemes}
 use Rattle.ir_reader.specs.Functions.{module_read}
 use Rattle.ir_reader.specs.Refusal.{StartsAt}
@@ -21,4 +21,4 @@ returns-in-Err-NoReading-clause-fault c =
     let tokens = lexemes text c.in-Ok.tokens.items in
     let says : module_read tokens ≡ None = rw (c.in-Err-NoReading.field-0-is, c.as_slice.ensures.value) at c.in-Err-NoReading.ensures.says in
     let here : StartsAt c.in-Ok.tokens.items c.stop.result ⊎ (c.stop.result ≡ length text) = rw c.as_slice-in-Err-NoReading.ensures.value at c.stop.ensures in
-    (c.in-Ok.ensures.within, no_reading text tokens c.in-Ok.ensures.tokens says, inl (record { tokens = c.in-Ok.tokens.items; placed = c.in-Ok.ensures.places; here = here }))
+    (c.in-Ok.ensures.within, no_reading text tokens c.in-Ok.ensures.tokens says, record { tokens = c.in-Ok.tokens.items; placed = c.in-Ok.ensures.places; lexed = c.in-Ok.ensures.tokens; none_left_out = c.in-Ok.ensures.nothing_left_out; here = here })
