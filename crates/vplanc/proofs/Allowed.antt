@@ -22,12 +22,15 @@ took-allowed : (told before now : Option (List ℕ)) → TookAll told before now
 took-allowed None before now t = tt
 took-allowed (Some text) None now t = tt
 took-allowed (Some text) (Some old) now t =
-    let p = t.is_printed in
-    (t.printed, t.taken, record {
-      file_reads = (p.meant, p.file_reads.2);
-      print_reads = (p.meant, p.text_reads);
-      allows = λ m n r s. text-allows text t.printed p.meant m n p.file_reads.2 p.text_reads r s;
-    })
+    let p = t.is_printed in (
+      t.printed,
+      t.taken,
+      record {
+        file_reads = (p.meant, p.file_reads.2);
+        print_reads = (p.meant, p.text_reads);
+        allows = λ m n r s. text-allows text t.printed p.meant m n p.file_reads.2 p.text_reads r s;
+      },
+    )
 
 -- the same for any words
 pub allowed-left : (command : Option (List ℕ)) (told : List ℕ → Option (List ℕ)) (before now : Option (List ℕ)) (status : Status) → OutLeft command told before now status → AllowedLeft command told before now status
