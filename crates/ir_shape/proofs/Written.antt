@@ -22,6 +22,7 @@ use Rattle.ir_types.specs.Written.{number_of, number_at, name_behind}
 use Rattle.ir_types.specs.Tree.{InstTree, WrittenParam, WrittenBlock, WrittenFunction, WrittenModule}
 use Rattle.ir_types.specs.Grammar.{local_name, global_name, label, width, lanes_of, vector_type, value_type, return_type, WrittenValue, named, digits, yes, no, value, lane_counts, width_of, operand_at, two_values, binary, compared, compare, entry_of_phi, phi, target, jump_tree, branch, void_tree, ret, operation_behind, operation, terminator_behind, terminator, named_by, line, block, parameter, function, module_form}
 use Rattle.ir_shape.specs.Shape.{IsName, IsOneOf, widths, IsType, IsReturnType, IsOperand, IsBody, IsNameThere, IsTerminator, EndsOnce}
+use Rattle.ir_shape.proofs.Among.{of_each}
 use Rattle.ir_shape.proofs.Names.{behind_is, before_is}
 use Rattle.ir_shape.proofs.Sure.{Sure, one_sure, word_sure, pair_sure, either_sure, mapped_sure, made_sure, ahead_sure, IsThere, optional_sure, by_word_sure, many_sure, behind_sure, after_mark_sure, between_sure, some_sure, commas_sure, list_sure}
 
@@ -102,12 +103,7 @@ number_small w [] h = h
 number_small w (c ∷ ds) h = either_below (eqb c 45) (2 ^ w) _ _ (below (2 ^ w) _ h) (below (2 ^ w) _ h)
 
 one_below : (w : ℕ) → IsOneOf widths w → 1 < 2 ^ w
-one_below w (inl e) = rw e (lit< tt)
-one_below w (inr (inl e)) = rw e (lit< tt)
-one_below w (inr (inr (inl e))) = rw e (lit< tt)
-one_below w (inr (inr (inr (inl e)))) = rw e (lit< tt)
-one_below w (inr (inr (inr (inr (inl e))))) = rw e (lit< tt)
-one_below w (inr (inr (inr (inr (inr h))))) = absurd h
+one_below w h = of_each (λ n. 1 < 2 ^ n) widths w (lit< tt, (lit< tt, (lit< tt, (lit< tt, (lit< tt, tt))))) h
 
 one_fits : (t : Ty) → IsType t → 1 < 2 ^ width_of t
 one_fits (Int w) h = one_below w h
