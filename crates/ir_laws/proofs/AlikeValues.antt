@@ -5,10 +5,11 @@ use Rattle.forms.specs.Bind.{◌>>=◌}
 use Rattle.ir_types.specs.declared.name.Name.{Name}
 use Rattle.ir_types.specs.declared.name.ValueId.{ValueId}
 use Rattle.ir_types.specs.declared.inst.Ty.{Ty}
+use Rattle.ir_types.specs.declared.inst.Ty.TheVariants.{Int as IntTy, Ptr as PtrTy, Vector, Void}
 use Rattle.ir_types.specs.declared.inst.Operand.{Operand}
 use Rattle.ir_types.specs.declared.inst.BinOp.TheVariants.{Add}
 use Rattle.ir_types.specs.declared.inst.InstKind.{InstKind}
-use Rattle.ir_types.specs.declared.inst.InstKind.TheVariants.{Binary, Compare, Jump, Branch, Return}
+use Rattle.ir_types.specs.declared.inst.InstKind.TheVariants.{Binary, Compare, Jump, Branch, Return, ReturnVoid}
 use Rattle.ir_types.specs.declared.inst.Inst.{Inst}
 use Rattle.ir_types.specs.declared.module.Module.{Module}
 use Rattle.ir_types.specs.declared.module.Param.{Param}
@@ -93,10 +94,14 @@ module _ (m m' : Module) (memory : Memory) (ns ns' : List Name) where
   branched-same (i ∷ k ∷ n ∷ ks) (j ∷ l ∷ m ∷ ms) v h = same_waits
 
   effect_of-same : (kind : InstKind) (ty : Ty) (labels labels' : List ValueId) (values : List Value) → AllZip (SameId ns ns') labels labels' → SameEffect ns ns' (effect_of m memory kind ty labels values) (effect_of m' memory kind ty labels' values)
-  effect_of-same (Binary Add) ty labels labels' (x ∷ y ∷ []) h = same_sets
-  effect_of-same (Compare p of) ty labels labels' (x ∷ y ∷ []) h = same_sets
+  effect_of-same (Binary Add) (IntTy w) labels labels' (x ∷ y ∷ []) h = same_sets
+  effect_of-same (Binary Add) PtrTy labels labels' values h = same_waits
+  effect_of-same (Binary Add) (Vector n w) labels labels' values h = same_waits
+  effect_of-same (Binary Add) Void labels labels' values h = same_waits
+  effect_of-same (Compare p (IntTy w)) ty labels labels' (x ∷ y ∷ []) h = same_sets
   effect_of-same Branch ty labels labels' (x ∷ []) h = branched-same labels labels' x h
   effect_of-same (Return of) ty labels labels' (x ∷ []) h = same_leaves
+  effect_of-same ReturnVoid ty labels labels' [] h = same_leaves
   effect_of-same Jump ty [] [] values h = same_waits
   effect_of-same Jump ty [] (j ∷ js) values h = absurd h
   effect_of-same Jump ty (i ∷ is) [] values h = absurd h

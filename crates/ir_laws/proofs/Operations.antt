@@ -4,19 +4,19 @@ use Rattle.std.proofs.lemmas.Bool.{eq-eqb, lt-ltb}
 use Rattle.std.proofs.lemmas.Nat.{mod_below, pow_pos}
 use Rattle.ir_types.specs.declared.name.ValueId.{ValueId}
 use Rattle.ir_types.specs.declared.inst.Ty.{Ty}
-use Rattle.ir_types.specs.declared.inst.Ty.TheVariants.{Int as IntTy, Void}
+use Rattle.ir_types.specs.declared.inst.Ty.TheVariants.{Int as IntTy, Ptr as PtrTy, Vector, Void}
 use Rattle.ir_types.specs.declared.inst.BinOp.{BinOp}
 use Rattle.ir_types.specs.declared.inst.BinOp.TheVariants.{Add}
 use Rattle.ir_types.specs.declared.inst.Pred.{Pred}
 use Rattle.ir_types.specs.declared.inst.InstKind.{InstKind}
-use Rattle.ir_types.specs.declared.inst.InstKind.TheVariants.{Binary, Compare, Phi, Jump, Branch, Return}
+use Rattle.ir_types.specs.declared.inst.InstKind.TheVariants.{Binary, Compare, Phi, Jump, Branch, Return, ReturnVoid}
 use Rattle.ir_types.specs.declared.module.Module.{Module}
 use Rattle.ir_types.specs.declared.value.Value.{Value}
 use Rattle.ir_types.specs.declared.value.Value.TheVariants.{Int, Ptr, Poison, Lanes}
 use Rattle.ir_types.specs.Values.{HasType, of_numbers, sum, holds, truth}
 use Rattle.ir_types.specs.Memory.{Memory}
 use Rattle.ir_types.specs.Meaning.{effect_of, branched, operand_types}
-use Rattle.ir_types.specs.Refines.{ValueRefines, same_value, of_poison, of_pointer, of_lanes, MemoryRefines, result as a_result}
+use Rattle.ir_types.specs.Refines.{ValueRefines, same_value, of_poison, of_pointer, of_lanes, MemoryRefines, no_result, result as a_result}
 use Rattle.ir_laws.specs.Respect.{OperandsRefine, result_type, EffectRefines, sets, goes, leaves, of_fails, waits}
 
 -- a relation of two lists
@@ -110,10 +110,6 @@ holds_typed : (p : Pred) (w : ℕ) → HasResults w (IntTy 1) (λ w x y. truth (
 unfolding HasResults
 holds_typed p w x y = truth_typed (holds p w x y)
 
--- only an integer's type has operands
-no_void : (v : Value) (P : Type 0) → HasType Void v → P
-no_void v P h = absurd (cc)
-
 -- ---- what is asked for
 
 same_branch : (ty : Ty) (labels : List ValueId) (v : Value) → EffectRefines ty (branched labels v) (branched labels v)
@@ -142,11 +138,15 @@ module _ (m : Module) (here other : Memory) (labels : List ValueId) where
 
   of_binary : (op : BinOp) (ty : Ty) (vs ws : List Value) → OperandsRefine (ty ∷ ty ∷ []) vs ws → Asked (Binary op) ty vs ws
   of_binary Add (IntTy w) vs ws h = two_of (IntTy w) (IntTy w) vs ws (Asked (Binary Add) (IntTy w)) h (λ v w' x y a b r c d q. sets (typed_result w (IntTy w) sum (sum_typed (IntTy w) w refl) refl v x a c) (typed_result w (IntTy w) sum (sum_typed (IntTy w) w refl) refl w' y b d) (respects w (IntTy w) sum (sum_typed (IntTy w) w refl) refl v w' x y a b r c d q))
-  of_binary Add Void vs ws h = two_of Void Void vs ws (Asked (Binary Add) Void) h (λ v w x y a b r c d q. no_void v _ a)
+  of_binary Add PtrTy vs ws h = waits
+  of_binary Add (Vector n w) vs ws h = waits
+  of_binary Add Void vs ws h = waits
 
   of_compare : (p : Pred) (of ty : Ty) (vs ws : List Value) → OperandsRefine (of ∷ of ∷ []) vs ws → Asked (Compare p of) ty vs ws
   of_compare p (IntTy w) ty vs ws h = two_of (IntTy w) (IntTy w) vs ws (Asked (Compare p (IntTy w)) ty) h (λ v w' x y a b r c d q. sets (typed_result w (IntTy 1) (λ w x y. truth (holds p w x y)) (holds_typed p w) refl v x a c) (typed_result w (IntTy 1) (λ w x y. truth (holds p w x y)) (holds_typed p w) refl w' y b d) (respects w (IntTy 1) (λ w x y. truth (holds p w x y)) (holds_typed p w) refl v w' x y a b r c d q))
-  of_compare p Void ty vs ws h = two_of Void Void vs ws (Asked (Compare p Void) ty) h (λ v w x y a b r c d q. no_void v _ a)
+  of_compare p PtrTy ty vs ws h = waits
+  of_compare p (Vector n w) ty vs ws h = waits
+  of_compare p Void ty vs ws h = waits
 
   jumped : (ls : List ValueId) (ty : Ty) → EffectRefines ty (effect_of m here Jump ty ls []) (effect_of m other Jump ty ls [])
   jumped [] ty = waits
@@ -160,3 +160,4 @@ module _ (m : Module) (here other : Memory) (labels : List ValueId) where
   respected Jump ty vs ws mem h = none_of vs ws (Asked Jump ty) h (jumped labels ty)
   respected Branch ty vs ws mem h = one_of (IntTy 1) vs ws (Asked Branch ty) h (λ v w a b r. branch_respects ty labels v w b r)
   respected (Return of) ty vs ws mem h = one_of of vs ws (Asked (Return of) ty) h (λ v w a b r. leaves (a_result (record { ty = refl; value = r })))
+  respected ReturnVoid ty vs ws mem h = none_of vs ws (Asked ReturnVoid ty) h (leaves no_result)

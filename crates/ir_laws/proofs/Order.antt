@@ -2,13 +2,14 @@
 use Rattle.std.proofs.Common.{ℕ, List, [], ◌∷◌, Option, Some, None, refl, ◌∙◌, subst}
 use Rattle.std.specs.List.{AllZip}
 use Rattle.ir_types.specs.declared.inst.Ty.{Ty}
-use Rattle.ir_types.specs.declared.inst.Ty.TheVariants.{Int as IntTy, Void}
+use Rattle.ir_types.specs.declared.inst.Ty.TheVariants.{Int as IntTy, Ptr as PtrTy, Vector, Void}
 use Rattle.ir_types.specs.declared.value.Pointer.{Pointer}
 use Rattle.ir_types.specs.declared.value.Byte.{Byte}
 use Rattle.ir_types.specs.declared.value.Byte.TheVariants.{Part}
 use Rattle.ir_types.specs.declared.value.Value.{Value}
 use Rattle.ir_types.specs.declared.value.Allocation.{Allocation}
-use Rattle.ir_types.specs.Values.{Typed}
+use Rattle.ir_types.specs.declared.value.Value.TheVariants.{Ptr}
+use Rattle.ir_types.specs.Values.{HasType, Typed}
 use Rattle.ir_types.specs.Memory.{Memory, IsByte}
 use Rattle.ir_types.specs.State.{Event}
 use Rattle.ir_types.specs.Runs.{Observation, Undefined, Going, Returned}
@@ -37,6 +38,11 @@ pub lane-trans : {w : ℕ} (a b c : Option ℕ) → LaneRefines w a b → LaneRe
 lane-trans a b c same_lane h = h
 lane-trans a b c (of_poison_lane lt) same_lane = of_poison_lane lt
 
+-- a pointer that refines another has its address
+same_address : {p q : Pointer} → PointerRefines p q → HasType PtrTy (Ptr q) → HasType PtrTy (Ptr p)
+same_address same_pointer h = h
+same_address no_allocation h = h
+
 -- no vector is of a type that has poison by itself
 pub value-trans : {ty : Ty} {u v w : Value} → ValueRefines ty u v → ValueRefines ty v w → ValueRefines ty u w
 value-trans same_value h = h
@@ -45,10 +51,14 @@ value-trans (of_poison t p) (of_poison s q) = of_poison t p
 value-trans (of_pointer f) same_value = of_pointer f
 value-trans (of_pointer f) (of_pointer g) = of_pointer (pointer-trans f g)
 value-trans {ty = IntTy w} (of_pointer f) (of_poison t p) = absurd (cc)
+value-trans {ty = PtrTy} (of_pointer f) (of_poison t p) = of_poison (same_address f t) p
+value-trans {ty = Vector n w} (of_pointer f) (of_poison t p) = absurd (cc)
 value-trans {ty = Void} (of_pointer f) (of_poison t p) = absurd (cc)
 value-trans (of_lanes f) same_value = of_lanes f
 value-trans (of_lanes f) (of_lanes g) = of_lanes (each-trans (LaneRefines _) lane-trans _ _ _ f g)
 value-trans {ty = IntTy w} (of_lanes f) (of_poison t p) = absurd (cc)
+value-trans {ty = PtrTy} (of_lanes f) (of_poison t p) = absurd (cc)
+value-trans {ty = Vector n w} (of_lanes f) (of_poison t p) = absurd (cc)
 value-trans {ty = Void} (of_lanes f) (of_poison t p) = absurd (cc)
 
 -- ---- bytes and memories

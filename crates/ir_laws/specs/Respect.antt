@@ -2,12 +2,12 @@
 use Rattle.std.specs.Prelude.{◌≡◌, List, [], ◌∷◌, Option, Some}
 use Rattle.ir_types.specs.declared.name.ValueId.{ValueId}
 use Rattle.ir_types.specs.declared.inst.Ty.{Ty}
-use Rattle.ir_types.specs.declared.inst.Ty.TheVariants.{Int as IntTy}
 use Rattle.ir_types.specs.declared.inst.InstKind.{InstKind}
 use Rattle.ir_types.specs.declared.inst.InstKind.TheVariants.{Compare}
 use Rattle.ir_types.specs.declared.inst.Operand.{Operand}
 use Rattle.ir_types.specs.declared.inst.Operand.TheVariants.{Local, Int as IntOperand}
 use Rattle.ir_types.specs.declared.value.Value.{Value}
+use Rattle.ir_types.specs.Grammar.{bits_for}
 use Rattle.ir_types.specs.Values.{HasType, Typed}
 use Rattle.ir_types.specs.State.{Env}
 use Rattle.ir_types.specs.Meaning.{Effect, Sets, Goes, Leaves, Fails, Waits}
@@ -31,7 +31,7 @@ OperandsRefine types vs ws = ⊥
 
 -- the type of the value that an instruction gives its result
 abbrev pub result_type : InstKind → Ty → Ty
-result_type (Compare p of) ty = IntTy 1
+result_type (Compare p of) ty = bits_for of
 result_type kind ty = ty
 
 -- what is asked for here and there: the same, with values that refine; and anything where the run is undefined there

@@ -1,28 +1,30 @@
 -- The pieces that a module is printed as are tokens and join.
-use Rattle.std.proofs.Common.{◌≡◌, ◌<◌, ◌^◌, ℕ, zero, suc, List, [], ◌∷◌, ◌++◌, Option, Some, None, refl, append_assoc, arith, lit<}
+use Rattle.std.proofs.Common.{◌≡◌, ◌<◌, ◌^◌, ℕ, eqb, List, [], ◌∷◌, ◌++◌, Option, Some, None, refl, append_assoc, arith, inl, inr}
 use Rattle.std.specs.Prelude.{map, codes, decimal}
 use Rattle.std.specs.List.{AllByRecursion}
 use Rattle.forms.specs.declared.TokenKind.TheVariants as kinds
 use Rattle.forms.specs.Lexical.{kind_of, table}
+use Rattle.forms.proofs.Begins.{test}
 use Rattle.text_lex.specs.Layout.{Piece, lexeme}
 use Rattle.text_lex.proofs.Decimals.{decimal_digits}
-use Rattle.text_lex.proofs.Printed.{integer_word}
+use Rattle.text_lex.proofs.Printed.{integer_word, number_digits}
 use Rattle.ir_types.specs.declared.name.Name.{Name}
 use Rattle.ir_types.specs.declared.inst.Ty.{Ty}
-use Rattle.ir_types.specs.declared.inst.Ty.TheVariants.{Int, Void}
+use Rattle.ir_types.specs.declared.inst.Ty.TheVariants.{Int, Ptr, Vector, Void}
 use Rattle.ir_types.specs.declared.inst.BinOp.{BinOp}
 use Rattle.ir_types.specs.declared.inst.BinOp.TheVariants.{Add}
 use Rattle.ir_types.specs.declared.inst.Pred.{Pred}
 use Rattle.ir_types.specs.declared.inst.Pred.TheVariants.{Eq, Ne, Ugt, Uge, Ult, Ule, Sgt, Sge, Slt, Sle}
 use Rattle.ir_types.specs.declared.inst.InstKind.{InstKind}
-use Rattle.ir_types.specs.declared.inst.InstKind.TheVariants.{Binary, Compare, Phi, Jump, Branch, Return}
+use Rattle.ir_types.specs.declared.inst.InstKind.TheVariants.{Binary, Compare, Phi, Jump, Branch, Return, ReturnVoid}
 use Rattle.ir_types.specs.Grammar.{width_of}
 use Rattle.ir_types.specs.Tree.{OperandTree, local, number, InstTree, BlockTree, ParamTree, FunctionTree, ModuleTree}
-use Rattle.ir_shape.specs.Shape.{IsName, IsInt, IsOperand, operand_type, IsResult, IsInst, IsBlock, IsParam, IsFunction, IsModule}
-use Rattle.ir_printer.specs.Print.{token, comma, blank, line_feed, indent, equal, right_paren, left_brace, right_brace, with_commas, local_token, global_token, label_token, type_word, number_token, operand_token, operand_pieces, predicate_word, operator_word, typed_pieces, target_pieces, targets_pieces, entry_pieces, entries_of, kind_pieces, result_pieces, inst_pieces, block_pieces, param_pieces, function_pieces, module_pieces}
+use Rattle.ir_shape.specs.Shape.{IsName, IsOneOf, widths, IsType, IsReturnType, IsOperand, operand_type, IsResult, IsInst, IsBlock, IsParam, IsFunction, IsModule}
+use Rattle.ir_printer.specs.Print.{token, comma, blank, line_feed, indent, equal, right_paren, left_brace, right_brace, with_commas, local_token, global_token, label_token, width_word, type_pieces, number_token, operand_token, operand_pieces, predicate_word, operator_word, typed_pieces, target_pieces, targets_pieces, entry_pieces, entries_of, kind_pieces, result_pieces, inst_pieces, block_pieces, param_pieces, function_pieces, module_pieces}
 use Rattle.ir_printer.proofs.Names.{local_kind, global_kind, label_kind}
 use Rattle.ir_printer.proofs.Numbers.{signed_kind}
-use Rattle.ir_printer.proofs.Spelled.{by_type}
+use Rattle.ir_printer.proofs.Widths.{width_within, type_within}
+use Rattle.ir_printer.proofs.Spelled.{few_lanes}
 use Rattle.ir_printer.proofs.Laid.{IsLaid, IsBehind, loose, nothing_behind, blank_laid, feed_laid, indent_laid, mark_laid, token_laid, laid-append, behind-append, Separates, each_laid, separated_laid, all_laid}
 
 -- ---- marks and words
@@ -61,20 +63,18 @@ operator_kind : (op : BinOp) → kind_of (operator_word op) ≡ Some kinds.Word
 unfolding table operator_word
 operator_kind Add = refl
 
-type_kind : (t : Ty) → IsInt t → kind_of (type_word t) ≡ Some kinds.Word
-unfolding type_word
-type_kind t h = by_type (λ u. kind_of (type_word u) ≡ Some kinds.Word) (integer_word (decimal 1) (decimal_digits 1 (lit< tt))) (integer_word (decimal 32) (decimal_digits 32 (lit< tt))) t h
+width_kind : (w : ℕ) → IsOneOf widths w → kind_of (width_word w) ≡ Some kinds.Word
+unfolding width_word
+width_kind w h = let le = (width_within w h).1 in integer_word (decimal w) (decimal_digits w (omega arith))
 
-number_kind : (t : Ty) → IsInt t → (v : ℕ) → v < 2 ^ width_of t → kind_of (number_token t v).text ≡ Some (number_token t v).kind
+number_kind : (t : Ty) → IsType t → (v : ℕ) → v < 2 ^ width_of t → kind_of (number_token t v).text ≡ Some (number_token t v).kind
 unfolding table number_token
-number_kind t h = by_type (λ u. (v : ℕ) → v < 2 ^ width_of u → kind_of (number_token u v).text ≡ Some (number_token u v).kind) bit signed_kind t h
-  where
-    bit : (v : ℕ) → v < 2 ^ 1 → kind_of (number_token (Int 1) v).text ≡ Some (number_token (Int 1) v).kind
-    bit zero lt = refl
-    bit (suc zero) lt = refl
-    bit (suc (suc v)) lt = absurd (omega arith)
+number_kind t h v lt = elim (test (eqb (width_of t) 1)) [
+  | inl y ↦ rw y (elim (test (eqb v 1)) [ inl z ↦ rw z refl | inr z ↦ rw z refl ])
+  | inr n ↦ rw n (signed_kind (width_of t) v ((type_within t h).1) lt)
+]
 
-operand_kind : (t : Ty) (a : OperandTree) → IsInt t → IsOperand t a → kind_of (operand_token t a).text ≡ Some (operand_token t a).kind
+operand_kind : (t : Ty) (a : OperandTree) → IsType t → IsOperand t a → kind_of (operand_token t a).text ≡ Some (operand_token t a).kind
 operand_kind t (local n) i h = local_kind n h
 operand_kind t (number v) i h = number_kind t i v h
 
@@ -97,36 +97,62 @@ local_laid n h g = token_laid (local_token n) (local_kind n h) g
 word_laid : {ps : List Piece} (w : List ℕ) → kind_of w ≡ Some kinds.Word → IsBehind ps → IsLaid (lexeme (token kinds.Word w) ∷ ps)
 word_laid w e g = token_laid (token kinds.Word w) e g
 
-operands_laid : (t : Ty) (args : List OperandTree) → IsInt t → AllByRecursion (IsOperand t) args → IsLaid (with_commas (map (operand_pieces t) args))
+type_laid : (t : Ty) → IsReturnType t → IsLaid (type_pieces t)
+unfolding type_pieces table
+type_laid (Int w) h = word_laid (width_word w) (width_kind w h) nothing_behind
+type_laid Ptr h = word_laid (codes "ptr") refl nothing_behind
+type_laid (Vector n w) h =
+    loose (mark_laid kinds.Less (codes "<") refl refl (token_laid (token kinds.Number (decimal n)) (number_digits (decimal n) (decimal_digits n (few_lanes n h.0)))
+    (blank_laid (word_laid (codes "x") refl (blank_laid (word_laid (width_word w) (width_kind w h.1) (mark_laid kinds.Greater (codes ">") refl refl (loose nothing_behind))))))))
+type_laid Void h = word_laid (codes "void") refl nothing_behind
+
+type_returned : (t : Ty) → IsType t → IsReturnType t
+type_returned (Int w) h = h
+type_returned Ptr h = h
+type_returned (Vector n w) h = h
+type_returned Void h = absurd h
+
+-- a type, and a space behind it
+spaced_laid : {ps : List Piece} (t : Ty) → IsReturnType t → IsLaid ps → IsLaid (type_pieces t ++ (blank ∷ ps))
+spaced_laid t i h = laid-append (type_pieces t) _ (type_laid t i) (blank_laid h)
+
+operands_laid : (t : Ty) (args : List OperandTree) → IsType t → AllByRecursion (IsOperand t) args → IsLaid (with_commas (map (operand_pieces t) args))
 operands_laid t args i h = separated_laid _ _ commas_part (all_laid (IsOperand t) (operand_pieces t) (λ a g. token_laid (operand_token t a) (operand_kind t a i g) nothing_behind) args h)
 
-typed_laid : (t : Ty) (args : List OperandTree) → IsInt t → AllByRecursion (IsOperand t) args → IsBehind (typed_pieces t args)
-typed_laid t args i h = blank_laid (word_laid (type_word t) (type_kind t i) (blank_laid (operands_laid t args i h)))
+typed_laid : (t : Ty) (args : List OperandTree) → IsType t → AllByRecursion (IsOperand t) args → IsBehind (typed_pieces t args)
+typed_laid t args i h = blank_laid (spaced_laid t (type_returned t i) (operands_laid t args i h))
 
 targets_laid : (ls : List Name) → AllByRecursion IsName ls → IsLaid (targets_pieces ls)
 targets_laid ls h = separated_laid _ _ commas_part (all_laid IsName target_pieces (λ l g. word_laid (codes "label") (word_kinds.0) (blank_laid (local_laid l g nothing_behind))) ls h)
 
-entry_laid : (t : Ty) (a : OperandTree) (l : Name) → IsInt t → IsOperand t a → IsName l → IsLaid (entry_pieces t a l)
+entry_laid : (t : Ty) (a : OperandTree) (l : Name) → IsType t → IsOperand t a → IsName l → IsLaid (entry_pieces t a l)
 entry_laid t a l i h g =
     loose (mark_laid kinds.LeftBracket (codes "[") refl bracket_kinds.2 (loose (blank_laid (token_laid (operand_token t a) (operand_kind t a i h) (comma_laid (loose (blank_laid (local_laid l g (blank_laid (loose (mark_laid kinds.RightBracket (codes "]") refl bracket_kinds.3 (loose nothing_behind))))))))))))
 
-entries_laid : (t : Ty) (args : List OperandTree) (labels : List Name) → IsInt t → AllByRecursion (IsOperand t) args → AllByRecursion IsName labels → AllByRecursion IsLaid (entries_of t args labels)
+entries_laid : (t : Ty) (args : List OperandTree) (labels : List Name) → IsType t → AllByRecursion (IsOperand t) args → AllByRecursion IsName labels → AllByRecursion IsLaid (entries_of t args labels)
 entries_laid t [] labels i h g = tt
 entries_laid t (a ∷ args) [] i h g = tt
 entries_laid t (a ∷ args) (l ∷ labels) i h g = (entry_laid t a l i h.0 g.0, entries_laid t args labels i h.1 g.1)
 
-kind_laid : (k : InstKind) (t : Ty) (args : List OperandTree) (labels : List Name) → IsInt (operand_type k t) → AllByRecursion (IsOperand (operand_type k t)) args → AllByRecursion IsName labels → IsLaid (kind_pieces k t args labels)
+kind_laid : (k : InstKind) (t : Ty) (args : List OperandTree) (labels : List Name) → IsType (operand_type k t) → AllByRecursion (IsOperand (operand_type k t)) args → AllByRecursion IsName labels → IsLaid (kind_pieces k t args labels)
+unfolding type_pieces
 kind_laid (Binary op) t args labels i h g = word_laid (operator_word op) (operator_kind op) (typed_laid t args i h)
 kind_laid (Compare p u) t args labels i h g = word_laid _ word_kinds.1 (blank_laid (word_laid (predicate_word p) (predicate_kind p) (typed_laid u args i h)))
-kind_laid Phi t args labels i h g = word_laid _ word_kinds.2 (blank_laid (word_laid (type_word t) (type_kind t i) (blank_laid (separated_laid _ _ commas_part (entries_laid t args labels i h g)))))
+kind_laid Phi t args labels i h g = word_laid _ word_kinds.2 (blank_laid (spaced_laid t (type_returned t i) (separated_laid _ _ commas_part (entries_laid t args labels i h g))))
 kind_laid Jump t args labels i h g = word_laid _ word_kinds.3 (blank_laid (targets_laid labels g))
 kind_laid Branch t args labels i h g = word_laid _ word_kinds.3 (behind-append (typed_pieces (Int 1) args) _ (typed_laid (Int 1) args i h) (comma_laid (loose (blank_laid (targets_laid labels g)))))
 kind_laid (Return u) t args labels i h g = word_laid _ word_kinds.4 (typed_laid u args i h)
+kind_laid ReturnVoid t args labels i h g = word_laid _ word_kinds.4 (blank_laid (type_laid Void tt))
+
+named_laid : (n : Name) (ps : List Piece) → IsName n → IsLaid ps → IsLaid (result_pieces (Some n) ++ ps)
+named_laid n ps h g = local_laid n h (blank_laid (loose (equal_laid (loose (blank_laid g)))))
 
 result_laid : (t : Ty) (o : Option Name) (ps : List Piece) → IsResult t o → IsLaid ps → IsLaid (result_pieces o ++ ps)
 result_laid t None ps h g = g
-result_laid (Int w) (Some n) ps h g = local_laid n h (blank_laid (loose (equal_laid (loose (blank_laid g)))))
-result_laid Void (Some n) ps h g = local_laid n h (blank_laid (loose (equal_laid (loose (blank_laid g)))))
+result_laid (Int w) (Some n) ps h g = named_laid n ps h g
+result_laid Ptr (Some n) ps h g = named_laid n ps h g
+result_laid (Vector m w) (Some n) ps h g = named_laid n ps h g
+result_laid Void (Some n) ps h g = named_laid n ps h g
 
 inst_laid : (i : InstTree) → IsInst i → IsLaid (inst_pieces i)
 unfolding inst_pieces
@@ -139,7 +165,8 @@ unfolding block_pieces
 block_laid b h = token_laid (label_token b.name) (label_kind b.name h.name) (feed_laid (loose (each_laid _ _ indents_part (all_laid IsInst inst_pieces inst_laid b.insts h.insts))))
 
 param_laid : (p : ParamTree) → IsParam p → IsLaid (param_pieces p)
-param_laid p h = word_laid (type_word p.ty) (type_kind p.ty h.ty) (blank_laid (local_laid p.name h.name nothing_behind))
+unfolding param_pieces
+param_laid p h = spaced_laid p.ty (type_returned p.ty h.ty) (local_laid p.name h.name nothing_behind)
 
 -- what closes the parameters, and the body
 body_laid : (ps bs : List Piece) → IsLaid ps → IsLaid bs → IsLaid ((ps ++ (right_paren ∷ blank ∷ left_brace ∷ line_feed ∷ [])) ++ (bs ++ (right_brace ∷ line_feed ∷ [])))
@@ -153,7 +180,7 @@ unfolding function_pieces
 function_laid f h =
     let params = separated_laid _ _ commas_part (all_laid IsParam param_pieces param_laid f.params h.params) in
     let blocks = separated_laid _ _ feeds_part (all_laid IsBlock block_pieces block_laid f.body h.blocks) in
-    word_laid _ word_kinds.5 (blank_laid (word_laid (type_word f.ret) (type_kind f.ret h.ret) (blank_laid (token_laid (global_token f.name) (global_kind f.name h.name)
+    word_laid _ word_kinds.5 (blank_laid (rw (append_assoc (type_pieces f.ret)) (spaced_laid f.ret h.ret (token_laid (global_token f.name) (global_kind f.name h.name)
     (mark_laid kinds.LeftParen (codes "(") refl bracket_kinds.0 (body_laid _ _ params blocks))))))
 
 -- What is printed are tokens that join.

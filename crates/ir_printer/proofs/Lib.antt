@@ -1,5 +1,6 @@
 pub mod Escapes
 pub mod Names
+pub mod Widths
 pub mod Numbers
 pub mod Numbering
 pub mod Says

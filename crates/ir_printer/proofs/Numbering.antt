@@ -5,7 +5,7 @@ use Rattle.std.specs.List.{AllByRecursion}
 use Rattle.forms.specs.Walk.{walk}
 use Rattle.ir_types.specs.declared.name.Name.{Name}
 use Rattle.ir_types.specs.declared.inst.Ty.{Ty}
-use Rattle.ir_types.specs.declared.inst.Ty.TheVariants.{Int, Void}
+use Rattle.ir_types.specs.declared.inst.Ty.TheVariants.{Int, Ptr, Vector, Void}
 use Rattle.ir_types.specs.Tree.{InstTree, BlockTree, ParamTree, FunctionTree, ModuleTree, WrittenParam, WrittenBlock, WrittenFunction, WrittenModule}
 use Rattle.ir_types.specs.Numbered.{next_after, named_result, numbered_inst, numbered_block, numbered_param, numbered_function, numbered_module}
 use Rattle.ir_shape.specs.Shape.{IsResult, IsInst, IsBlock, IsParam, IsFunction, IsModule}
@@ -34,8 +34,12 @@ walk_same P f step same s (b ∷ more) h =
 same_result : (next : ℕ) (t : Ty) (o : Option Name) → IsResult t o → (after : ℕ) × (named_result next t o ≡ Some (o, after))
 same_result next Void None h = (next, refl)
 same_result next (Int w) None h = absurd h
+same_result next Ptr None h = absurd h
+same_result next (Vector m w) None h = absurd h
 same_result next Void (Some n) h = (next_after next n, refl)
 same_result next (Int w) (Some n) h = (next_after next n, refl)
+same_result next Ptr (Some n) h = (next_after next n, refl)
+same_result next (Vector m w) (Some n) h = (next_after next n, refl)
 
 same_inst : (next : ℕ) (i : InstTree) → IsInst i → (after : ℕ) × (numbered_inst next i ≡ Some (i, after))
 same_inst next i h = let r = same_result next i.ty i.result h.result in (r.0, rw r.1 refl)

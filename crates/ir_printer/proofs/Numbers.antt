@@ -1,6 +1,9 @@
 -- What is printed of a number is that number.
-use Rattle.std.proofs.Common.{◌≡◌, ◌≤◌, ◌<◌, ◌-◌, ◌%◌, ◌^◌, ℕ, true, false, eqb, List, [], ◌∷◌, Some, refl, ◌∙◌, arith, inl, inr}
+use Rattle.std.proofs.Common.{◌≡◌, ◌≤◌, ◌<◌, ◌+◌, ◌-◌, ◌%◌, ◌^◌, ℕ, zero, suc, true, false, eqb, List, [], ◌∷◌, Some, refl, ◌∙◌, arith, inl, inr}
 use Rattle.std.specs.Prelude.{nat_lt, decimal}
+use Rattle.std.proofs.Math.Nat.{mod-eq_of_lt, two-pow-succ}
+use Rattle.std.proofs.Math.Pow.{pow_mono}
+use Rattle.std.proofs.lemmas.Nat.{pow_pos}
 use Rattle.std.proofs.lemmas.Bool.{and_parts}
 use Rattle.std.proofs.lemmas.Bool.Decides.{nat_tests}
 use Rattle.forms.specs.declared.TokenKind.TheVariants.{Number}
@@ -13,27 +16,48 @@ use Rattle.ir_types.specs.Written.{number_of, number_at}
 use Rattle.ir_printer.specs.Texts.{signed_text}
 use Rattle.text_lex.proofs.Decimals.{number_of-decimal}
 
+-- digits have no sign
+pub no_sign : (d : ℕ) (ds : List ℕ) → is_digits (d ∷ ds) ≡ true → eqb d 45 ≡ false
+no_sign d ds h =
+    let a = and_parts (is_digit d) _ h in
+    let e = a.0 in grind (arith, nat_tests)
+
 digits_at : (w : ℕ) (ds : List ℕ) → is_digits ds ≡ true → number_at w ds ≡ number_of ds % 2 ^ w
 digits_at w [] h = absurd cc
-digits_at w (d ∷ ds) h =
-    let a = and_parts (is_digit d) _ h in
-    let q : eqb d 45 ≡ false = let e = a.0 in grind (arith, nat_tests) in
-    rw q refl
+digits_at w (d ∷ ds) h = rw (no_sign d ds h) refl
 
--- numbers of 32 bits are read as they were printed
-pub signed_again : (v : ℕ) → v < 2 ^ 32 → number_at 32 (signed_text 32 v) ≡ v
+-- ---- powers of two
+
+pub two_halves : (w : ℕ) → 0 < w → 2 ^ w ≡ 2 ^ (w - 1) + 2 ^ (w - 1)
+two_halves zero h = absurd (omega arith)
+two_halves (suc w) h = let e : suc w - 1 ≡ w = omega arith in rw e (two-pow-succ w)
+
+-- a number of at most 64 bits has few digits
+few_digits : (w v : ℕ) → w ≤ 64 → v ≤ 2 ^ w → v < 10 ^ 64
+few_digits w v h le = let m : 2 ^ w ≤ 2 ^ 64 = pow_mono h in omega arith
+
+-- ---- numbers are read as they were printed
+
+negative_again : (m v : ℕ) → 0 < v → v < m → (m - (m - v) % m) % m ≡ v
+negative_again m v p lt =
+    let n : m - v < m = omega arith in
+    let back : m - (m - v) ≡ v = omega arith in
+    rw (mod-eq_of_lt n, back) (mod-eq_of_lt lt)
+
+pub signed_again : (w v : ℕ) → 0 < w → w ≤ 64 → v < 2 ^ w → number_at w (signed_text w v) ≡ v
 unfolding signed_text
-signed_again v lt = elim (test (nat_lt v (2 ^ 31))) [
-  | inl y ↦ rw y (digits_at 32 (decimal v) (decimal_digits v (omega arith)) ∙ rw (number_of-decimal v (omega arith)) (omega arith))
+signed_again w v p h lt = elim (test (nat_lt v (2 ^ (w - 1)))) [
+  | inl y ↦ rw y (digits_at w (decimal v) (decimal_digits v (few_digits w v h (omega arith))) ∙ rw (number_of-decimal v (few_digits w v h (omega arith))) (mod-eq_of_lt lt))
   | inr n ↦
-      let ge : 2 ^ 31 ≤ v = grind (arith, nat_tests) in
-      let d = number_of-decimal (2 ^ 32 - v) (omega arith) in
-      rw (n, d) (omega arith)
+      let ge : 2 ^ (w - 1) ≤ v = grind (arith, nat_tests) in
+      let half = pow_pos (w - 1) in
+      let d = number_of-decimal (2 ^ w - v) (few_digits w (2 ^ w - v) h (omega arith)) in
+      rw (n, d) (negative_again (2 ^ w) v (omega arith) lt)
 ]
 
-pub signed_kind : (v : ℕ) → v < 2 ^ 32 → kind_of (signed_text 32 v) ≡ Some Number
+pub signed_kind : (w v : ℕ) → w ≤ 64 → v < 2 ^ w → kind_of (signed_text w v) ≡ Some Number
 unfolding signed_text
-signed_kind v lt = elim (test (nat_lt v (2 ^ 31))) [
-  | inl y ↦ rw y (number_digits (decimal v) (decimal_digits v (omega arith)))
-  | inr n ↦ rw n (number_negative (decimal (2 ^ 32 - v)) (decimal_digits (2 ^ 32 - v) (omega arith)))
+signed_kind w v h lt = elim (test (nat_lt v (2 ^ (w - 1)))) [
+  | inl y ↦ rw y (number_digits (decimal v) (decimal_digits v (few_digits w v h (omega arith))))
+  | inr n ↦ rw n (number_negative (decimal (2 ^ w - v)) (decimal_digits (2 ^ w - v) (few_digits w (2 ^ w - v) h (omega arith))))
 ]

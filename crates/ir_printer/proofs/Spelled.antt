@@ -1,31 +1,38 @@
 -- The tokens that a module is printed as spell the module.
-use Rattle.std.proofs.Common.{◌≡◌, ◌<◌, ◌^◌, ℕ, zero, suc, eqb, List, [], ◌∷◌, ◌++◌, length, Option, Some, None, cond, lit<, lit≤, refl, sym, ap, ◌∙◌, subst, append_assoc, arith, inl, inr}
-use Rattle.std.specs.Prelude.{map, codes, decimal}
+use Rattle.std.proofs.Common.{◌≡◌, ◌<◌, ◌^◌, ◌≤◌, ℕ, zero, suc, true, false, eqb, List, [], ◌∷◌, ◌++◌, length, Option, Some, None, cond, lit<, lit≤, refl, sym, ap, ◌∙◌, append_assoc, arith, inl, inr}
+use Rattle.std.specs.Prelude.{map, codes, find, decimal}
 use Rattle.std.specs.List.{AllByRecursion}
+use Rattle.std.proofs.lemmas.Bool.{eqb-true, eq-eqb}
 use Rattle.std.proofs.lemmas.List.{append-nil}
 use Rattle.std.proofs.lemmas.Fmt.{decimal_digit, decimal_step}
 use Rattle.forms.specs.declared.TokenKind.TheVariants as kinds
 use Rattle.forms.specs.Form.{Lexeme, Form, Spells, pair, many}
+use Rattle.forms.proofs.Begins.{test}
+use Rattle.text_lex.specs.Names.{is_digits}
 use Rattle.text_lex.specs.Layout.{Piece, tokens_of}
+use Rattle.text_lex.proofs.Decimals.{decimal_digits, number_of-decimal}
 use Rattle.text_lex.proofs.Layouts.{tokens_of-append}
 use Rattle.ir_types.specs.declared.name.Name.{Name}
 use Rattle.ir_types.specs.declared.inst.Ty.{Ty}
-use Rattle.ir_types.specs.declared.inst.Ty.TheVariants.{Int, Void}
+use Rattle.ir_types.specs.declared.inst.Ty.TheVariants.{Int, Ptr, Vector, Void}
 use Rattle.ir_types.specs.declared.inst.BinOp.TheVariants.{Add}
 use Rattle.ir_types.specs.declared.inst.Pred.{Pred}
 use Rattle.ir_types.specs.declared.inst.Pred.TheVariants.{Eq, Ne, Ugt, Uge, Ult, Ule, Sgt, Sge, Slt, Sle}
 use Rattle.ir_types.specs.declared.inst.InstKind.{InstKind}
-use Rattle.ir_types.specs.declared.inst.InstKind.TheVariants.{Binary, Compare, Phi, Jump, Branch, Return}
+use Rattle.ir_types.specs.declared.inst.InstKind.TheVariants.{Binary, Compare, Phi, Jump, Branch, Return, ReturnVoid}
 use Rattle.ir_types.specs.declared.opcode.Operation.TheVariants as operations
 use Rattle.ir_types.specs.declared.opcode.Terminator.TheVariants as terminators
+use Rattle.ir_types.specs.Written.{number_of}
 use Rattle.ir_types.specs.Tree.{OperandTree, local, number, InstTree, FunctionTree, ModuleTree}
-use Rattle.ir_types.specs.Grammar.{local_name, global_name, label, int_type, WrittenValue, named, digits, yes, no, value, width_of, operand_at, two_values, binary, predicates, compared, compare, entry_of_phi, phi, target, branch, ret, operation_words, operation, terminator_words, terminator, line, block, parameter, function, module_form}
-use Rattle.ir_shape.specs.Shape.{IsName, IsInt, IsOperand, IsBody, IsInst, IsResult, IsTerminator, EndsOnce, IsBlock, IsParam, IsFunction, IsModule}
+use Rattle.ir_types.specs.Grammar.{local_name, global_name, label, width, lane_counts, lanes_of, vector_type, value_type, return_type, WrittenValue, named, digits, yes, no, value, width_of, bits_for, operand_at, two_values, binary, predicates, compared, compare, entry_of_phi, phi, target, branch, void_tree, ret, operation_words, operation, terminator_words, terminator, line, block, parameter, function, module_form}
+use Rattle.ir_shape.specs.Shape.{IsName, IsOneOf, widths, IsType, IsReturnType, IsOperand, IsBody, IsInst, IsResult, IsTerminator, EndsOnce, IsBlock, IsParam, IsFunction, IsModule}
+use Rattle.ir_shape.proofs.Among.{of_each}
 use Rattle.ir_printer.specs.Texts.{signed_text}
 use Rattle.ir_printer.specs.Print as print
-use Rattle.ir_printer.specs.Print.{token, local_token, global_token, label_token, type_word, number_token, operand_token, operand_pieces, predicate_word, operator_word, with_commas, typed_pieces, target_pieces, targets_pieces, entry_pieces, entries_of, kind_pieces, inst_pieces, block_pieces, param_pieces, function_pieces, module_pieces}
+use Rattle.ir_printer.specs.Print.{token, local_token, global_token, label_token, width_word, type_pieces, number_token, operand_token, operand_pieces, predicate_word, operator_word, with_commas, typed_pieces, target_pieces, targets_pieces, entry_pieces, entries_of, kind_pieces, inst_pieces, block_pieces, param_pieces, function_pieces, module_pieces}
 use Rattle.ir_printer.proofs.Names.{local_again, global_again, label_again}
-use Rattle.ir_printer.proofs.Numbers.{signed_again}
+use Rattle.ir_printer.proofs.Numbers.{no_sign, signed_again}
+use Rattle.ir_printer.proofs.Widths.{type_within}
 use Rattle.ir_printer.proofs.Numbering.{written_param, written_block, written_function, written_of}
 use Rattle.ir_printer.proofs.Says.{Says, pair_says, left_says, right_says, mapped_says, made_says, one_says, word_says, ahead_says, by_word_says, there_says, behind_says, after_mark_says, between_says, EachSays, some_says, commas_says, list_says, separated_says}
 
@@ -43,21 +50,74 @@ label_says : (n : Name) → IsName n → Says label n (label_token n ∷ [])
 unfolding label
 label_says n h = made_says _ n (label_again n h) (one_says kinds.Label _)
 
--- the types that are written
-pub by_type : (P : Ty → Type 0) → P (Int 1) → P (Int 32) → (t : Ty) → IsInt t → P t
-by_type P p q (Int w) (inl e) = subst (λ (n : ℕ). P (Int n)) (sym e) p
-by_type P p q (Int w) (inr e) = subst (λ (n : ℕ). P (Int n)) (sym e) q
-by_type P p q Void h = absurd h
+-- ---- types
 
-one_written : decimal 1 ≡ codes "1"
-one_written = decimal_digit 1 (lit< tt)
+decimals : (decimal 1 ≡ codes "1") × (decimal 8 ≡ codes "8") × (decimal 16 ≡ codes "16") × (decimal 32 ≡ codes "32") × (decimal 64 ≡ codes "64")
+decimals = (
+  decimal_digit 1 (lit< tt),
+  decimal_digit 8 (lit< tt),
+  decimal_step 16 (lit≤ tt) (lit< tt) ∙ ap (λ (ds : List ℕ). ds ++ 54 ∷ []) (decimal_digit 1 (lit< tt)),
+  decimal_step 32 (lit≤ tt) (lit< tt) ∙ ap (λ (ds : List ℕ). ds ++ 50 ∷ []) (decimal_digit 3 (lit< tt)),
+  decimal_step 64 (lit≤ tt) (lit< tt) ∙ ap (λ (ds : List ℕ). ds ++ 52 ∷ []) (decimal_digit 6 (lit< tt)),
+)
 
-wide_written : decimal 32 ≡ codes "32"
-wide_written = decimal_step 32 (lit≤ tt) (lit< tt) ∙ ap (λ (ds : List ℕ). ds ++ 50 ∷ []) (decimal_digit 3 (lit< tt))
+width_says : (w : ℕ) → IsOneOf widths w → Says width w (token kinds.Word (width_word w) ∷ [])
+unfolding width width_word
+width_says w h = of_each (λ n. Says width n (token kinds.Word (width_word n) ∷ [])) widths w (
+  rw (decimals.0) (left_says (word_says _ 1)),
+  (
+    rw (decimals.1) (right_says (left_says (word_says _ 8))),
+    (
+      rw (decimals.2) (right_says (right_says (left_says (word_says _ 16)))),
+      (
+        rw (decimals.3) (right_says (right_says (right_says (left_says (word_says _ 32))))),
+        (rw (decimals.4) (right_says (right_says (right_says (right_says (word_says _ 64))))), tt),
+      ),
+    ),
+  ),
+) h
 
-type_says : (t : Ty) → IsInt t → Says int_type t (token kinds.Word (type_word t) ∷ [])
-unfolding int_type type_word
-type_says t h = by_type (λ u. Says int_type u (token kinds.Word (type_word u) ∷ [])) (rw one_written (left_says (word_says _ (Int 1)))) (rw wide_written (right_says (word_says _ (Int 32)))) t h
+-- a number that is one of some is found among them
+found_again : (xs : List ℕ) (n : ℕ) → IsOneOf xs n → find (λ m. eqb m n) xs ≡ Some n
+found_again [] n h = absurd h
+found_again (x ∷ xs) n h = elim (test (eqb x n)) [
+  | inl y ↦ rw y (ap Some (eqb-true x n y))
+  | inr other ↦ rw other (found_again xs n (later h other))
+]
+  where
+    later : IsOneOf (x ∷ xs) n → eqb x n ≡ false → IsOneOf xs n
+    later (inl e) other = absurd (let same = eq-eqb x n (sym e) in cc)
+    later (inr g) other = g
+
+pub few_lanes : (n : ℕ) → IsOneOf lane_counts n → n < 10 ^ 64
+few_lanes n h = let m : n ≤ 512 = of_each (λ k. k ≤ 512) lane_counts n (lit≤ tt, (lit≤ tt, (lit≤ tt, (lit≤ tt, (lit≤ tt, (lit≤ tt, (lit≤ tt, (lit≤ tt, (lit≤ tt, tt))))))))) h in omega arith
+
+digits_lanes : (ds : List ℕ) → is_digits ds ≡ true → lanes_of ds ≡ find (λ m. eqb m (number_of ds)) lane_counts
+digits_lanes [] h = absurd cc
+digits_lanes (d ∷ ds) h = rw (no_sign d ds h) refl
+
+lanes_again : (n : ℕ) → IsOneOf lane_counts n → lanes_of (decimal n) ≡ Some n
+lanes_again n h =
+    digits_lanes (decimal n) (decimal_digits n (few_lanes n h)) ∙ rw (number_of-decimal n (few_lanes n h)) (found_again lane_counts n h)
+
+type_says : (t : Ty) → IsType t → Says value_type t (tokens_of (type_pieces t))
+unfolding value_type vector_type type_pieces
+type_says (Int w) h = left_says (mapped_says w _ refl (width_says w h))
+type_says Ptr h = right_says (left_says (word_says _ Ptr))
+type_says (Vector n w) h =
+    right_says (right_says (made_says (decimal n, w) _ (rw (lanes_again n h.0) refl)
+    (between_says (token kinds.Number (decimal n) ∷ token kinds.Word (codes "x") ∷ token kinds.Word (width_word w) ∷ []) kinds.Less kinds.Greater _ _
+    (pair_says (token kinds.Number (decimal n) ∷ []) _ (one_says kinds.Number _) (behind_says (codes "x") (width_says w h.1))))))
+type_says Void h = absurd h
+
+return_type_says : (t : Ty) → IsReturnType t → Says return_type t (tokens_of (type_pieces t))
+unfolding return_type type_pieces
+return_type_says (Int w) h = left_says (type_says (Int w) h)
+return_type_says Ptr h = left_says (type_says Ptr h)
+return_type_says (Vector n w) h = left_says (type_says (Vector n w) h)
+return_type_says Void h = right_says (word_says _ Void)
+
+-- ---- values
 
 -- how an operand is written
 written_number : Ty → ℕ → WrittenValue
@@ -67,44 +127,60 @@ abbrev written_value : Ty → OperandTree → WrittenValue
 written_value t (local n) = named n
 written_value t (number v) = written_number t v
 
-number_says : (t : Ty) → IsInt t → (v : ℕ) → v < 2 ^ width_of t → Says value (written_number t v) (number_token t v ∷ []) × (operand_at t (written_number t v) ≡ number v)
-unfolding written_number number_token value
-number_says t h = by_type (λ u. (v : ℕ) → v < 2 ^ width_of u → Says value (written_number u v) (number_token u v ∷ []) × (operand_at u (written_number u v) ≡ number v)) bit wide t h
-  where
-    bit : (v : ℕ) → v < 2 ^ 1 → Says value (written_number (Int 1) v) (number_token (Int 1) v ∷ []) × (operand_at (Int 1) (written_number (Int 1) v) ≡ number v)
-    bit zero lt = (right_says (right_says (right_says (word_says _ no))), refl)
-    bit (suc zero) lt = (right_says (right_says (left_says (word_says _ yes))), refl)
-    bit (suc (suc v)) lt = absurd (omega arith)
+-- the written value says the number that is printed so
+record SaysNumber (t : Ty) (v : ℕ) (written : WrittenValue) (printed : Lexeme) : Type 0 where
+  says : Says value written (printed ∷ [])
+  is : operand_at t written ≡ number v
 
-    wide : (v : ℕ) → v < 2 ^ 32 → Says value (written_number (Int 32) v) (number_token (Int 32) v ∷ []) × (operand_at (Int 32) (written_number (Int 32) v) ≡ number v)
-    wide v lt = (right_says (left_says (mapped_says _ _ refl (one_says kinds.Number _))), ap number (signed_again v lt))
+bit_says : (t : Ty) (v : ℕ) → v < 2 → SaysNumber t v (cond (eqb v 1) yes no) (cond (eqb v 1) (token kinds.Word (codes "true")) (token kinds.Word (codes "false")))
+unfolding value
+bit_says t zero lt = record { says = right_says (right_says (right_says (word_says _ no))); is = refl }
+bit_says t (suc zero) lt = record { says = right_says (right_says (left_says (word_says _ yes))); is = refl }
+bit_says t (suc (suc v)) lt = absurd (omega arith)
 
-value_says : (t : Ty) (a : OperandTree) → IsInt t → IsOperand t a → Says value (written_value t a) (operand_token t a ∷ [])
+signed_says : (t : Ty) → IsType t → (v : ℕ) → v < 2 ^ width_of t → SaysNumber t v (digits (signed_text (width_of t) v)) (token kinds.Number (signed_text (width_of t) v))
+unfolding value
+signed_says t h v lt = let w = type_within t h in record {
+  says = right_says (left_says (mapped_says _ _ refl (one_says kinds.Number _)));
+  is = ap number (signed_again (width_of t) v w.0 w.1 lt);
+}
+
+number_says : (t : Ty) → IsType t → (v : ℕ) → v < 2 ^ width_of t → SaysNumber t v (written_number t v) (number_token t v)
+unfolding written_number number_token
+number_says t h v lt = elim (test (eqb (width_of t) 1)) [
+  | inl y ↦ let l : v < 2 = rw (eqb-true (width_of t) 1 y) at lt in rw y (bit_says t v l)
+  | inr n ↦ rw n (signed_says t h v lt)
+]
+
+value_says : (t : Ty) (a : OperandTree) → IsType t → IsOperand t a → Says value (written_value t a) (operand_token t a ∷ [])
 unfolding value
 value_says t (local n) i h = left_says (mapped_says n _ refl (local_says n h))
-value_says t (number v) i h = (number_says t i v h).0
+value_says t (number v) i h = (number_says t i v h).says
 
-value_is : (t : Ty) (a : OperandTree) → IsInt t → IsOperand t a → operand_at t (written_value t a) ≡ a
+value_is : (t : Ty) (a : OperandTree) → IsType t → IsOperand t a → operand_at t (written_value t a) ≡ a
 value_is t (local n) i h = refl
-value_is t (number v) i h = (number_says t i v h).1
+value_is t (number v) i h = (number_says t i v h).is
 
 -- ---- instructions
 
 abbrev bare : InstKind → Ty → List OperandTree → List Name → InstTree
 bare k t args labels = record { kind = k; ty = t; args = args; labels = labels; result = None }
 
-two_says : (t : Ty) (a b : OperandTree) → IsInt t → IsOperand t a → IsOperand t b → Says (pair int_type two_values) (t, (written_value t a, written_value t b)) (tokens_of (typed_pieces t (a ∷ b ∷ [])))
-two_says t a b i ha hb = pair_says (token kinds.Word (type_word t) ∷ []) _ (type_says t i) (pair_says (operand_token t a ∷ []) _ (value_says t a i ha) (after_mark_says kinds.Comma _ (value_says t b i hb)))
+typed_tokens : (t : Ty) (args : List OperandTree) → tokens_of (typed_pieces t args) ≡ tokens_of (type_pieces t) ++ tokens_of (with_commas (map (operand_pieces t) args))
+typed_tokens t args = tokens_of-append (type_pieces t) _
 
-binary_says : (t : Ty) (a b : OperandTree) → IsInt t → IsOperand t a → IsOperand t b → Says (binary Add) (bare (Binary Add) t (a ∷ b ∷ []) []) (tokens_of (typed_pieces t (a ∷ b ∷ [])))
+two_says : (t : Ty) (a b : OperandTree) → IsType t → IsOperand t a → IsOperand t b → Says (pair value_type two_values) (t, (written_value t a, written_value t b)) (tokens_of (typed_pieces t (a ∷ b ∷ [])))
+two_says t a b i ha hb = rw (typed_tokens t (a ∷ b ∷ [])) (pair_says (tokens_of (type_pieces t)) _ (type_says t i) (pair_says (operand_token t a ∷ []) _ (value_says t a i ha) (after_mark_says kinds.Comma _ (value_says t b i hb))))
+
+binary_says : (t : Ty) (a b : OperandTree) → IsType t → IsOperand t a → IsOperand t b → Says (binary Add) (bare (Binary Add) t (a ∷ b ∷ []) []) (tokens_of (typed_pieces t (a ∷ b ∷ [])))
 unfolding binary
 binary_says t a b i ha hb = mapped_says _ _ (rw (value_is t a i ha, value_is t b i hb) refl) (two_says t a b i ha hb)
 
-compared_says : (p : Pred) (t : Ty) (a b : OperandTree) → IsInt t → IsOperand t a → IsOperand t b → Says (compared p) (bare (Compare p t) (Int 1) (a ∷ b ∷ []) []) (tokens_of (typed_pieces t (a ∷ b ∷ [])))
+compared_says : (p : Pred) (t : Ty) (a b : OperandTree) → IsType t → IsOperand t a → IsOperand t b → Says (compared p) (bare (Compare p t) (bits_for t) (a ∷ b ∷ []) []) (tokens_of (typed_pieces t (a ∷ b ∷ [])))
 unfolding compared
 compared_says p t a b i ha hb = mapped_says _ _ (rw (value_is t a i ha, value_is t b i hb) refl) (two_says t a b i ha hb)
 
-compare_says : (p : Pred) (t : Ty) (a b : OperandTree) → IsInt t → IsOperand t a → IsOperand t b → Says compare (bare (Compare p t) (Int 1) (a ∷ b ∷ []) []) (token kinds.Word (predicate_word p) ∷ tokens_of (typed_pieces t (a ∷ b ∷ [])))
+compare_says : (p : Pred) (t : Ty) (a b : OperandTree) → IsType t → IsOperand t a → IsOperand t b → Says compare (bare (Compare p t) (bits_for t) (a ∷ b ∷ []) []) (token kinds.Word (predicate_word p) ∷ tokens_of (typed_pieces t (a ∷ b ∷ [])))
 unfolding compare predicates predicate_word
 compare_says Eq t a b i ha hb = by_word_says _ Eq refl (compared_says Eq t a b i ha hb)
 compare_says Ne t a b i ha hb = by_word_says _ Ne refl (compared_says Ne t a b i ha hb)
@@ -140,14 +216,14 @@ entries_of_pairs t (a ∷ args) (l ∷ labels) = ap (λ (es : List (List Piece))
 abbrev written_entry : Ty → OperandTree × Name → WrittenValue × Name
 written_entry t e = (written_value t e.0, e.1)
 
-entry_says : (t : Ty) → IsInt t → EachSays entry_of_phi (written_entry t) (λ e. entry_pieces t e.0 e.1) (IsPair t)
+entry_says : (t : Ty) → IsType t → EachSays entry_of_phi (written_entry t) (λ e. entry_pieces t e.0 e.1) (IsPair t)
 unfolding entry_of_phi
 entry_says t i = record {
   one = λ e h. between_says (operand_token t e.0 ∷ token kinds.Comma (44 ∷ []) ∷ local_token e.1 ∷ []) kinds.LeftBracket kinds.RightBracket _ _
       (pair_says (operand_token t e.0 ∷ []) _ (value_says t e.0 i h.0) (after_mark_says kinds.Comma _ (local_says e.1 h.1)));
 }
 
-args_again : (t : Ty) (args : List OperandTree) (labels : List Name) → IsInt t → length args ≡ length labels → AllByRecursion (IsOperand t) args → map (λ e. operand_at t e.0) (map (written_entry t) (paired args labels)) ≡ args
+args_again : (t : Ty) (args : List OperandTree) (labels : List Name) → IsType t → length args ≡ length labels → AllByRecursion (IsOperand t) args → map (λ e. operand_at t e.0) (map (written_entry t) (paired args labels)) ≡ args
 args_again t [] labels i e h = refl
 args_again t (a ∷ args) [] i e h = absurd (omega arith)
 args_again t (a ∷ args) (l ∷ labels) i e h = let first = value_is t a i h.0 in let rest = args_again t args labels i (omega arith) h.1 in (cc)
@@ -163,11 +239,11 @@ pairs_filled [] labels e lt = absurd (omega arith)
 pairs_filled (a ∷ args) [] e lt = absurd (omega arith)
 pairs_filled (a ∷ args) (l ∷ labels) e lt = omega arith
 
-phi_says : (t : Ty) (args : List OperandTree) (labels : List Name) → IsInt t → AllByRecursion (IsOperand t) args → AllByRecursion IsName labels → length args ≡ length labels → 0 < length args → Says phi (bare Phi t args labels) (token kinds.Word (type_word t) ∷ tokens_of (with_commas (entries_of t args labels)))
+phi_says : (t : Ty) (args : List OperandTree) (labels : List Name) → IsType t → AllByRecursion (IsOperand t) args → AllByRecursion IsName labels → length args ≡ length labels → 0 < length args → Says phi (bare Phi t args labels) (tokens_of (type_pieces t) ++ tokens_of (with_commas (entries_of t args labels)))
 unfolding phi
 phi_says t args labels i h g e lt =
     mapped_says (t, map (written_entry t) (paired args labels)) _ (rw (args_again t args labels i e h, labels_again t args labels e) refl)
-    (pair_says (token kinds.Word (type_word t) ∷ []) _ (type_says t i)
+    (pair_says (tokens_of (type_pieces t)) _ (type_says t i)
     (rw (entries_of_pairs t args labels) (commas_says (entry_says t i) (paired args labels) (pairs_filled args labels e lt) (pairs_known t args labels h g))))
 
 -- ---- operations and terminators
@@ -177,10 +253,12 @@ unfolding operation operation_words operator_word
 operation_says (Binary Add) t (a ∷ b ∷ []) [] h g = by_word_says _ operations.Add refl (binary_says t a b h.at h.args.0 h.args.1.0)
 operation_says (Compare p u) t (a ∷ b ∷ []) [] h g =
     rw (h.shape.2) (by_word_says _ operations.Icmp refl (compare_says p u a b h.at h.args.0 h.args.1.0))
-operation_says Phi t args labels h g = by_word_says _ operations.Phi refl (phi_says t args labels h.at h.args h.labels h.shape.0 h.shape.1)
+operation_says Phi t args labels h g =
+    rw (tokens_of-append (type_pieces t) (print.blank ∷ with_commas (entries_of t args labels))) (by_word_says _ operations.Phi refl (phi_says t args labels h.at h.args h.labels h.shape.0 h.shape.1))
 operation_says Jump t args labels h g = absurd (g tt)
 operation_says Branch t args labels h g = absurd (g tt)
 operation_says (Return u) t args labels h g = absurd (g tt)
+operation_says ReturnVoid t args labels h g = absurd (g tt)
 operation_says (Binary Add) t args labels h g = absurd (omega (arith, h.shape.0, h.shape.1))
 operation_says (Compare p u) t args labels h g = absurd (omega (arith, h.shape.0, h.shape.1))
 
@@ -189,15 +267,19 @@ unfolding target
 target_says l h = behind_says (codes "label") (local_says l h)
 
 branch_says : (a : OperandTree) (l m : Name) → IsOperand (Int 1) a → IsName l → IsName m → Says branch (bare Branch Void (a ∷ []) (l ∷ m ∷ [])) (tokens_of (typed_pieces (Int 1) (a ∷ []) ++ (print.comma ∷ print.blank ∷ targets_pieces (l ∷ m ∷ []))))
-unfolding branch type_word
+unfolding branch type_pieces width_word
 branch_says a l m h hl hm =
     right_says (mapped_says (written_value (Int 1) a, (l, m)) _ (rw (value_is (Int 1) a (inl refl) h) refl)
-    (rw one_written (behind_says (codes "i1") (pair_says (operand_token (Int 1) a ∷ []) _ (value_says (Int 1) a (inl refl) h)
+    (rw (decimals.0) (behind_says (codes "i1") (pair_says (operand_token (Int 1) a ∷ []) _ (value_says (Int 1) a (inl refl) h)
     (pair_says (token kinds.Comma (44 ∷ []) ∷ tokens_of (target_pieces l)) _ (after_mark_says kinds.Comma (44 ∷ []) (target_says l hl)) (after_mark_says kinds.Comma (44 ∷ []) (target_says m hm)))))))
 
-return_says : (t : Ty) (a : OperandTree) → IsInt t → IsOperand t a → Says ret (bare (Return t) Void (a ∷ []) []) (tokens_of (typed_pieces t (a ∷ [])))
+return_says : (t : Ty) (a : OperandTree) → IsType t → IsOperand t a → Says ret (bare (Return t) Void (a ∷ []) []) (tokens_of (typed_pieces t (a ∷ [])))
 unfolding ret
-return_says t a i h = mapped_says _ _ (rw (value_is t a i h) refl) (pair_says (token kinds.Word (type_word t) ∷ []) _ (type_says t i) (value_says t a i h))
+return_says t a i h = left_says (mapped_says (t, written_value t a) _ (rw (value_is t a i h) refl) (rw (typed_tokens t (a ∷ [])) (pair_says (tokens_of (type_pieces t)) _ (type_says t i) (value_says t a i h))))
+
+void_says : Says ret (bare ReturnVoid Void [] []) (token kinds.Word (codes "void") ∷ [])
+unfolding ret
+void_says = right_says (word_says _ void_tree)
 
 terminator_says : (k : InstKind) (t : Ty) (args : List OperandTree) (labels : List Name) → IsBody (bare k t args labels) → IsTerminator k → Says terminator (bare k t args labels) (tokens_of (kind_pieces k t args labels))
 unfolding terminator terminator_words branch
@@ -207,16 +289,23 @@ terminator_says Phi t args labels h g = absurd g
 terminator_says Jump t [] (l ∷ []) h g = rw (h.shape.2) (by_word_says _ terminators.Br refl (left_says (mapped_says l _ refl (target_says l h.labels.0))))
 terminator_says Branch t (a ∷ []) (l ∷ m ∷ []) h g = rw (h.shape.2) (by_word_says _ terminators.Br refl (branch_says a l m h.args.0 h.labels.0 h.labels.1.0))
 terminator_says (Return u) t (a ∷ []) [] h g = rw (h.shape.2) (by_word_says _ terminators.Ret refl (return_says u a h.at h.args.0))
+terminator_says ReturnVoid t [] [] h g = rw (h.shape.2) (by_word_says _ terminators.Ret refl void_says)
 terminator_says Jump t args labels h g = absurd (omega (arith, h.shape.0, h.shape.1))
 terminator_says Branch t args labels h g = absurd (omega (arith, h.shape.0, h.shape.1))
 terminator_says (Return u) t args labels h g = absurd (omega (arith, h.shape.0, h.shape.1))
+terminator_says ReturnVoid t args labels h g = absurd (omega (arith, h.shape.0, h.shape.1))
 
 -- ---- lines
 
+named_says : (k : InstKind) (t : Ty) (args : List OperandTree) (labels : List Name) (f : Form InstTree) (ts : List Lexeme) → Says f (bare k t args labels) ts → (n : Name) → IsName n → Says (line f) (record { kind = k; ty = t; args = args; labels = labels; result = Some n }) (tokens_of (print.result_pieces (Some n)) ++ ts)
+named_says k t args labels f ts p n h = left_says (made_says _ _ (rw (local_again n h) refl) (ahead_says kinds.Local _ (ahead_says kinds.Equal _ p)))
+
 with_name : (k : InstKind) (t : Ty) (args : List OperandTree) (labels : List Name) (f : Form InstTree) (ts : List Lexeme) → Says f (bare k t args labels) ts → (o : Option Name) → IsResult t o → Says (line f) (record { kind = k; ty = t; args = args; labels = labels; result = o }) (tokens_of (print.result_pieces o) ++ ts)
 with_name k t args labels f ts p None h = right_says (mapped_says _ _ refl p)
-with_name k (Int w) args labels f ts p (Some n) h = left_says (made_says _ _ (rw (local_again n h) refl) (ahead_says kinds.Local _ (ahead_says kinds.Equal _ p)))
-with_name k Void args labels f ts p (Some n) h = left_says (made_says _ _ (rw (local_again n h) refl) (ahead_says kinds.Local _ (ahead_says kinds.Equal _ p)))
+with_name k (Int w) args labels f ts p (Some n) h = named_says k (Int w) args labels f ts p n h
+with_name k Ptr args labels f ts p (Some n) h = named_says k Ptr args labels f ts p n h
+with_name k (Vector m w) args labels f ts p (Some n) h = named_says k (Vector m w) args labels f ts p n h
+with_name k Void args labels f ts p (Some n) h = named_says k Void args labels f ts p n h
 
 line_tokens : (i : InstTree) → tokens_of (inst_pieces i) ≡ tokens_of (print.result_pieces i.result) ++ tokens_of (kind_pieces i.kind i.ty i.args i.labels)
 unfolding inst_pieces
@@ -277,8 +366,10 @@ block_says = record {
 }
 
 param_says : EachSays parameter written_param param_pieces IsParam
-unfolding parameter
-param_says = record { one = λ p h. mapped_says (p.ty, Some p.name) _ refl (pair_says (token kinds.Word (type_word p.ty) ∷ []) _ (type_says p.ty h.ty) (there_says (local_says p.name h.name))) }
+unfolding parameter param_pieces
+param_says = record {
+  one = λ p h. mapped_says (p.ty, Some p.name) _ refl (rw (tokens_of-append (type_pieces p.ty) (print.blank ∷ _)) (pair_says (tokens_of (type_pieces p.ty)) _ (type_says p.ty h.ty) (there_says (local_says p.name h.name))));
+}
 
 abbrev params_tokens : FunctionTree → List Lexeme
 params_tokens f = tokens_of (with_commas (map param_pieces f.params))
@@ -298,15 +389,23 @@ parts_tokens : (ps bs : List Piece) → tokens_of ((ps ++ (print.right_paren ∷
 parts_tokens ps bs =
     simp (tokens_of-append, append_assoc)
 
-function_tokens : (f : FunctionTree) → tokens_of (function_pieces f) ≡ token kinds.Word (codes "define") ∷ token kinds.Word (type_word f.ret) ∷ global_token f.name ∷ (in_parens (params_tokens f) ++ in_braces (blocks_tokens f))
+named_tokens : (f : FunctionTree) → tokens_of (print.name_pieces f ++ (print.separated (print.line_feed ∷ []) (map block_pieces f.body) ++ (print.right_brace ∷ print.line_feed ∷ []))) ≡ global_token f.name ∷ (in_parens (params_tokens f) ++ in_braces (blocks_tokens f))
+named_tokens f = ap (λ (ts : List Lexeme). global_token f.name ∷ token kinds.LeftParen (codes "(") ∷ ts) (parts_tokens (with_commas (map param_pieces f.params)) (print.separated (print.line_feed ∷ []) (map block_pieces f.body)))
+
+function_tokens : (f : FunctionTree) → tokens_of (function_pieces f) ≡ token kinds.Word (codes "define") ∷ (tokens_of (type_pieces f.ret) ++ global_token f.name ∷ (in_parens (params_tokens f) ++ in_braces (blocks_tokens f)))
 unfolding function_pieces
-function_tokens f = ap (λ (ts : List Lexeme). token kinds.Word (codes "define") ∷ token kinds.Word (type_word f.ret) ∷ global_token f.name ∷ token kinds.LeftParen (codes "(") ∷ ts) (parts_tokens (with_commas (map param_pieces f.params)) (print.separated (print.line_feed ∷ []) (map block_pieces f.body)))
+function_tokens f =
+    let behind = print.separated (print.line_feed ∷ []) (map block_pieces f.body) ++ (print.right_brace ∷ print.line_feed ∷ []) in
+    ap (λ (ts : List Lexeme). token kinds.Word (codes "define") ∷ ts)
+    (ap tokens_of (append_assoc (type_pieces f.ret) (print.blank ∷ print.name_pieces f) behind)
+    ∙ tokens_of-append (type_pieces f.ret) (print.blank ∷ (print.name_pieces f ++ behind))
+    ∙ ap (λ (ts : List Lexeme). tokens_of (type_pieces f.ret) ++ ts) (named_tokens f))
 
 function_says : EachSays function written_function function_pieces IsFunction
 unfolding function
 function_says = record {
   one = λ f h. rw (function_tokens f) (mapped_says (f.ret, (f.name, (map written_param f.params, map written_block f.body))) _ refl
-      (behind_says (codes "define") (pair_says (token kinds.Word (type_word f.ret) ∷ []) _ (type_says f.ret h.ret) (pair_says (global_token f.name ∷ []) _ (global_says f.name h.name)
+      (behind_says (codes "define") (pair_says (tokens_of (type_pieces f.ret)) _ (return_type_says f.ret h.ret) (pair_says (global_token f.name ∷ []) _ (global_says f.name h.name)
       (pair_says (in_parens (params_tokens f)) _ (between_says (params_tokens f) kinds.LeftParen kinds.RightParen _ _ (list_says param_says f.params h.params))
       (between_says (blocks_tokens f) kinds.LeftBrace kinds.RightBrace _ _ (some_says (10 ∷ []) block_says f.body h.some h.blocks)))))));
 }

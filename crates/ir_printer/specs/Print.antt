@@ -6,13 +6,13 @@ use Rattle.forms.specs.Form.{Lexeme}
 use Rattle.text_lex.specs.Layout.{Piece, gap, lexeme}
 use Rattle.ir_types.specs.declared.name.Name.{Name}
 use Rattle.ir_types.specs.declared.inst.Ty.{Ty}
-use Rattle.ir_types.specs.declared.inst.Ty.TheVariants.{Int, Void}
+use Rattle.ir_types.specs.declared.inst.Ty.TheVariants.{Int, Ptr, Vector, Void}
 use Rattle.ir_types.specs.declared.inst.BinOp.{BinOp}
 use Rattle.ir_types.specs.declared.inst.BinOp.TheVariants.{Add}
 use Rattle.ir_types.specs.declared.inst.Pred.{Pred}
 use Rattle.ir_types.specs.declared.inst.Pred.TheVariants.{Eq, Ne, Ugt, Uge, Ult, Ule, Sgt, Sge, Slt, Sle}
 use Rattle.ir_types.specs.declared.inst.InstKind.{InstKind}
-use Rattle.ir_types.specs.declared.inst.InstKind.TheVariants.{Binary, Compare, Phi, Jump, Branch, Return}
+use Rattle.ir_types.specs.declared.inst.InstKind.TheVariants.{Binary, Compare, Phi, Jump, Branch, Return, ReturnVoid}
 use Rattle.ir_types.specs.Grammar.{width_of}
 use Rattle.ir_types.specs.Tree.{OperandTree, local, number, InstTree, BlockTree, ParamTree, FunctionTree, ModuleTree}
 use Rattle.ir_printer.specs.Texts.{name_text, signed_text}
@@ -50,6 +50,12 @@ left_brace = lexeme (token kinds.LeftBrace (codes "{"))
 
 abbrev pub right_brace : Piece
 right_brace = lexeme (token kinds.RightBrace (codes "}"))
+
+abbrev pub less : Piece
+less = lexeme (token kinds.Less (codes "<"))
+
+abbrev pub greater : Piece
+greater = lexeme (token kinds.Greater (codes ">"))
 
 -- ---- white space
 
@@ -93,12 +99,18 @@ global_token n = token kinds.Global (64 ∷ name_text n)
 abbrev pub label_token : Name → Lexeme
 label_token n = token kinds.Label (name_text n ++ 58 ∷ [])
 
--- the word of a type
-unfoldable pub type_word : Ty → List ℕ
-type_word (Int w) = 105 ∷ decimal w
-type_word Void = codes "void"
+-- the word of an integer's type
+unfoldable pub width_word : ℕ → List ℕ
+width_word w = 105 ∷ decimal w
 
--- a number of one bit is `true` or `false`
+-- a type, with spaces between the parts of a vector's
+unfoldable pub type_pieces : Ty → List Piece
+type_pieces (Int w) = word (width_word w) ∷ []
+type_pieces Ptr = word (codes "ptr") ∷ []
+type_pieces (Vector n w) = less ∷ lexeme (token kinds.Number (decimal n)) ∷ blank ∷ word (codes "x") ∷ blank ∷ word (width_word w) ∷ greater ∷ []
+type_pieces Void = word (codes "void") ∷ []
+
+-- a number at a type: `true` or `false` at i1, and else the signed number of the type's bits
 unfoldable pub number_token : Ty → ℕ → Lexeme
 number_token t v =
     if width_of t == 1 then (if v == 1 then token kinds.Word (codes "true") else token kinds.Word (codes "false")) else token kinds.Number (signed_text (width_of t) v)
@@ -133,7 +145,7 @@ predicate_word Sle = codes "sle"
 
 -- the type, and the operands at it
 abbrev pub typed_pieces : Ty → List OperandTree → List Piece
-typed_pieces t args = blank ∷ word (type_word t) ∷ blank ∷ with_commas (map (operand_pieces t) args)
+typed_pieces t args = blank ∷ (type_pieces t ++ (blank ∷ with_commas (map (operand_pieces t) args)))
 
 -- label %name
 abbrev pub target_pieces : Name → List Piece
@@ -157,10 +169,11 @@ entries_of t args [] = []
 abbrev pub kind_pieces : InstKind → Ty → List OperandTree → List Name → List Piece
 kind_pieces (Binary op) t args labels = word (operator_word op) ∷ typed_pieces t args
 kind_pieces (Compare p u) t args labels = word (codes "icmp") ∷ blank ∷ word (predicate_word p) ∷ typed_pieces u args
-kind_pieces Phi t args labels = word (codes "phi") ∷ blank ∷ word (type_word t) ∷ blank ∷ with_commas (entries_of t args labels)
+kind_pieces Phi t args labels = word (codes "phi") ∷ blank ∷ (type_pieces t ++ (blank ∷ with_commas (entries_of t args labels)))
 kind_pieces Jump t args labels = word (codes "br") ∷ blank ∷ targets_pieces labels
 kind_pieces Branch t args labels = word (codes "br") ∷ (typed_pieces (Int 1) args ++ (comma ∷ blank ∷ targets_pieces labels))
 kind_pieces (Return u) t args labels = word (codes "ret") ∷ typed_pieces u args
+kind_pieces ReturnVoid t args labels = word (codes "ret") ∷ blank ∷ word (codes "void") ∷ []
 
 -- %name =
 abbrev pub result_pieces : Option Name → List Piece
@@ -178,13 +191,17 @@ unfoldable pub block_pieces : BlockTree → List Piece
 block_pieces b = lexeme (label_token b.name) ∷ line_feed ∷ each_behind (indent ∷ []) (map inst_pieces b.insts)
 
 -- T %name
-abbrev pub param_pieces : ParamTree → List Piece
-param_pieces p = word (type_word p.ty) ∷ blank ∷ lexeme (local_token p.name) ∷ []
+unfoldable pub param_pieces : ParamTree → List Piece
+param_pieces p = type_pieces p.ty ++ (blank ∷ lexeme (local_token p.name) ∷ [])
+
+-- @name(T %name, ..) {
+abbrev pub name_pieces : FunctionTree → List Piece
+name_pieces f =
+    lexeme (global_token f.name) ∷ left_paren ∷ (with_commas (map param_pieces f.params) ++ (right_paren ∷ blank ∷ left_brace ∷ line_feed ∷ []))
 
 -- define T @name(T %name, ..) {
 abbrev pub head_pieces : FunctionTree → List Piece
-head_pieces f =
-    word (codes "define") ∷ blank ∷ word (type_word f.ret) ∷ blank ∷ lexeme (global_token f.name) ∷ left_paren ∷ (with_commas (map param_pieces f.params) ++ (right_paren ∷ blank ∷ left_brace ∷ line_feed ∷ []))
+head_pieces f = word (codes "define") ∷ blank ∷ (type_pieces f.ret ++ (blank ∷ name_pieces f))
 
 -- the head, the blocks with empty lines between them, and the last brace on a line
 unfoldable pub function_pieces : FunctionTree → List Piece

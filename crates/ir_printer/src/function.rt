@@ -54,6 +54,7 @@ fn put_blocks(out: &mut Vec<u8>, names: &Names, blocks: &[Block]) -> Result<(), 
     Ok(())
 }
 
+#[tactic(auto, unfolding(crate::specs::Print::param_pieces), using(crate::proofs::Appended::text_of_both, std::proofs::lemmas::Grind::common_steps))]
 fn put_param(out: &mut Vec<u8>, names: &Names, param: Param) -> Result<(), AllocError>
     requires { IsParam (param_in names.now param) }
     ensures { OnOk result (out.new.items ≡ out.old.items
@@ -64,6 +65,7 @@ fn put_param(out: &mut Vec<u8>, names: &Names, param: Param) -> Result<(), Alloc
     put_local(out, names, param.name)
 }
 
+#[tactic(auto, using(crate::proofs::Appended::text_of_both, std::proofs::lemmas::Grind::common_steps))]
 fn put_params(out: &mut Vec<u8>, names: &Names, params: &[Param]) -> Result<(), AllocError>
     requires { AllByRecursion IsParam (map (param_in names.now) params.now) }
     ensures { OnOk result (out.new.items ≡ out.old.items

@@ -5,7 +5,7 @@ ghost use Rattle.std.specs.List.{AllByRecursion};
 ghost use Rattle.std.specs.Option.{option_map};
 ghost use Rattle.text_lex.specs.Layout.{text_of};
 ghost use Rattle.ir_types.specs.Denotes.{name_in, operand_in, inst_in};
-ghost use Rattle.ir_shape.specs.Shape.{IsName, IsInt, IsOperand, IsBody, IsResult, IsInst};
+ghost use Rattle.ir_shape.specs.Shape.{IsName, IsType, IsOperand, IsBody, IsResult, IsInst};
 ghost use Rattle.ir_printer.specs.Print.{predicate_word, operator_word, target_pieces, targets_pieces, entry_pieces, entries_of, with_commas, kind_pieces, result_pieces, inst_pieces};
 
 use crate::value::{put_local, put_operand, put_type, put_typed};
@@ -71,7 +71,7 @@ fn put_entry(
     operand: Operand,
     label: ValueId,
 ) -> Result<(), AllocError>
-    requires int { IsInt ty }
+    requires typed { IsType ty }
     requires operand { IsOperand ty (operand_in names.now operand) }
     requires label { IsName (name_in names.now label) }
     ensures { OnOk result (out.new.items ≡ out.old.items
@@ -91,7 +91,7 @@ fn put_entries(
     operands: &[Operand],
     labels: &[ValueId],
 ) -> Result<(), AllocError>
-    requires int { IsInt ty }
+    requires typed { IsType ty }
     requires operands { AllByRecursion (IsOperand ty) (map (operand_in names.now) operands.now) }
     requires labels { AllByRecursion IsName (map (name_in names.now) labels.now) }
     requires pairs { length operands.now ≡ length labels.now }
@@ -153,6 +153,7 @@ fn put_kind(out: &mut Vec<u8>, names: &Names, inst: &Inst) -> Result<(), AllocEr
             out.extend_from_slice(b"ret")?;
             put_typed(out, names, ty, operands)
         }
+        InstKind::ReturnVoid => out.extend_from_slice(b"ret void"),
     }
 }
 

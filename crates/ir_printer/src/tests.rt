@@ -1,7 +1,7 @@
-//! Texts of names and of numbers.
+//! Texts of names, types and numbers.
 
 use crate::name::put_name;
-use crate::value::put_number;
+use crate::value::{put_number, put_type};
 use ir_types::{Name, Ty};
 use lists::Text;
 use std::test::Fail;
@@ -36,13 +36,56 @@ fn numbers(rt: HostRuntime) -> Result<(), Fail> {
         put_number(&mut out, Ty::Int(1), number)?;
         out.push(b' ')?;
     }
-    for number in [0, 7, 2147483647, 2147483648, 4294967295] {
+    for number in [0, 127, 128, 255] {
+        put_number(&mut out, Ty::Int(8), number)?;
+        out.push(b' ')?;
+    }
+    for number in [7, 2147483647, 2147483648, 4294967295] {
         put_number(&mut out, Ty::Int(32), number)?;
         out.push(b' ')?;
     }
     assert_eq!(rt;
         out.as_slice(),
-        b"false true 0 7 2147483647 -2147483648 -1 ".as_slice()
+        b"false true 0 127 -128 -1 7 2147483647 -2147483648 -1 ".as_slice()
     );
+    Ok(())
+}
+
+#[test]
+fn wide_numbers(rt: HostRuntime) -> Result<(), Fail> {
+    let mut out = Vec::new(rt.alloc());
+    for number in [
+        9223372036854775807,
+        9223372036854775808,
+        18446744073709551615,
+    ] {
+        put_number(&mut out, Ty::Int(64), number)?;
+        out.push(b' ')?;
+    }
+    put_number(&mut out, Ty::Ptr, 18446744073709551614)?;
+    out.push(b' ')?;
+    put_number(&mut out, Ty::Vector(4, 8), 255)?;
+    assert_eq!(rt;
+        out.as_slice(),
+        b"9223372036854775807 -9223372036854775808 -1 -2 255".as_slice()
+    );
+    Ok(())
+}
+
+#[test]
+fn types(rt: HostRuntime) -> Result<(), Fail> {
+    let types = [
+        (Ty::Int(1), b"i1".as_slice()),
+        (Ty::Int(64), b"i64"),
+        (Ty::Ptr, b"ptr"),
+        (Ty::Vector(4, 32), b"<4 x i32>"),
+        (Ty::Vector(512, 1), b"<512 x i1>"),
+        (Ty::Void, b"void"),
+    ];
+    for (ty, printed) in &types {
+        let mut out = Vec::new(rt.alloc());
+        put_type(&mut out, *ty)?;
+        assert_eq!(rt; out.as_slice(), *printed);
+    }
     Ok(())
 }

@@ -1,13 +1,13 @@
 // Types, operands and what names them.
 
-ghost use Rattle.std.specs.Prelude.{◌≡◌, ◌<◌, ◌^◌, ◌++◌, ◌∷◌, [], map, length, OnOk};
+ghost use Rattle.std.specs.Prelude.{◌≡◌, ◌<◌, ◌≤◌, ◌^◌, ◌++◌, ◌∷◌, [], map, length, OnOk};
 ghost use Rattle.std.specs.List.{AllByRecursion};
 ghost use Rattle.text_lex.specs.Layout.{text_of};
 ghost use Rattle.ir_types.specs.Grammar.{width_of};
 ghost use Rattle.ir_types.specs.Denotes.{name_in, operand_in};
-ghost use Rattle.ir_shape.specs.Shape.{IsName, IsInt, IsOperand};
+ghost use Rattle.ir_shape.specs.Shape.{IsName, IsType, IsOperand};
 ghost use Rattle.ir_printer.specs.Texts.{signed_text};
-ghost use Rattle.ir_printer.specs.Print.{local_token, type_word, number_token, operand_token, operand_pieces, with_commas, typed_pieces};
+ghost use Rattle.ir_printer.specs.Print.{local_token, width_word, type_pieces, number_token, operand_token, operand_pieces, with_commas, typed_pieces};
 
 use crate::name::{put_digits, put_name};
 use ir_types::{Names, Operand, Ty, ValueId};
@@ -24,39 +24,54 @@ pub(crate) fn put_local(out: &mut Vec<u8>, names: &Names, name: ValueId) -> Resu
     put_name(out, names.get(name))
 }
 
+// Appends the type of an integer of so many bits.
+#[tactic(auto, unfolding(crate::specs::Print::width_word))]
+fn put_width(out: &mut Vec<u8>, width: u32) -> Result<(), AllocError>
+    ensures { OnOk result (out.new.items ≡ out.old.items ++ width_word width) }
+{
+    out.push(b'i')?;
+    put_digits(out, u64::from(width))
+}
+
 /// Appends a type.
-#[tactic(auto, unfolding(crate::specs::Print::type_word))]
+#[tactic(auto, unfolding(crate::specs::Print::type_pieces))]
 pub(crate) fn put_type(out: &mut Vec<u8>, ty: Ty) -> Result<(), AllocError>
-    ensures { OnOk result (out.new.items ≡ out.old.items ++ type_word ty) }
+    ensures { OnOk result (out.new.items ≡ out.old.items ++ text_of (type_pieces ty)) }
 {
     match ty {
-        Ty::Int(width) => {
-            out.push(b'i')?;
-            put_digits(out, u64::from(width))
+        Ty::Int(width) => put_width(out, width),
+        Ty::Ptr => out.extend_from_slice(b"ptr"),
+        Ty::Vector(lanes, width) => {
+            out.push(b'<')?;
+            put_digits(out, u64::from(lanes))?;
+            out.extend_from_slice(b" x ")?;
+            put_width(out, width)?;
+            out.extend_from_slice(b">")
         }
         Ty::Void => out.extend_from_slice(b"void"),
     }
 }
 
 // Appends a number of so many bits as the signed one that it stands for.
-#[tactic(auto, unfolding(crate::specs::Texts::signed_text))]
+#[tactic(auto, unfolding(crate::specs::Texts::signed_text), using(crate::proofs::Numbers::two_halves))]
 fn put_signed(out: &mut Vec<u8>, width: u32, number: u64) -> Result<(), AllocError>
     requires some { 0 < width }
-    requires small { width < 64 }
+    requires most { width ≤ 64 }
     requires fits { number < 2 ^ width }
     ensures { OnOk result (out.new.items ≡ out.old.items ++ signed_text width number) }
 {
-    if number < 1 << (width - 1) {
+    let half = 1 << (width - 1);
+    if number < half {
         return put_digits(out, number);
     }
     out.push(b'-')?;
-    put_digits(out, (1 << width) - number)
+    put_digits(out, half - (number - half))
 }
 
 // Appends a number at its type.
-#[tactic(auto, unfolding(crate::specs::Print::number_token))]
+#[tactic(auto, unfolding(crate::specs::Print::number_token), using(crate::proofs::Widths::width_within))]
 pub(crate) fn put_number(out: &mut Vec<u8>, ty: Ty, number: u64) -> Result<(), AllocError>
-    requires int { IsInt ty }
+    requires typed { IsType ty }
     requires fits { number < 2 ^ width_of ty }
     ensures { OnOk result (out.new.items ≡ out.old.items ++ (number_token ty number).text) }
 {
@@ -64,6 +79,7 @@ pub(crate) fn put_number(out: &mut Vec<u8>, ty: Ty, number: u64) -> Result<(), A
         Ty::Int(1) if number == 1 => out.extend_from_slice(b"true"),
         Ty::Int(1) => out.extend_from_slice(b"false"),
         Ty::Int(width) => put_signed(out, width, number),
+        Ty::Ptr | Ty::Vector(..) => put_signed(out, 64, number),
         Ty::Void => unreachable!(),
     }
 }
@@ -75,7 +91,7 @@ pub(crate) fn put_operand(
     ty: Ty,
     operand: Operand,
 ) -> Result<(), AllocError>
-    requires int { IsInt ty }
+    requires typed { IsType ty }
     requires known { IsOperand ty (operand_in names.now operand) }
     ensures { OnOk result (out.new.items ≡ out.old.items
         ++ (operand_token ty (operand_in names.now operand)).text) }
@@ -92,7 +108,7 @@ fn put_operands(
     ty: Ty,
     operands: &[Operand],
 ) -> Result<(), AllocError>
-    requires int { IsInt ty }
+    requires typed { IsType ty }
     requires known { AllByRecursion (IsOperand ty) (map (operand_in names.now) operands.now) }
     ensures { OnOk result (out.new.items ≡ out.old.items
         ++ text_of (with_commas
@@ -110,13 +126,14 @@ fn put_operands(
 }
 
 /// Appends ` T V, V`.
+#[tactic(auto, using(crate::proofs::Appended::text_of_both, std::proofs::lemmas::Grind::common_steps))]
 pub(crate) fn put_typed(
     out: &mut Vec<u8>,
     names: &Names,
     ty: Ty,
     operands: &[Operand],
 ) -> Result<(), AllocError>
-    requires int { IsInt ty }
+    requires typed { IsType ty }
     requires known { AllByRecursion (IsOperand ty) (map (operand_in names.now) operands.now) }
     ensures { OnOk result (out.new.items ≡ out.old.items
         ++ text_of (typed_pieces ty (map (operand_in names.now) operands.now))) }

@@ -1,3 +1,4 @@
+pub mod Among
 pub mod Names
 pub mod Sure
 pub mod Written

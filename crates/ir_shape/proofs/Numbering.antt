@@ -12,7 +12,7 @@ use Rattle.forms.proofs.Exact.{some_is}
 use Rattle.ir_types.specs.declared.name.Name.{Name}
 use Rattle.ir_types.specs.declared.name.Name.TheVariants.{Number}
 use Rattle.ir_types.specs.declared.inst.Ty.{Ty}
-use Rattle.ir_types.specs.declared.inst.Ty.TheVariants.{Int, Void}
+use Rattle.ir_types.specs.declared.inst.Ty.TheVariants.{Int, Ptr, Vector, Void}
 use Rattle.ir_types.specs.Tree.{InstTree, BlockTree, ParamTree, FunctionTree, ModuleTree, WrittenParam, WrittenBlock, WrittenFunction, WrittenModule}
 use Rattle.ir_types.specs.Grammar.{named_by}
 use Rattle.ir_types.specs.Numbered.{next_after, named, named_result, numbered_inst, numbered_block, numbered_param, numbered_function, numbered_module}
@@ -56,6 +56,8 @@ named_known next None x h e =
 
 result_of_some : (t : Ty) (n : Name) → IsName n → IsResult t (Some n)
 result_of_some (Int w) n h = h
+result_of_some Ptr n h = h
+result_of_some (Vector m w) n h = h
 result_of_some Void n h = h
 
 named_then : (next : ℕ) (t : Ty) (o : Option Name) (x : Option Name × ℕ) → IsNameThere o → (named next o >>= λ x. Some (Some x.0, x.1)) ≡ Some x → IsResult t x.0
@@ -66,8 +68,12 @@ named_then next t o x h e =
 result_known : (next : ℕ) (t : Ty) (o : Option Name) (x : Option Name × ℕ) → IsNameThere o → named_result next t o ≡ Some x → IsResult t x.0
 result_known next Void None x h e = subst (λ (y : Option Name × ℕ). IsResult Void y.0) (some_is (None, next) x e) tt
 result_known next (Int w) None x h e = named_then next (Int w) None x h e
-result_known next Void (Some n) x h e = named_then next Void (Some n) x h e
 result_known next (Int w) (Some n) x h e = named_then next (Int w) (Some n) x h e
+result_known next Ptr None x h e = named_then next Ptr None x h e
+result_known next Ptr (Some n) x h e = named_then next Ptr (Some n) x h e
+result_known next (Vector m w) None x h e = named_then next (Vector m w) None x h e
+result_known next (Vector m w) (Some n) x h e = named_then next (Vector m w) (Some n) x h e
+result_known next Void (Some n) x h e = named_then next Void (Some n) x h e
 
 result_set : (i : InstTree) (o : Option Name) → IsBody i → IsResult i.ty o → IsInst (named_by i o)
 result_set i o h r = record { body = renamed i o h; result = r }

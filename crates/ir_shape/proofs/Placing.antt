@@ -37,6 +37,8 @@ operand_placed names t (Int n) h = tt
 result_placed : (names : List Name) (t : Ty) (o : Option ValueId) → IsResult t (option_map (name_in names) o) → IfSome o (IsPlace names)
 result_placed names t None h = tt
 result_placed names (types.Int w) (Some id) h = placed names id h
+result_placed names types.Ptr (Some id) h = placed names id h
+result_placed names (types.Vector n w) (Some id) h = placed names id h
 result_placed names types.Void (Some id) h = placed names id h
 
 inst_placed : (names : List Name) (i : Inst) → IsInst (inst_in names i) → IsInstPlaced names i

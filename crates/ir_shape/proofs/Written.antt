@@ -1,15 +1,15 @@
 -- What is known of a module that tokens spell.
 use Rattle.std.proofs.Common.{◌≡◌, ◌%◌, ◌<◌, ◌^◌, ℕ, List, [], ◌∷◌, ◌++◌, length, Option, Some, None, Bool, true, false, cond, eqb, lit<, refl, subst, arith, inl, inr}
-use Rattle.std.specs.Prelude.{map, codes}
+use Rattle.std.specs.Prelude.{map, codes, find}
 use Rattle.std.specs.List.{AllByRecursion}
 use Rattle.std.proofs.lemmas.List.{length-map}
-use Rattle.forms.specs.declared.TokenKind.TheVariants.{Local, Global, Label, Number, Equal, Comma, LeftParen, RightParen, LeftBracket, RightBracket, LeftBrace, RightBrace}
+use Rattle.forms.specs.declared.TokenKind.TheVariants.{Local, Global, Label, Number, Equal, Comma, LeftParen, RightParen, LeftBracket, RightBracket, LeftBrace, RightBrace, Less, Greater}
 use Rattle.forms.specs.Form.{Lexeme, Form, Spells, pair, mapped}
 use Rattle.forms.proofs.Sound.{bind_some}
 use Rattle.forms.proofs.Exact.{some_is}
 use Rattle.ir_types.specs.declared.name.Name.{Name}
 use Rattle.ir_types.specs.declared.inst.Ty.{Ty}
-use Rattle.ir_types.specs.declared.inst.Ty.TheVariants.{Int, Void}
+use Rattle.ir_types.specs.declared.inst.Ty.TheVariants.{Int, Ptr, Vector, Void}
 use Rattle.ir_types.specs.declared.inst.BinOp.{BinOp}
 use Rattle.ir_types.specs.declared.inst.BinOp.TheVariants.{Add}
 use Rattle.ir_types.specs.declared.inst.Pred.{Pred}
@@ -18,10 +18,11 @@ use Rattle.ir_types.specs.declared.opcode.Operation.{Operation}
 use Rattle.ir_types.specs.declared.opcode.Operation.TheVariants as operations
 use Rattle.ir_types.specs.declared.opcode.Terminator.{Terminator}
 use Rattle.ir_types.specs.declared.opcode.Terminator.TheVariants as terminators
-use Rattle.ir_types.specs.Written.{number_at, name_behind}
+use Rattle.ir_types.specs.Written.{number_of, number_at, name_behind}
 use Rattle.ir_types.specs.Tree.{InstTree, WrittenParam, WrittenBlock, WrittenFunction, WrittenModule}
-use Rattle.ir_types.specs.Grammar.{local_name, global_name, label, int_type, WrittenValue, named, digits, yes, no, value, width_of, operand_at, two_values, binary, compared, compare, entry_of_phi, phi, target, jump_tree, branch, ret, operation_behind, operation, terminator_behind, terminator, named_by, line, block, parameter, function, module_form}
-use Rattle.ir_shape.specs.Shape.{IsName, IsInt, IsOperand, IsBody, IsNameThere, IsTerminator, EndsOnce}
+use Rattle.ir_types.specs.Grammar.{local_name, global_name, label, width, lanes_of, vector_type, value_type, return_type, WrittenValue, named, digits, yes, no, value, lane_counts, width_of, operand_at, two_values, binary, compared, compare, entry_of_phi, phi, target, jump_tree, branch, void_tree, ret, operation_behind, operation, terminator_behind, terminator, named_by, line, block, parameter, function, module_form}
+use Rattle.ir_shape.specs.Shape.{IsName, IsOneOf, widths, IsType, IsReturnType, IsOperand, IsBody, IsNameThere, IsTerminator, EndsOnce}
+use Rattle.ir_shape.proofs.Among.{of_each}
 use Rattle.ir_shape.proofs.Names.{behind_is, before_is}
 use Rattle.ir_shape.proofs.Sure.{Sure, one_sure, word_sure, pair_sure, either_sure, mapped_sure, made_sure, ahead_sure, IsThere, optional_sure, by_word_sure, many_sure, behind_sure, after_mark_sure, between_sure, some_sure, commas_sure, list_sure}
 
@@ -39,9 +40,46 @@ label_sure : Sure label IsName
 unfolding label
 label_sure = made_sure (one_sure Label) (λ s n u e. before_is s n e)
 
-type_sure : Sure int_type IsInt
-unfolding int_type
-type_sure = either_sure (word_sure _ (Int 1) (inl refl)) (word_sure _ (Int 32) (inr refl))
+width_sure : Sure width (IsOneOf widths)
+unfolding width
+width_sure = either_sure (word_sure _ 1 (inl refl)) (either_sure (word_sure _ 8 (inr (inl refl))) (either_sure (word_sure _ 16 (inr (inr (inl refl)))) (either_sure (word_sure _ 32 (inr (inr (inr (inl refl))))) (word_sure _ 64 (inr (inr (inr (inr (inl refl)))))))))
+
+one_of_first : (b : Bool) (x : ℕ) (xs : List ℕ) (r : Option ℕ) (n : ℕ) → cond b (Some x) r ≡ Some n → (r ≡ Some n → IsOneOf xs n) → IsOneOf (x ∷ xs) n
+one_of_first true x xs r n e later = inl cc
+one_of_first false x xs r n e later = inr (later e)
+
+-- what is found in a list is one of it
+one_found : (p : ℕ → Bool) (xs : List ℕ) (n : ℕ) → find p xs ≡ Some n → IsOneOf xs n
+one_found p [] n e = absurd cc
+one_found p (x ∷ xs) n e = one_of_first (p x) x xs (find p xs) n e (one_found p xs n)
+
+without_sign : (b : Bool) (s : List ℕ) (n : ℕ) → cond b None (find (λ m. eqb m (number_of s)) lane_counts) ≡ Some n → IsOneOf lane_counts n
+without_sign true s n e = absurd cc
+without_sign false s n e = one_found (λ m. eqb m (number_of s)) lane_counts n e
+
+lanes_counted : (s : List ℕ) (n : ℕ) → lanes_of s ≡ Some n → IsOneOf lane_counts n
+lanes_counted [] n e = absurd cc
+lanes_counted (c ∷ ds) n e = without_sign (eqb c 45) (c ∷ ds) n e
+
+vector_sure : Sure vector_type IsType
+unfolding vector_type
+vector_sure = made_sure {Q = IsType} (between_sure Less Greater (pair_sure (one_sure Number) (behind_sure (codes "x") width_sure))) (λ x t h e.
+    let b = bind_some (lanes_of x.0) _ t e in
+    subst IsType (some_is _ t b.2) (lanes_counted x.0 b.0 b.1, h.1))
+
+type_sure : Sure value_type IsType
+unfolding value_type
+type_sure = either_sure (mapped_sure {Q = IsType} width_sure (λ w h. h)) (either_sure (word_sure _ Ptr tt) vector_sure)
+
+return_type_is : (t : Ty) → IsType t → IsReturnType t
+return_type_is (Int w) h = h
+return_type_is Ptr h = h
+return_type_is (Vector n w) h = h
+return_type_is Void h = tt
+
+return_type_sure : Sure return_type IsReturnType
+unfolding return_type
+return_type_sure = either_sure (record { known = λ t ts h. return_type_is t (type_sure.known t ts h) }) (word_sure _ Void tt)
 
 abbrev IsValue : WrittenValue → Type 0
 IsValue (named n) = IsName n
@@ -64,21 +102,23 @@ number_small : (w : ℕ) (s : List ℕ) → 0 < 2 ^ w → number_at w s < 2 ^ w
 number_small w [] h = h
 number_small w (c ∷ ds) h = either_below (eqb c 45) (2 ^ w) _ _ (below (2 ^ w) _ h) (below (2 ^ w) _ h)
 
-wide : (t : Ty) → IsInt t → 0 < 2 ^ width_of t
-wide (Int w) (inl e) = rw e (lit< tt)
-wide (Int w) (inr e) = rw e (lit< tt)
-wide Void h = absurd h
+one_below : (w : ℕ) → IsOneOf widths w → 1 < 2 ^ w
+one_below w h = of_each (λ n. 1 < 2 ^ n) widths w (lit< tt, (lit< tt, (lit< tt, (lit< tt, (lit< tt, tt))))) h
 
-one_fits : (t : Ty) → IsInt t → 1 < 2 ^ width_of t
-one_fits (Int w) (inl e) = rw e (lit< tt)
-one_fits (Int w) (inr e) = rw e (lit< tt)
+one_fits : (t : Ty) → IsType t → 1 < 2 ^ width_of t
+one_fits (Int w) h = one_below w h
+one_fits Ptr h = lit< tt
+one_fits (Vector n w) h = lit< tt
 one_fits Void h = absurd h
 
-operand_is : (t : Ty) (v : WrittenValue) → IsInt t → IsValue v → IsOperand t (operand_at t v)
+zero_fits : (t : Ty) → IsType t → 0 < 2 ^ width_of t
+zero_fits t h = omega (arith, one_fits t h)
+
+operand_is : (t : Ty) (v : WrittenValue) → IsType t → IsValue v → IsOperand t (operand_at t v)
 operand_is t (named n) i h = h
-operand_is t (digits s) i h = number_small (width_of t) s (wide t i)
+operand_is t (digits s) i h = number_small (width_of t) s (zero_fits t i)
 operand_is t yes i h = one_fits t i
-operand_is t no i h = wide t i
+operand_is t no i h = zero_fits t i
 
 -- ---- instructions
 
@@ -90,7 +130,7 @@ record IsTerminatorBody (i : InstTree) : Type 0 where
   body : IsBody i
   ends : IsTerminator i.kind
 
-two_sure : Sure (pair int_type two_values) (λ x. IsInt x.0 × (IsValue x.1.0 × IsValue x.1.1))
+two_sure : Sure (pair value_type two_values) (λ x. IsType x.0 × (IsValue x.1.0 × IsValue x.1.1))
 two_sure = pair_sure type_sure (pair_sure value_sure (after_mark_sure Comma value_sure))
 
 binary_sure : (op : BinOp) → Sure (binary op) IsOperationBody
@@ -118,7 +158,7 @@ entry_sure : Sure entry_of_phi IsEntry
 unfolding entry_of_phi
 entry_sure = between_sure LeftBracket RightBracket (pair_sure value_sure (after_mark_sure Comma local_sure))
 
-entry_args : (t : Ty) (es : List (WrittenValue × Name)) → IsInt t → AllByRecursion IsEntry es → AllByRecursion (IsOperand t) (map (λ e. operand_at t e.0) es)
+entry_args : (t : Ty) (es : List (WrittenValue × Name)) → IsType t → AllByRecursion IsEntry es → AllByRecursion (IsOperand t) (map (λ e. operand_at t e.0) es)
 entry_args t [] i h = tt
 entry_args t (e ∷ es) i h = (operand_is t e.0 i h.0.0, entry_args t es i h.1)
 
@@ -164,10 +204,10 @@ branch_sure = either_sure jump_sure (mapped_sure (behind_sure (codes "i1") (pair
 
 return_sure : Sure ret IsTerminatorBody
 unfolding ret
-return_sure = mapped_sure (pair_sure type_sure value_sure) (λ x h. record {
+return_sure = either_sure (mapped_sure (pair_sure type_sure value_sure) (λ x h. record {
   body = record { shape = (refl, refl, refl); at = h.0; args = (operand_is x.0 x.1 h.0 h.1, tt); labels = tt };
   ends = tt;
-})
+})) (word_sure _ void_tree (record { body = record { shape = (refl, refl, refl); at = inl refl; args = tt; labels = tt }; ends = tt }))
 
 by_terminator : (t : Terminator) → Sure (terminator_behind t) IsTerminatorBody
 by_terminator terminators.Br = branch_sure
@@ -216,12 +256,12 @@ pub record IsWrittenBlock (b : WrittenBlock) : Type 0 where
   pub ending : EndsOnce (map (λ i. i.kind) b.insts)
 
 pub record IsWrittenParam (p : WrittenParam) : Type 0 where
-  pub ty : IsInt p.ty
+  pub ty : IsType p.ty
   pub name : IsNameThere p.name
 
 pub record IsWrittenFunction (f : WrittenFunction) : Type 0 where
   pub name : IsName f.name
-  pub ret : IsInt f.ret
+  pub ret : IsReturnType f.ret
   pub params : AllByRecursion IsWrittenParam f.params
   pub blocks : AllByRecursion IsWrittenBlock f.body
   pub some : 0 < length f.body
@@ -257,7 +297,7 @@ param_sure = mapped_sure (pair_sure type_sure (optional_sure local_sure)) (λ x 
 
 function_sure : Sure function IsWrittenFunction
 unfolding function
-function_sure = mapped_sure (behind_sure (codes "define") (pair_sure type_sure (pair_sure global_sure (pair_sure (between_sure LeftParen RightParen (list_sure param_sure)) (between_sure LeftBrace RightBrace (some_sure block_sure)))))) (λ x h. record {
+function_sure = mapped_sure (behind_sure (codes "define") (pair_sure return_type_sure (pair_sure global_sure (pair_sure (between_sure LeftParen RightParen (list_sure param_sure)) (between_sure LeftBrace RightBrace (some_sure block_sure)))))) (λ x h. record {
   name = h.1.0;
   ret = h.0;
   params = h.1.1.0;

@@ -1,10 +1,10 @@
 -- One token ahead decides what the grammar reads; where a comma or a name with `=` leads, what stands behind it.
 use Rattle.std.proofs.Common.{◌≡◌, true, false, refl}
 use Rattle.forms.specs.Reading.{decides, nullable}
-use Rattle.ir_types.specs.Grammar.{local_name, global_name, label, int_type, value, binary, predicates, compared, compare, entry_of_phi, phi, target, branch, ret, operation_words, operation, terminator_words, terminator, line, block, parameter, function, module_form}
+use Rattle.ir_types.specs.Grammar.{local_name, global_name, label, width, vector_type, value_type, return_type, value, binary, predicates, compared, compare, entry_of_phi, phi, target, branch, ret, operation_words, operation, terminator_words, terminator, line, block, parameter, function, module_form}
 
 pub module_decides : decides module_form ≡ true
-unfolding local_name global_name label int_type value binary predicates compared compare entry_of_phi phi target branch ret operation_words operation terminator_words terminator block parameter function module_form
+unfolding local_name global_name label width vector_type value_type return_type value binary predicates compared compare entry_of_phi phi target branch ret operation_words operation terminator_words terminator block parameter function module_form
 module_decides = refl
 
 -- each of these takes a token

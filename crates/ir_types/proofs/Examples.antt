@@ -11,7 +11,7 @@ use Rattle.ir_types.specs.declared.inst.Pred.TheVariants.{Slt}
 use Rattle.ir_types.specs.declared.inst.InstKind.TheVariants.{Compare, Phi, Jump, Branch, Return}
 use Rattle.ir_types.specs.Written.{number_of, number_at, unescaped, name_behind, name_before}
 use Rattle.ir_types.specs.Tree.{local, number, InstTree, BlockTree, FunctionTree, WrittenFunction, WrittenModule}
-use Rattle.ir_types.specs.Grammar.{local_name, global_name, label, int_type, value, binary, predicates, compared, compare, entry_of_phi, phi, target, branch, ret, operation_words, operation, terminator_words, terminator, block, parameter, function, module_form}
+use Rattle.ir_types.specs.Grammar.{local_name, global_name, label, width, vector_type, value_type, return_type, value, binary, predicates, compared, compare, entry_of_phi, phi, target, branch, ret, operation_words, operation, terminator_words, terminator, block, parameter, function, module_form}
 use Rattle.ir_types.specs.Numbered.{numbered_module}
 
 -- a string with a backslash and a quotation mark, which a literal here cannot have
@@ -179,7 +179,10 @@ record Readings : Type 0 where
   -- `br i1` has two targets
   one_target : reading (codes "define i32 @f ( i1 %c ) { br i1 %c , label %a }") ≡ None
   -- a type is i1 or i32, and a value no decimal fraction
-  other_type : reading (codes "define i64 @f ( ) { ret i64 1 }") ≡ None
+  -- three lanes are none of the counts, and a count has no sign
+  three_lanes : reading (codes "define void @f ( < 3 x i8 > ) { ret void }") ≡ None
+  signed_lanes : reading (codes "define void @f ( < -4 x i8 > ) { ret void }") ≡ None
+  other_type : reading (codes "define i24 @f ( ) { ret i24 1 }") ≡ None
   fraction : reading (codes "define i32 @f ( ) { ret i32 1.5 }") ≡ None
   -- a name has at most 32 bits
   great_name : reading (codes "define i32 @f ( ) { ret i32 %4294967296 }") ≡ None
@@ -198,5 +201,5 @@ record Readings : Type 0 where
   no_next : names_in (codes "define i32 @f ( ) { %4294967295 = add i32 1 , 2 add i32 1 , 2 ret i32 0 }") ≡ None
 
 readings : Readings
-unfolding table local_name global_name label int_type value binary predicates compared compare entry_of_phi phi target branch ret operation_words operation terminator_words terminator block parameter function module_form
-readings = record { whole = refl; numbers = refl; none = refl; operands = refl; no_block = refl; no_terminator = refl; open_block = refl; parameter_comma = refl; only_comma = refl; operand_comma = refl; entry_comma = refl; no_entries = refl; one_target = refl; other_type = refl; fraction = refl; great_name = refl; in_order = refl; unnamed_block = refl; written_number = refl; used_number = refl; last_number = refl; no_next = refl }
+unfolding table local_name global_name label width vector_type value_type return_type value binary predicates compared compare entry_of_phi phi target branch ret operation_words operation terminator_words terminator block parameter function module_form
+readings = record { whole = refl; numbers = refl; none = refl; operands = refl; no_block = refl; no_terminator = refl; open_block = refl; parameter_comma = refl; only_comma = refl; operand_comma = refl; entry_comma = refl; no_entries = refl; one_target = refl; three_lanes = refl; signed_lanes = refl; other_type = refl; fraction = refl; great_name = refl; in_order = refl; unnamed_block = refl; written_number = refl; used_number = refl; last_number = refl; no_next = refl }

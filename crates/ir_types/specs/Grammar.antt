@@ -1,13 +1,13 @@
 -- The grammar of modules.
-use Rattle.std.specs.Prelude.{ℕ, List, [], ◌∷◌, ◌++◌, map, codes, Option, Some, None}
+use Rattle.std.specs.Prelude.{ℕ, List, [], ◌∷◌, ◌++◌, map, codes, find, ◌==◌, Option, Some, None, if◌then◌else◌}
 use Rattle.forms.specs.declared.TokenKind.{TokenKind}
-use Rattle.forms.specs.declared.TokenKind.TheVariants.{Local, Global, Label, Word, Number, Equal, Comma, LeftParen, RightParen, LeftBracket, RightBracket, LeftBrace, RightBrace}
+use Rattle.forms.specs.declared.TokenKind.TheVariants.{Local, Global, Label, Word, Number, Equal, Comma, LeftParen, RightParen, LeftBracket, RightBracket, LeftBrace, RightBrace, Less, Greater}
 use Rattle.forms.specs.Form.{Form, exactly, one, ahead, pair, either, mapped, made, optional, many, by_word}
 use Rattle.forms.specs.Reading.{◌>>=◌}
 use Rattle.forms.specs.Gives.{mark}
 use Rattle.ir_types.specs.declared.name.Name.{Name}
 use Rattle.ir_types.specs.declared.inst.Ty.{Ty}
-use Rattle.ir_types.specs.declared.inst.Ty.TheVariants.{Int, Void}
+use Rattle.ir_types.specs.declared.inst.Ty.TheVariants.{Int, Ptr, Vector, Void}
 use Rattle.ir_types.specs.declared.inst.BinOp.{BinOp}
 use Rattle.ir_types.specs.declared.inst.BinOp.TheVariants.{Add}
 use Rattle.ir_types.specs.declared.inst.Pred.{Pred}
@@ -17,7 +17,7 @@ use Rattle.ir_types.specs.declared.opcode.Operation.{Operation}
 use Rattle.ir_types.specs.declared.opcode.Operation.TheVariants as operations
 use Rattle.ir_types.specs.declared.opcode.Terminator.{Terminator}
 use Rattle.ir_types.specs.declared.opcode.Terminator.TheVariants as terminators
-use Rattle.ir_types.specs.Written.{number_at, name_behind, name_before}
+use Rattle.ir_types.specs.Written.{number_of, number_at, name_behind, name_before}
 use Rattle.ir_types.specs.Tree.{OperandTree, local, number, InstTree, WrittenParam, WrittenBlock, WrittenFunction, WrittenModule}
 
 -- ---- forms that are used in many places
@@ -73,9 +73,34 @@ global_name = made name_behind (one Global)
 unfoldable pub label : Form Name
 label = made name_before (one Label)
 
--- T := i1 | i32
-unfoldable pub int_type : Form Ty
-int_type = either (word (codes "i1") (Int 1)) (word (codes "i32") (Int 32))
+-- iN := i1 | i8 | i16 | i32 | i64
+unfoldable pub width : Form ℕ
+width = either (word (codes "i1") 1) (either (word (codes "i8") 8) (either (word (codes "i16") 16) (either (word (codes "i32") 32) (word (codes "i64") 64))))
+
+-- the powers of two from 2 to 512
+abbrev pub lane_counts : List ℕ
+lane_counts = 2 ∷ 4 ∷ 8 ∷ 16 ∷ 32 ∷ 64 ∷ 128 ∷ 256 ∷ 512 ∷ []
+
+-- the number of lanes that is written so: digits without a sign, for one of those powers
+abbrev pub lanes_of : List ℕ → Option ℕ
+lanes_of [] = None
+lanes_of (c ∷ ds) = if c == 45 then None else find (λ n. n == number_of (c ∷ ds)) lane_counts
+
+-- a vector of so many lanes of a width
+abbrev pub vector_of : List ℕ × ℕ → Option Ty
+vector_of x = lanes_of x.0 >>= λ n. Some (Vector n x.1)
+
+-- < n x iN >
+unfoldable pub vector_type : Form Ty
+vector_type = made vector_of (between Less Greater (pair (one Number) (behind (codes "x") width)))
+
+-- T := iN | ptr | < n x iN >
+unfoldable pub value_type : Form Ty
+value_type = either (mapped Int width) (either (word (codes "ptr") Ptr) vector_type)
+
+-- R := T | void
+unfoldable pub return_type : Form Ty
+return_type = either value_type (word (codes "void") Void)
 
 -- a value as it is written
 pub data WrittenValue : Type 0 where
@@ -98,6 +123,8 @@ value =
 -- the bits of a type's numbers; where there is no width, 64
 abbrev pub width_of : Ty → ℕ
 width_of (Int w) = w
+width_of Ptr = 64
+width_of (Vector n w) = 64
 width_of Void = 64
 
 -- a written value at a type: a number is held modulo 2^w
@@ -119,7 +146,7 @@ binary_tree op x = record { kind = kinds.Binary op; ty = x.0; args = operand_at 
 
 -- T V, V
 unfoldable pub binary : BinOp → Form InstTree
-binary op = mapped (binary_tree op) (pair int_type two_values)
+binary op = mapped (binary_tree op) (pair value_type two_values)
 
 -- the ten predicates
 unfoldable pub predicates : List (List ℕ × Pred)
@@ -136,13 +163,20 @@ predicates =
     (codes "sle", Sle) ∷
     []
 
--- a comparison of two operands at one type, with a result of one bit
+-- the type of a comparison's result: a bit, or a bit for each lane
+abbrev pub bits_for : Ty → Ty
+bits_for (Vector n w) = Vector n 1
+bits_for (Int w) = Int 1
+bits_for Ptr = Int 1
+bits_for Void = Int 1
+
+-- a comparison of two operands at one type
 abbrev pub compare_tree : Pred → Ty × (WrittenValue × WrittenValue) → InstTree
-compare_tree p x = record { kind = kinds.Compare p x.0; ty = Int 1; args = operand_at x.0 x.1.0 ∷ operand_at x.0 x.1.1 ∷ []; labels = []; result = None }
+compare_tree p x = record { kind = kinds.Compare p x.0; ty = bits_for x.0; args = operand_at x.0 x.1.0 ∷ operand_at x.0 x.1.1 ∷ []; labels = []; result = None }
 
 -- T V, V behind the predicate
 unfoldable pub compared : Pred → Form InstTree
-compared p = mapped (compare_tree p) (pair int_type two_values)
+compared p = mapped (compare_tree p) (pair value_type two_values)
 
 -- pred T V, V
 unfoldable pub compare : Form InstTree
@@ -158,7 +192,7 @@ phi_tree x = record { kind = kinds.Phi; ty = x.0; args = map (λ e. operand_at x
 
 -- T [ V, %name ], ..
 unfoldable pub phi : Form InstTree
-phi = mapped phi_tree (pair int_type (commas entry_of_phi))
+phi = mapped phi_tree (pair value_type (commas entry_of_phi))
 
 -- label %name
 unfoldable pub target : Form Name
@@ -180,9 +214,13 @@ branch = either (mapped jump_tree target) (mapped branch_tree (behind (codes "i1
 abbrev pub return_tree : Ty × WrittenValue → InstTree
 return_tree x = record { kind = kinds.Return x.0; ty = Void; args = operand_at x.0 x.1 ∷ []; labels = []; result = None }
 
--- T V
+-- a return of no value
+abbrev pub void_tree : InstTree
+void_tree = record { kind = kinds.ReturnVoid; ty = Void; args = []; labels = []; result = None }
+
+-- T V | void
 unfoldable pub ret : Form InstTree
-ret = mapped return_tree (pair int_type value)
+ret = either (mapped return_tree (pair value_type value)) (word (codes "void") void_tree)
 
 -- the words with which an instruction begins that doesn't end a block
 unfoldable pub operation_words : List (List ℕ × Operation)
@@ -238,16 +276,16 @@ block = mapped block_tree (pair (optional label) (pair (many (line operation)) (
 
 -- T [%name]
 unfoldable pub parameter : Form WrittenParam
-parameter = mapped (λ x. record { ty = x.0; name = x.1 }) (pair int_type (optional local_name))
+parameter = mapped (λ x. record { ty = x.0; name = x.1 }) (pair value_type (optional local_name))
 
 -- the parts of a function, by their names
 abbrev pub function_tree : Ty × (Name × (List WrittenParam × List WrittenBlock)) → WrittenFunction
 function_tree x = record { name = x.1.0; ret = x.0; params = x.1.1.0; body = x.1.1.1 }
 
--- define T @name ( [T [%name], ..] ) { block.. }
+-- define R @name ( [T [%name], ..] ) { block.. }
 unfoldable pub function : Form WrittenFunction
 function =
-    mapped function_tree (behind (codes "define") (pair int_type (pair global_name (pair (between LeftParen RightParen (list parameter)) (between LeftBrace RightBrace (some block))))))
+    mapped function_tree (behind (codes "define") (pair return_type (pair global_name (pair (between LeftParen RightParen (list parameter)) (between LeftBrace RightBrace (some block))))))
 
 -- item ..
 unfoldable pub module_form : Form WrittenModule

@@ -13,3 +13,4 @@ pub mod Runs
 pub mod Refines
 pub mod Fits
 pub mod Allows
+pub mod First

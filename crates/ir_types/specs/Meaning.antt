@@ -8,7 +8,7 @@ use Rattle.ir_types.specs.declared.inst.Ty.TheVariants.{Int as IntTy}
 use Rattle.ir_types.specs.declared.inst.Operand.{Operand}
 use Rattle.ir_types.specs.declared.inst.Operand.TheVariants.{Local, Int as IntOperand}
 use Rattle.ir_types.specs.declared.inst.InstKind.{InstKind}
-use Rattle.ir_types.specs.declared.inst.InstKind.TheVariants.{Binary, Compare, Phi, Jump, Branch, Return}
+use Rattle.ir_types.specs.declared.inst.InstKind.TheVariants.{Binary, Compare, Phi, Jump, Branch, Return, ReturnVoid}
 use Rattle.ir_types.specs.declared.inst.Inst.{Inst}
 use Rattle.ir_types.specs.declared.module.Block.{Block}
 use Rattle.ir_types.specs.declared.module.Param.{Param}
@@ -57,6 +57,7 @@ operand_types Phi ty = []
 operand_types Jump ty = []
 operand_types Branch ty = IntTy 1 ∷ []
 operand_types (Return of) ty = of ∷ []
+operand_types ReturnVoid ty = []
 
 -- the values of the operands, where there is one for each type
 abbrev pub values_of : Module → Memory → Env → List Ty → List Operand → Option (List Value)
@@ -90,13 +91,15 @@ branched (on ∷ off ∷ []) (Int w x) = Goes (if nat_eq x 0 then off else on)
 branched (on ∷ off ∷ []) Poison = Fails
 branched labels v = Waits
 
--- what an instruction asks for, by its kind, its type, its labels and the values of its operands
+-- what an instruction asks for, by its kind, its type, its labels and the values of its operands; operations of pointers and of vectors have
+-- no meaning yet
 abbrev pub effect_of : Module → Memory → InstKind → Ty → List ValueId → List Value → Effect
-effect_of m memory (Binary op) ty labels (x ∷ y ∷ []) = gives (combined op x y)
-effect_of m memory (Compare p of) ty labels (x ∷ y ∷ []) = Sets (compared p x y)
+effect_of m memory (Binary op) (IntTy w) labels (x ∷ y ∷ []) = gives (combined op x y)
+effect_of m memory (Compare p (IntTy w)) ty labels (x ∷ y ∷ []) = Sets (compared p x y)
 effect_of m memory Jump ty (label ∷ []) [] = Goes label
 effect_of m memory Branch ty labels (x ∷ []) = branched labels x
 effect_of m memory (Return of) ty labels (x ∷ []) = Leaves (Some (record { ty = of; value = x }))
+effect_of m memory ReturnVoid ty labels [] = Leaves None
 effect_of m memory kind ty labels values = Waits
 
 abbrev pub effect_with : Module → Memory → Inst → Option (List Value) → Effect

@@ -5,7 +5,7 @@ use Rattle.forms.specs.Walk.{walk}
 use Rattle.ir_types.specs.declared.name.Name.{Name}
 use Rattle.ir_types.specs.declared.name.Name.TheVariants.{Text, Number}
 use Rattle.ir_types.specs.declared.inst.Ty.{Ty}
-use Rattle.ir_types.specs.declared.inst.Ty.TheVariants.{Int, Void}
+use Rattle.ir_types.specs.declared.inst.Ty.TheVariants.{Void}
 use Rattle.ir_types.specs.Grammar.{named_by}
 use Rattle.ir_types.specs.Tree.{InstTree, BlockTree, ParamTree, FunctionTree, ModuleTree, WrittenParam, WrittenBlock, WrittenFunction, WrittenModule}
 
@@ -22,7 +22,7 @@ named next None = if nat_lt next (2 ^ 32) then Some (Number next, next + 1) else
 -- the name of a result of this type: one of type `Void` without a name takes no number
 abbrev pub named_result : ℕ → Ty → Option Name → Option (Option Name × ℕ)
 named_result next Void None = Some (None, next)
-named_result next (Int w) None = named next None >>= λ x. Some (Some x.0, x.1)
+named_result next t None = named next None >>= λ x. Some (Some x.0, x.1)
 named_result next t (Some n) = named next (Some n) >>= λ x. Some (Some x.0, x.1)
 
 -- an instruction, whose result takes a number where it has no name

@@ -1,7 +1,8 @@
 -- The types of values, and the results of operations.
-use Rattle.std.specs.Prelude.{ℕ, ◌+◌, ◌-◌, ◌%◌, ◌^◌, Bool, true, false, not, ◌&&◌, if◌then◌else◌, nat_eq, nat_lt, nat_le, IsTrue, Option, Some, None}
+use Rattle.std.specs.Prelude.{ℕ, ◌+◌, ◌-◌, ◌%◌, ◌^◌, Bool, true, false, not, ◌&&◌, if◌then◌else◌, nat_eq, nat_lt, nat_le, IsTrue, length, Option, Some, None}
+use Rattle.std.specs.List.{list_all}
 use Rattle.ir_types.specs.declared.inst.Ty.{Ty}
-use Rattle.ir_types.specs.declared.inst.Ty.TheVariants.{Int as IntTy, Void}
+use Rattle.ir_types.specs.declared.inst.Ty.TheVariants.{Int as IntTy, Ptr as PtrTy, Vector, Void}
 use Rattle.ir_types.specs.declared.inst.BinOp.{BinOp}
 use Rattle.ir_types.specs.declared.inst.BinOp.TheVariants.{Add}
 use Rattle.ir_types.specs.declared.inst.Pred.{Pred}
@@ -13,13 +14,20 @@ use Rattle.ir_types.specs.declared.value.Value.TheVariants.{Int, Ptr, Poison, La
 
 -- ---- types of values
 
--- whether a value is of a type: a number below 2^w for the width w, or poison
+-- whether a lane of w bits is a number below 2^w, or poison
+abbrev pub fits_lane : ℕ → Option ℕ → Bool
+fits_lane w None = true
+fits_lane w (Some x) = nat_lt x (2 ^ w)
+
+-- whether a value is of a type: a number below 2^w for the width w, an address below 2^64, so many lanes of that width; or poison, but for
+-- vectors, whose lanes are poison one by one
 abbrev pub has_type : Ty → Value → Bool
 has_type (IntTy w) (Int v x) = nat_eq v w && nat_lt x (2 ^ w)
 has_type (IntTy w) Poison = true
-has_type (IntTy w) (Ptr p) = false
-has_type (IntTy w) (Lanes v xs) = false
-has_type Void v = false
+has_type PtrTy (Ptr p) = nat_lt p.address (2 ^ 64)
+has_type PtrTy Poison = true
+has_type (Vector n w) (Lanes v xs) = nat_eq v w && (nat_eq (length xs) n && list_all (fits_lane w) xs)
+has_type ty v = false
 
 abbrev pub HasType : Ty → Value → Type 0
 HasType ty v = IsTrue (has_type ty v)

@@ -6,8 +6,12 @@ use lists::Few;
 /// A first-class type, or `Void` where there is no value.
 #[derive(Clone, Copy, Debug, PartialEq, Eq)]
 pub enum Ty {
-    /// An integer of so many bits.
+    /// An integer of so many bits: 1, 8, 16, 32 or 64.
     Int(u32),
+    /// A pointer.
+    Ptr,
+    /// A vector: the number of its lanes, a power of two from 2 to 512, and their width in bits.
+    Vector(u32, u32),
     /// No value.
     Void,
 }
@@ -70,7 +74,7 @@ pub type Labels = Few<ValueId, 2>;
 pub enum InstKind {
     /// Two operands of the result's type.
     Binary(BinOp),
-    /// `icmp`: two operands of the type held here, and a result of one bit.
+    /// `icmp`: two operands of the type held here, and a result of one bit, or of one bit for each lane.
     Compare(Pred, Ty),
     /// An operand and a label for each entry.
     Phi,
@@ -80,6 +84,8 @@ pub enum InstKind {
     Branch,
     /// `ret`: the value, of the type held here.
     Return(Ty),
+    /// `ret void`.
+    ReturnVoid,
 }
 
 /// An instruction.

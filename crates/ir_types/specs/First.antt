@@ -1,0 +1,39 @@
+-- The modules whose instructions have a meaning by now.
+use Rattle.std.specs.Prelude.{◌≡◌, ◌⊎◌, List}
+use Rattle.std.specs.List.{AllByRecursion}
+use Rattle.ir_types.specs.declared.inst.Ty.{Ty}
+use Rattle.ir_types.specs.declared.inst.Ty.TheVariants.{Int, Ptr, Vector, Void}
+use Rattle.ir_types.specs.declared.inst.InstKind.{InstKind}
+use Rattle.ir_types.specs.declared.inst.InstKind.TheVariants.{Binary, Compare, Phi, Jump, Branch, Return, ReturnVoid}
+use Rattle.ir_types.specs.declared.inst.Inst.{Inst}
+use Rattle.ir_types.specs.declared.module.Block.{Block}
+use Rattle.ir_types.specs.declared.module.Param.{Param}
+use Rattle.ir_types.specs.declared.module.Function.{Function}
+use Rattle.ir_types.specs.declared.module.Module.{Module}
+
+-- i1 or i32
+abbrev pub IsFirstType : Ty → Type 0
+IsFirstType (Int w) = (w ≡ 1) ⊎ (w ≡ 32)
+IsFirstType Ptr = ⊥
+IsFirstType (Vector n w) = ⊥
+IsFirstType Void = ⊥
+
+-- `add`, `icmp`, `phi`, `br` or `ret`, of i1 or i32
+abbrev pub IsFirstInst : InstKind → Ty → Type 0
+IsFirstInst (Binary op) ty = IsFirstType ty
+IsFirstInst (Compare p of) ty = IsFirstType of
+IsFirstInst Phi ty = IsFirstType ty
+IsFirstInst Jump ty = Unit {0}
+IsFirstInst Branch ty = Unit {0}
+IsFirstInst (Return of) ty = IsFirstType of
+IsFirstInst ReturnVoid ty = ⊥
+
+-- a function of such types and instructions alone
+pub record IsFirstFunction (f : Function) : Type 0 where
+  pub ret : IsFirstType f.ret
+  pub params : AllByRecursion (λ (p : Param). IsFirstType p.ty) f.params
+  pub insts : AllByRecursion (λ (b : Block). AllByRecursion (λ (i : Inst). IsFirstInst i.kind i.ty) b.insts) f.body
+
+-- a module of such functions alone
+abbrev pub IsFirst : Module → Type 0
+IsFirst m = AllByRecursion IsFirstFunction m.functions
