@@ -8,7 +8,7 @@ use Rattle.forms.specs.Walk.{walk, completed}
 use Rattle.ir_types.specs.declared.name.Name.{Name}
 use Rattle.ir_types.specs.declared.inst.Ty.{Ty}
 use Rattle.ir_types.specs.Tree.{ParamTree, BlockTree, FunctionTree, WrittenParam, WrittenBlock, WrittenFunction}
-use Rattle.ir_types.specs.Grammar.{int_type, global_name, parameter, list, some, block, between, function, function_tree}
+use Rattle.ir_types.specs.Grammar.{return_type, global_name, parameter, list, some, block, between, function, function_tree}
 use Rattle.ir_types.specs.Numbered.{numbered_param, numbered_block, numbered_function}
 use Rattle.ir_reader.specs.Threads.{thread, between_read}
 use Rattle.ir_reader.specs.Functions.{function_of, body_read, function_read}
@@ -114,6 +114,6 @@ function_is ts = by_word (read (exactly Word (codes "define")) ts)
     by_type u None = refl
     by_type u (Some t) = by_name u t.0 (read global_name t.1)
 
-    by_word : (o : Option (Unit {0} × List Lexeme)) → (o >>= λ d. read int_type d.1 >>= λ t. read global_name t.1 >>= λ g. body_read t.0 g.0 g.1) ≡ completed (numbered_function tt) (as_function (o >>= λ d. after_word d.0 (read int_type d.1 >>= λ t. after_type t.0 (read global_name t.1 >>= λ g. after_name g.0 (read (pair in_parens in_braces) g.1)))))
+    by_word : (o : Option (Unit {0} × List Lexeme)) → (o >>= λ d. read return_type d.1 >>= λ t. read global_name t.1 >>= λ g. body_read t.0 g.0 g.1) ≡ completed (numbered_function tt) (as_function (o >>= λ d. after_word d.0 (read return_type d.1 >>= λ t. after_type t.0 (read global_name t.1 >>= λ g. after_name g.0 (read (pair in_parens in_braces) g.1)))))
     by_word None = refl
-    by_word (Some d) = by_type d.0 (read int_type d.1)
+    by_word (Some d) = by_type d.0 (read return_type d.1)

@@ -6,7 +6,7 @@ use Rattle.forms.specs.declared.TokenKind.TheVariants.{Label}
 use Rattle.forms.specs.Reading.{◌>>=◌, opens, read, any_of, next_in, fits, first}
 use Rattle.ir_types.specs.Tree.{WrittenParam}
 use Rattle.ir_reader.proofs.Lines.{fits_append, or_nothing}
-use Rattle.ir_types.specs.Grammar.{parameter, int_type, commas, list, or_none, block, label, line, operation, terminator}
+use Rattle.ir_types.specs.Grammar.{parameter, value_type, vector_type, width, commas, list, or_none, block, label, line, operation, terminator}
 
 abbrev Params : Type 0
 Params = Option (List WrittenParam × List Lexeme)
@@ -23,12 +23,12 @@ same (Some x) = refl
 
 -- where a parameter stands next, there are some
 pub list_some : (ts : List Lexeme) → opens parameter ts ≡ true → read (list parameter) ts ≡ read (commas parameter) ts
-unfolding parameter int_type
+unfolding parameter value_type vector_type width
 list_some ts e = ap (λ (b : Bool). all_of (cond b (some_of (read (commas parameter) ts)) (Some (None, ts)))) e ∙ same (read (commas parameter) ts)
 
 -- and none elsewhere
 pub list_none : (ts : List Lexeme) → opens parameter ts ≡ false → read (list parameter) ts ≡ Some ([], ts)
-unfolding parameter int_type
+unfolding parameter value_type vector_type width
 list_none ts e = ap (λ (b : Bool). all_of (cond b (some_of (read (commas parameter) ts)) (Some (None, ts)))) e
 
 -- with which tokens a block begins

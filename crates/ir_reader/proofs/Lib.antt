@@ -1,4 +1,6 @@
 pub mod Modulo
+pub mod Branches
+pub mod Vectors
 pub mod Digits
 pub mod Lines
 pub mod Same

@@ -8,7 +8,7 @@ use Rattle.forms.specs.Reading.{◌>>=◌, Terminal, fits, fits_one, next_in, wo
 use Rattle.forms.proofs.Tables.{word_next}
 use Rattle.ir_types.specs.declared.name.Name.{Name}
 use Rattle.ir_types.specs.declared.inst.Ty.{Ty}
-use Rattle.ir_types.specs.declared.inst.Ty.TheVariants.{Int, Void}
+use Rattle.ir_types.specs.declared.inst.Ty.TheVariants.{Int, Ptr, Vector, Void}
 use Rattle.ir_types.specs.Tree.{InstTree}
 use Rattle.ir_types.specs.Grammar.{line, named_by, with_result, operation, operation_words, operation_behind, terminator, terminator_words, terminator_behind}
 use Rattle.ir_types.specs.Numbered.{numbered_inst, named_result, next_after}
@@ -95,6 +95,8 @@ read_plain table g ts e = rw (plain_opens table ts e) refl
 -- a written name is kept, and a number in it counts
 named_written : (next : ℕ) (t : Ty) (n : Name) → named_result next t (Some n) ≡ Some (Some n, next_after next n)
 named_written next (Int w) n = refl
+named_written next Ptr n = refl
+named_written next (Vector l w) n = refl
 named_written next Void n = refl
 
 pub numbered_named : (next : ℕ) (n : Name) (i : InstTree) → numbered_inst next (named_by i (Some n)) ≡ Some (named_by i (Some n), next_after next n)

@@ -10,7 +10,7 @@ use Rattle.ir_types.specs.declared.module.Param.{Param}
 use Rattle.ir_types.specs.declared.module.Block.{Block}
 use Rattle.ir_types.specs.Tree.{ParamTree, BlockTree, FunctionTree, ModuleTree}
 use Rattle.ir_types.specs.Denotes.{param_in, block_in}
-use Rattle.ir_types.specs.Grammar.{int_type, global_name, parameter, list, some, block, module_form}
+use Rattle.ir_types.specs.Grammar.{return_type, global_name, parameter, list, some, block, module_form}
 use Rattle.ir_types.specs.Numbered.{numbered_param, numbered_block, numbered_module}
 use Rattle.ir_reader.specs.Threads.{between_read}
 
@@ -34,7 +34,7 @@ body_read t n ts =
 abbrev pub function_read : List Lexeme → Option ((FunctionTree × Unit {0}) × List Lexeme)
 function_read ts =
     read (exactly Word (codes "define")) ts >>= λ d.
-    read int_type d.1 >>= λ t.
+    read return_type d.1 >>= λ t.
     read global_name t.1 >>= λ g.
     body_read t.0 g.0 g.1
 

@@ -22,7 +22,8 @@ use crate::inst::Place;
 use crate::line::begins_line;
 use crate::numbering::Numbering;
 use crate::param::params;
-use crate::value::{global, integer_type};
+use crate::types::return_type;
+use crate::value::global;
 use forms::{Cursor, SyntaxFault, TokenKind};
 use ir_types::{Block, Function, Names, Param};
 use lists::Items;
@@ -102,7 +103,7 @@ fn parts<'t>(alloc: Global, tokens: Cursor<'t>) -> Result<(Function, Cursor<'t>)
     let Some(rest) = tokens.behind_word(b"define") else {
         return Err(tokens.refusal());
     };
-    let (ret, rest) = integer_type(rest)?;
+    let (ret, rest) = return_type(rest)?;
     let (name, rest) = global(alloc, rest)?;
     let mut names = Names::new(alloc);
     let mut numbering = Numbering::new();

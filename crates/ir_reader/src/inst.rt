@@ -7,13 +7,14 @@ ghost use Rattle.forms.specs.Reading.{read};
 ghost use Rattle.forms.specs.Gives.{Gives, left};
 ghost use Rattle.ir_types.specs.declared.name.Name.{Name};
 ghost use Rattle.ir_types.specs.Denotes.{name_in, operand_in, inst_in};
-ghost use Rattle.ir_types.specs.Grammar.{width_of, operand_at, after_mark, value, binary, compared, compare, entry_of_phi, commas, phi, target, branch_tree, branch, ret, operation, terminator};
+ghost use Rattle.ir_types.specs.Grammar.{width_of, operand_at, after_mark, value, binary, compared, compare, entry_of_phi, commas, phi, target, branch_tree, branch, value_type, return_tree, ret, operation, terminator, bits_for};
 ghost use Rattle.forms.specs.Form.{pair, mapped};
 ghost use Rattle.ir_reader.specs.View.{Stays};
 ghost use Rattle.ir_reader.specs.Lines.{form_at};
 
 use crate::entries::{entries, parted};
-use crate::value::{comma_value, integer_type, local_id, operand, written_value};
+use crate::types::{begins_type, value_type};
+use crate::value::{comma_value, local_id, operand, written_value};
 use crate::words::{operation_of, predicate_of, terminator_of};
 use forms::{Cursor, SyntaxFault, TokenKind};
 use ir_types::{
@@ -73,7 +74,7 @@ fn binary<'t>(
     ensures reads { Gives (λ x. (inst_in names.new x.0, left x.1)) result (read (binary operator) (left tokens.entry)) }
     ensures stays { Stays inst_in names.new result }
 {
-    let (ty, rest) = integer_type(tokens)?;
+    let (ty, rest) = value_type(tokens)?;
     let (first, rest) = written_value(alloc, rest, names)?;
     let (second, rest) = comma_value(alloc, rest, names)?;
     let args = two_operands(alloc, operand(ty, first), operand(ty, second))?;
@@ -85,6 +86,16 @@ fn binary<'t>(
         result: None,
     };
     Ok((inst, rest))
+}
+
+/// The type of a comparison's result.
+fn bits_for(ty: Ty) -> Ty
+    ensures { result ≡ bits_for ty }
+{
+    match ty {
+        Ty::Vector(lanes, _) => Ty::Vector(lanes, 1),
+        Ty::Int(_) | Ty::Ptr | Ty::Void => Ty::Int(1),
+    }
 }
 
 /// T V, V behind the predicate.
@@ -99,13 +110,13 @@ fn compared<'t>(
     ensures reads { Gives (λ x. (inst_in names.new x.0, left x.1)) result (read (compared predicate) (left tokens.entry)) }
     ensures stays { Stays inst_in names.new result }
 {
-    let (ty, rest) = integer_type(tokens)?;
+    let (ty, rest) = value_type(tokens)?;
     let (first, rest) = written_value(alloc, rest, names)?;
     let (second, rest) = comma_value(alloc, rest, names)?;
     let args = two_operands(alloc, operand(ty, first), operand(ty, second))?;
     let inst = Inst {
         kind: InstKind::Compare(predicate, ty),
-        ty: Ty::Int(1),
+        ty: bits_for(ty),
         args,
         labels: Few::new(alloc),
         result: None,
@@ -142,7 +153,7 @@ fn phi<'t>(
     ensures reads { Gives (λ x. (inst_in names.new x.0, left x.1)) result (read phi (left tokens.entry)) }
     ensures stays { Stays inst_in names.new result }
 {
-    let (ty, rest) = integer_type(tokens)?;
+    let (ty, rest) = value_type(tokens)?;
     let (entries, rest) = entries(alloc, rest, names)?;
     let (args, labels) = parted(alloc, ty, entries.as_slice())?;
     let inst = Inst {
@@ -237,7 +248,29 @@ fn branch<'t>(
 }
 
 /// T V.
-#[tactic(auto, unfolding(ir_types::specs::Grammar::ret))]
+fn returned_value<'t>(
+    alloc: Global,
+    tokens: Cursor<'t>,
+    names: &mut Names,
+) -> Result<(Inst, Cursor<'t>), SyntaxFault>
+    ensures grows { Extends names.old names.new }
+    ensures reads { Gives (λ x. (inst_in names.new x.0, left x.1)) result (read (mapped return_tree (pair value_type value)) (left tokens.entry)) }
+    ensures stays { Stays inst_in names.new result }
+{
+    let (ty, rest) = value_type(tokens)?;
+    let (value, rest) = written_value(alloc, rest, names)?;
+    let inst = Inst {
+        kind: InstKind::Return(ty),
+        ty: Ty::Void,
+        args: one_operand(alloc, operand(ty, value))?,
+        labels: Few::new(alloc),
+        result: None,
+    };
+    Ok((inst, rest))
+}
+
+/// T V | void.
+#[tactic(auto, unfolding(ir_types::specs::Grammar::ret, ir_types::specs::Grammar::value_type, ir_types::specs::Grammar::vector_type, ir_types::specs::Grammar::width))]
 fn give_back<'t>(
     alloc: Global,
     tokens: Cursor<'t>,
@@ -247,12 +280,14 @@ fn give_back<'t>(
     ensures reads { Gives (λ x. (inst_in names.new x.0, left x.1)) result (read ret (left tokens.entry)) }
     ensures stays { Stays inst_in names.new result }
 {
-    let (ty, rest) = integer_type(tokens)?;
-    let (value, rest) = written_value(alloc, rest, names)?;
+    if begins_type(tokens) {
+        return returned_value(alloc, tokens, names);
+    }
+    let rest = tokens.word(b"void")?;
     let inst = Inst {
-        kind: InstKind::Return(ty),
+        kind: InstKind::ReturnVoid,
         ty: Ty::Void,
-        args: one_operand(alloc, operand(ty, value))?,
+        args: Few::new(alloc),
         labels: Few::new(alloc),
         result: None,
     };

@@ -23,6 +23,7 @@ mod numbers;
 mod param;
 #[cfg(test)]
 mod tests;
+mod types;
 mod value;
 mod words;
 

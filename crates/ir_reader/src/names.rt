@@ -3,7 +3,7 @@
 ghost use Rattle.std.specs.Prelude.{◌≡◌, IfOk};
 ghost use Rattle.ir_types.specs.Written.{numbered_name, number_of, name_of, name_behind, name_before};
 
-use crate::numbers::number_of_name;
+use crate::numbers::number_of_32_bits;
 use forms::{unescaped, without_last};
 use ir_types::Name;
 use lists::Text;
@@ -13,7 +13,7 @@ use std::alloc::{AllocError, Global};
 fn numbered_name(digits: &[u8]) -> Option<Name>
     ensures { result ≡ numbered_name (number_of digits.now) }
 {
-    match number_of_name(digits) {
+    match number_of_32_bits(digits) {
         Some(number) => Some(Name::Number(number)),
         None => None,
     }

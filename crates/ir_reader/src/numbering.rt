@@ -82,7 +82,7 @@ pub fn result_id(
     ensures stays { IfOk result (λ r. (later : List Name) → Extends names.new later → option_map (name_in later) r ≡ option_map (name_in names.new) r) }
 {
     match ty {
-        Ty::Int(_) => {
+        Ty::Int(_) | Ty::Ptr | Ty::Vector(_, _) => {
             let id = named_id(None, names, numbering, tokens)?;
             Ok(Some(id))
         }

@@ -46,7 +46,7 @@ pub fn number_at(width: u32, text: &[u8]) -> u64
 }
 
 /// The number of 32 bits that decimal digits stand for.
-pub fn number_of_name(digits: &[u8]) -> Option<u32>
+pub fn number_of_32_bits(digits: &[u8]) -> Option<u32>
     ensures { SomeIff result (number_of digits.now < 2 ^ 32) (number_of digits.now) }
 {
     let mut number = 0u32;

@@ -15,7 +15,8 @@ ghost use Rattle.ir_reader.specs.View.{Stays};
 ghost use Rattle.ir_reader.specs.Functions.{params_in};
 
 use crate::numbering::{Numbering, named_id};
-use crate::value::{integer_type, local};
+use crate::types::{begins_type, value_type};
+use crate::value::local;
 use forms::{Cursor, SyntaxFault, TokenKind};
 use ir_types::{Names, Param, ValueId};
 use std::alloc::Global;
@@ -53,7 +54,7 @@ fn param<'t>(
     ensures reads { Gives (λ x. ((param_in names.new x.0, numbering.new.next), left x.1)) result (completed (numbered_param numbering.old.next) (read parameter (left tokens.entry))) }
     ensures stays { Stays param_in names.new result }
 {
-    let (ty, rest) = integer_type(tokens)?;
+    let (ty, rest) = value_type(tokens)?;
     let (name, rest) = param_name(alloc, rest, names, numbering)?;
     Ok((Param { ty, name }, rest))
 }
@@ -75,15 +76,15 @@ fn comma_param<'t>(
 }
 
 /// Whether a parameter stands next.
-#[tactic(auto, unfolding(ir_types::specs::Grammar::parameter, ir_types::specs::Grammar::int_type))]
+#[tactic(auto, unfolding(ir_types::specs::Grammar::parameter, ir_types::specs::Grammar::value_type, ir_types::specs::Grammar::vector_type, ir_types::specs::Grammar::width))]
 fn begins_param(tokens: Cursor<'_>) -> bool
     ensures { result ≡ opens parameter (left tokens.entry) }
 {
-    tokens.behind_word(b"i1").is_some() || tokens.behind_word(b"i32").is_some()
+    begins_type(tokens)
 }
 
 /// Whether a comma and a parameter stand next.
-#[tactic(auto, unfolding(ir_types::specs::Grammar::parameter, ir_types::specs::Grammar::int_type))]
+#[tactic(auto, unfolding(ir_types::specs::Grammar::parameter, ir_types::specs::Grammar::value_type, ir_types::specs::Grammar::vector_type, ir_types::specs::Grammar::width))]
 fn another(tokens: Cursor<'_>) -> bool
     ensures { result ≡ opens (marked Comma parameter) (left tokens.entry) }
 {

@@ -1,4 +1,4 @@
-// Local names, types and values.
+// Local names and values.
 
 ghost use Rattle.std.specs.Prelude.{◌≡◌, ◌≤◌, List, IfOk};
 ghost use Rattle.forms.specs.View.{Extends};
@@ -8,7 +8,7 @@ ghost use Rattle.forms.specs.Gives.{Gives, left};
 ghost use Rattle.ir_types.specs.declared.name.Name.{Name};
 ghost use Rattle.ir_types.specs.Names.{IsTable};
 ghost use Rattle.ir_types.specs.Denotes.{name_in, operand_in};
-ghost use Rattle.ir_types.specs.Grammar.{local_name, global_name, label, int_type, value, after_mark, width_of, operand_at};
+ghost use Rattle.ir_types.specs.Grammar.{local_name, global_name, label, value, after_mark, width_of, operand_at};
 ghost use Rattle.forms.specs.declared.TokenKind.TheVariants.{Comma};
 ghost use Rattle.ir_reader.specs.View.{written_in, Stays};
 
@@ -79,21 +79,6 @@ pub fn local_id<'t>(
     Ok((id, rest))
 }
 
-/// A type.
-#[tactic(auto, unfolding(ir_types::specs::Grammar::int_type))]
-pub fn integer_type<'t>(tokens: Cursor<'t>) -> Result<(Ty, Cursor<'t>), SyntaxFault>
-    ensures reads { Gives (λ x. (x.0, left x.1)) result (read int_type (left tokens.entry)) }
-    ensures narrow { IfOk result (λ x. width_of x.0 ≤ 64) }
-{
-    if let Some(rest) = tokens.behind_word(b"i1") {
-        return Ok((Ty::Int(1), rest));
-    }
-    if let Some(rest) = tokens.behind_word(b"i32") {
-        return Ok((Ty::Int(32), rest));
-    }
-    Err(tokens.refusal())
-}
-
 /// A value as it is written.
 #[tactic(auto, unfolding(ir_types::specs::Grammar::value, ir_types::specs::Grammar::local_name))]
 pub fn written_value<'t>(
@@ -143,7 +128,7 @@ pub fn operand(ty: Ty, written: Written<'_>) -> Operand
 {
     let width = match ty {
         Ty::Int(width) => width,
-        Ty::Void => 64,
+        Ty::Ptr | Ty::Vector(_, _) | Ty::Void => 64,
     };
     match written {
         Written::Named(id) => Operand::Local(id),

@@ -2,7 +2,7 @@ use Rattle.std.proofs.Common.{◌≡◌, ◌+◌, ◌*◌, ◌-◌, ◌∷◌, d
 use Rattle.std.proofs.Math.Seq.{drop-cons}
 use Rattle.ir_types.specs.Written.{number_from, number_of}
 use Rattle.ir_reader.proofs.Digits.{no_less, nothing_left}
-use Rattle.ir_reader.proofs.numbers.number_of_name.Goals as goal
+use Rattle.ir_reader.proofs.numbers.number_of_32_bits.Goals as goal
 
 pub returns-then-next-from : goal.returns-then-next-from
 returns-then-next-from c = λ small.
