@@ -1,8 +1,7 @@
 -- Worked examples of what is left out.
-use Rattle.std.proofs.Common.{◌≡◌, true, false, List, [], ◌∷◌, codes, refl}
-use Rattle.forms.specs.declared.TokenKind.TheVariants.{Word, Metadata, Number, Quoted, Equal}
-use Rattle.forms.specs.Form.{Lexeme}
-use Rattle.forms.specs.LeftOut.{left_out_words, widths, is_left_out, parts_of, is_foreign_layout, is_left_out_at}
+use Rattle.std.proofs.Common.{◌≡◌, true, false, [], ◌∷◌, codes, refl}
+use Rattle.forms.specs.declared.TokenKind.TheVariants.{Word, Metadata}
+use Rattle.forms.specs.LeftOut.{left_out_words, widths, is_left_out, parts_of}
 
 record LeftOuts : Type 0 where
   double : is_left_out Word (codes "double") ≡ true

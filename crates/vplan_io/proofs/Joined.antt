@@ -77,3 +77,8 @@ no-back (x ∷ a) b e = absurd (cc)
 -- two texts that are taken one behind the other
 pub both-taken : (before middle now : Option (List ℕ)) (a b : List ℕ) → middle ≡ and_then before a → now ≡ and_then middle b → now ≡ and_then before (a ++ b)
 both-taken before middle now a b e f = f ∙ ap (λ o. and_then o b) e ∙ and_then-twice before a b
+
+-- what a put takes is a front of the text
+pub front-of-takes : {E : Type 0} (before now : Option (List ℕ)) (text : List ℕ) (result : Result (Unit {0}) E) → Takes before now text result → (n : ℕ) × (now ≡ and_then before (take n text))
+front-of-takes before now text (Ok v) t = (length text, t ∙ ap (and_then before) (sym (take-whole (length text) text (omega arith))))
+front-of-takes before now text (Err e) t = t

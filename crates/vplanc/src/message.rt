@@ -30,6 +30,7 @@ fn line_with(head: &str, middle: &str, tail: &str) -> ArrayString<LINE>
 }
 
 /// A line in three parts: the middle one may be long.
+#[derive(Drop)]
 struct Line<'a> {
     head: ArrayString<LINE>,
     word: &'a [u8],
