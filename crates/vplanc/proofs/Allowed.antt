@@ -28,7 +28,7 @@ took-allowed (Some text) (Some old) now t =
       record {
         file_reads = (p.meant, p.file_reads.2);
         print_reads = (p.meant, p.text_reads);
-        allows = λ m n r s. text-allows text t.printed p.meant m n p.file_reads.2 p.text_reads r s;
+        allows = λ m n first r s. text-allows text t.printed p.meant m n p.file_reads.2 p.text_reads r s;
       },
     )
 

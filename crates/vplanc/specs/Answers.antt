@@ -14,6 +14,7 @@ use Rattle.ir_types.specs.declared.module.Module.{Module}
 use Rattle.ir_types.specs.Denotes.{tree_of}
 use Rattle.ir_types.specs.Reads.{Reads}
 use Rattle.ir_types.specs.Allows.{Allows, factor_of}
+use Rattle.ir_types.specs.First.{IsFirst}
 use Rattle.ir_reader.specs.Refusal.{IsRefusal}
 use Rattle.ir_printer.specs.Print.{module_pieces}
 use Rattle.vplanc.specs.declared.answer.Which.{Which}
@@ -169,12 +170,12 @@ abbrev pub OutLeft : Option (List ℕ) → (List ℕ → Option (List ℕ)) → 
 OutLeft None told before now status = now ≡ before
 OutLeft (Some file) told before now status = OutHolds (told file) before now status
 
--- Of a file's text and what was printed of it: both read as a module, and whichever modules these are, the first allows the second, with
--- one more than the number of the second's instructions as the factor.
+-- Of a file's text and what was printed of it: both read as a module, and whichever modules these are, the first, where its instructions
+-- have a meaning by now, allows the second, with one more than the number of the second's instructions as the factor.
 pub record IsAllowed (text printed : List ℕ) : Type 0 where
   pub file_reads : (m : Module) × Reads text m
   pub print_reads : (n : Module) × Reads printed n
-  pub allows : (m n : Module) → Reads text m → Reads printed n → Allows m n (factor_of n)
+  pub allows : (m n : Module) → IsFirst m → Reads text m → Reads printed n → Allows m n (factor_of n)
 
 -- where the file and `out` are told, `out` took a text that the file's allows
 abbrev pub TookAllowed : (told before now : Option (List ℕ)) → Type 0
