@@ -10,3 +10,5 @@ pub mod Walk
 pub mod Gives
 pub mod Nested
 pub mod Machine
+pub mod Combined
+pub mod Kept
