@@ -1,10 +1,10 @@
 -- The grammar of modules.
-use Rattle.std.specs.Prelude.{ℕ, List, [], ◌∷◌, ◌++◌, map, codes, find, ◌==◌, Option, Some, None, if◌then◌else◌}
-use Rattle.forms.specs.declared.TokenKind.{TokenKind}
+use Rattle.std.specs.Prelude.{ℕ, List, [], ◌∷◌, ◌++◌, map, codes, find, nat_lt, ◌^◌, ◌==◌, Option, Some, None, if◌then◌else◌}
 use Rattle.forms.specs.declared.TokenKind.TheVariants.{Local, Global, Label, Word, Number, Equal, Comma, LeftParen, RightParen, LeftBracket, RightBracket, LeftBrace, RightBrace, Less, Greater}
 use Rattle.forms.specs.Form.{Form, exactly, one, ahead, pair, either, mapped, made, optional, many, by_word}
 use Rattle.forms.specs.Reading.{◌>>=◌}
 use Rattle.forms.specs.Gives.{mark}
+pub use Rattle.forms.specs.Combined.{word, behind, after_mark, between, marked, some, commas, or_none, list}
 use Rattle.ir_types.specs.declared.name.Name.{Name}
 use Rattle.ir_types.specs.declared.inst.Ty.{Ty}
 use Rattle.ir_types.specs.declared.inst.Ty.TheVariants.{Int, Ptr, Vector, Void}
@@ -17,47 +17,11 @@ use Rattle.ir_types.specs.declared.opcode.Operation.{Operation}
 use Rattle.ir_types.specs.declared.opcode.Operation.TheVariants as operations
 use Rattle.ir_types.specs.declared.opcode.Terminator.{Terminator}
 use Rattle.ir_types.specs.declared.opcode.Terminator.TheVariants as terminators
+pub use Rattle.ir_types.specs.Types.{lane_counts}
 use Rattle.ir_types.specs.Written.{number_of, number_at, name_behind, name_before}
+use Rattle.forms.specs.Nested.{TypeParts, memory}
+use Rattle.ir_types.specs.TypeNodes.{TypeNode, scalar, called, array, opening, closing}
 use Rattle.ir_types.specs.Tree.{OperandTree, local, number, InstTree, WrittenParam, WrittenBlock, WrittenFunction, WrittenModule}
-
--- ---- forms that are used in many places
-
--- a word that stands for a value
-abbrev pub word : {A : Type 0} → List ℕ → A → Form A
-word w a = mapped (λ _. a) (exactly Word w)
-
--- a form behind a word
-abbrev pub behind : {A : Type 0} → List ℕ → Form A → Form A
-behind w f = mapped (λ x. x.1) (pair (exactly Word w) f)
-
--- a form behind a mark
-abbrev pub after_mark : {A : Type 0} → TokenKind → Form A → Form A
-after_mark k f = mapped (λ x. x.1) (pair (mark k) f)
-
--- a form between two marks
-abbrev pub between : {A : Type 0} → TokenKind → TokenKind → Form A → Form A
-between o c f = mapped (λ x. x.1.0) (pair (mark o) (pair f (mark c)))
-
--- a form behind a mark, which is read only where the form's beginning stands behind the mark
-abbrev pub marked : {A : Type 0} → TokenKind → Form A → Form A
-marked k f = mapped (λ x. x.1) (ahead k f)
-
--- at least one
-abbrev pub some : {A : Type 0} → Form A → Form (List A)
-some f = mapped (λ x. x.0 ∷ x.1) (pair f (many f))
-
--- at least one, parted by commas behind each of which another stands
-abbrev pub commas : {A : Type 0} → Form A → Form (List A)
-commas f = mapped (λ x. x.0 ∷ x.1) (pair f (many (marked Comma f)))
-
--- the list where there is one, and else the empty one
-abbrev pub or_none : {A : Type 0} → Option (List A) → List A
-or_none None = []
-or_none (Some xs) = xs
-
--- parted by commas, or none
-abbrev pub list : {A : Type 0} → Form A → Form (List A)
-list f = mapped or_none (optional (commas f))
 
 -- ---- names, types and values
 
@@ -77,10 +41,6 @@ label = made name_before (one Label)
 unfoldable pub width : Form ℕ
 width = either (word (codes "i1") 1) (either (word (codes "i8") 8) (either (word (codes "i16") 16) (either (word (codes "i32") 32) (word (codes "i64") 64))))
 
--- the powers of two from 2 to 512
-abbrev pub lane_counts : List ℕ
-lane_counts = 2 ∷ 4 ∷ 8 ∷ 16 ∷ 32 ∷ 64 ∷ 128 ∷ 256 ∷ 512 ∷ []
-
 -- the number of lanes that is written so: digits without a sign, for one of those powers
 abbrev pub lanes_of : List ℕ → Option ℕ
 lanes_of [] = None
@@ -90,9 +50,13 @@ lanes_of (c ∷ ds) = if c == 45 then None else find (λ n. n == number_of (c �
 abbrev pub vector_of : List ℕ × ℕ → Option Ty
 vector_of x = lanes_of x.0 >>= λ n. Some (Vector n x.1)
 
--- < n x iN >
+-- n x iN >
+abbrev pub vector_parts : Form (List ℕ × ℕ)
+vector_parts = mapped (λ x. x.0) (pair (pair (one Number) (behind (codes "x") width)) (mark Greater))
+
+-- < n x iN >, where a number stands behind `<`
 unfoldable pub vector_type : Form Ty
-vector_type = made vector_of (between Less Greater (pair (one Number) (behind (codes "x") width)))
+vector_type = made vector_of (marked Less vector_parts)
 
 -- T := iN | ptr | < n x iN >
 unfoldable pub value_type : Form Ty
@@ -101,6 +65,27 @@ value_type = either (mapped Int width) (either (word (codes "ptr") Ptr) vector_t
 -- R := T | void
 unfoldable pub return_type : Form Ty
 return_type = either value_type (word (codes "void") Void)
+
+-- the number of an array's elements that is written so: digits without a sign, for a number below 2^64
+abbrev pub elements_of : List ℕ → Option ℕ
+elements_of [] = None
+elements_of (c ∷ ds) = if c == 45 then None else (if nat_lt (number_of (c ∷ ds)) (2 ^ 64) then Some (number_of (c ∷ ds)) else None)
+
+-- T | %name
+unfoldable pub memory_leaf : Form (List TypeNode)
+memory_leaf = either (mapped (λ t. scalar t ∷ []) value_type) (mapped (λ n. called n ∷ []) local_name)
+
+-- [ n x
+unfoldable pub array_begin : Form (List TypeNode)
+array_begin = mapped (λ n. array n.0 ∷ []) (after_mark LeftBracket (pair (made elements_of (one Number)) (exactly Word (codes "x"))))
+
+-- what stands in memory types: T | %name | [ n x M ] | { M, .. } | <{ M, .. }>
+unfoldable pub type_parts : TypeParts TypeNode
+type_parts = record { leaf = memory_leaf; array_head = array_begin; opening = opening; closing = closing }
+
+-- M, nested at most so deep, as its nodes
+abbrev pub memory_type : ℕ → Form (List TypeNode)
+memory_type depth = memory type_parts depth
 
 -- a value as it is written
 pub data WrittenValue : Type 0 where

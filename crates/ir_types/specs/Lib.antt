@@ -1,4 +1,7 @@
 pub mod Names
+pub mod Types
+pub mod TypeNodes
+pub mod Sizes
 pub mod Tree
 pub mod Written
 pub mod Grammar

@@ -3,13 +3,15 @@
 #![tactic(auto)]
 
 mod inst;
+mod memory_type;
 mod module;
 mod name;
 mod opcode;
 mod value;
 
 pub use inst::{BinOp, Inst, InstKind, Labels, Operand, Operands, Pred, Ty};
-pub use module::{Block, Function, Module, Param};
+pub use memory_type::{Extent, MemTy, NamedType, TypeId, TypeName};
+pub use module::{Block, FuncId, Function, Kept, Module, Param, Symbol, SymbolKind};
 pub use name::{Name, Names, ValueId};
 pub use opcode::{Operation, Terminator};
 pub use value::{Allocation, Byte, Outcome, Pointer, Value};
