@@ -1,8 +1,14 @@
 -- One token ahead decides what the grammar reads; where a comma or a name with `=` leads, what stands behind it.
-use Rattle.std.proofs.Common.{◌≡◌, true, false, refl}
-use Rattle.forms.specs.Reading.{decides, nullable}
-use Rattle.forms.specs.Nested.{PartsDecide}
-use Rattle.ir_types.specs.Grammar.{local_name, global_name, label, width, vector_type, value_type, memory_leaf, array_begin, type_parts, return_type, value, binary, predicates, compared, compare, entry_of_phi, phi, target, branch, ret, operation_words, operation, terminator_words, terminator, line, block, parameter, function, module_form}
+use Rattle.std.proofs.Common.{◌≡◌, ℕ, zero, suc, true, false, List, [], ◌∷◌, codes, refl}
+use Rattle.forms.specs.declared.TokenKind.TheVariants.{Word}
+use Rattle.forms.specs.Form.{Form, many}
+use Rattle.forms.specs.Reading.{this, all_apart, decides, nullable, first, after}
+use Rattle.forms.specs.Nested.{PartsDecide, memory}
+use Rattle.forms.specs.Kept.{kept_piece, kept_run, metadata_node, attachment, attachments}
+use Rattle.forms.specs.LeftOut.{left_out_words}
+use Rattle.forms.proofs.NestedDecides.{memory_decides, memory_takes, memory_after}
+use Rattle.ir_types.specs.TypeNodes.{TypeNode}
+use Rattle.ir_types.specs.Grammar.{local_name, global_name, label, width, vector_type, value_type, memory_leaf, array_begin, type_parts, memory_type, return_type, value, binary, predicates, compared, compare, entry_of_phi, phi, target, branch, ret, operation_words, operation, terminator_words, terminator, line, block, type_words, value_words, item_words, instruction_words, excluded_words, kept, parameter, dotted_parameters, declared_function, defined_function, target_line, attribute_group, comdat, metadata, type_definition, initialiser_stops, extra_behind, behind_type, variable_word, variable_definition, item, module_form}
 
 -- in memory types too, at every depth
 pub parts_decide : PartsDecide type_parts
@@ -19,9 +25,20 @@ parts_decide = record {
   end_apart = refl;
 }
 
-pub module_decides : decides module_form ≡ true
-unfolding local_name global_name label width vector_type value_type return_type value binary predicates compared compare entry_of_phi phi target branch ret operation_words operation terminator_words terminator block parameter function module_form
-module_decides = refl
+-- no memory type begins with the word `opaque`
+not_opaque : (d : ℕ) → all_apart (first (memory_type d)) (this Word (codes "opaque") ∷ []) ≡ true
+unfolding local_name width vector_type value_type memory_leaf array_begin type_parts
+not_opaque zero = refl
+not_opaque (suc d) = refl
+
+-- whatever the form of memory types is
+items_decide : (m : Form (List TypeNode)) → decides m ≡ true → nullable m ≡ false → after m ≡ [] → all_apart (first m) (this Word (codes "opaque") ∷ []) ≡ true → decides (many (item m)) ≡ true
+unfolding local_name global_name label width vector_type value_type return_type value binary predicates compared compare entry_of_phi phi target branch ret operation_words operation terminator_words terminator block kept_piece kept_run metadata_node attachment attachments left_out_words type_words value_words item_words instruction_words excluded_words kept parameter dotted_parameters declared_function defined_function target_line attribute_group comdat metadata type_definition initialiser_stops extra_behind behind_type variable_word variable_definition item
+items_decide m d n a o = rw (d, n, a, o) refl
+
+pub module_decides : (depth : ℕ) → decides (module_form depth) ≡ true
+unfolding module_form
+module_decides depth = items_decide (memory_type depth) (memory_decides type_parts parts_decide depth) (memory_takes type_parts parts_decide depth) (memory_after type_parts parts_decide depth) (not_opaque depth)
 
 -- each of these takes a token
 
@@ -33,6 +50,6 @@ pub block_takes : nullable block ≡ false
 unfolding block operation terminator
 block_takes = refl
 
-pub function_takes : nullable function ≡ false
-unfolding function
-function_takes = refl
+pub item_takes : (m : Form (List TypeNode)) → nullable (item m) ≡ false
+unfolding type_definition variable_definition comdat metadata item
+item_takes m = refl

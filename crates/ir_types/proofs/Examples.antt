@@ -1,18 +1,23 @@
 -- Worked examples of what names, numbers and texts stand for.
-use Rattle.std.proofs.Common.{◌≡◌, ℕ, ◌+◌, ◌%◌, ◌^◌, List, [], ◌∷◌, ◌++◌, map, codes, Option, Some, None, if◌then◌else◌, eqb, refl}
+use Rattle.std.specs.List.{filter_map}
+use Rattle.std.proofs.Common.{◌≡◌, ℕ, true, false, length, ◌+◌, ◌%◌, ◌^◌, List, [], ◌∷◌, ◌++◌, map, codes, Option, Some, None, if◌then◌else◌, eqb, refl}
 use Rattle.forms.specs.declared.TokenKind.{TokenKind}
 use Rattle.forms.specs.Form.{Lexeme}
 use Rattle.forms.specs.Lexical.{kind_of, table}
+use Rattle.forms.specs.Kept.{kept_piece, kept_run, metadata_node, attachment, attachments}
+use Rattle.forms.specs.LeftOut.{left_out_words}
 use Rattle.forms.specs.Reading.{◌>>=◌, read_whole}
 use Rattle.ir_types.specs.declared.name.Name.{Name}
 use Rattle.ir_types.specs.declared.name.Name.TheVariants.{Text, Number}
 use Rattle.ir_types.specs.declared.inst.Ty.TheVariants.{Int, Void}
 use Rattle.ir_types.specs.declared.inst.Pred.TheVariants.{Slt}
-use Rattle.ir_types.specs.declared.inst.InstKind.TheVariants.{Compare, Phi, Jump, Branch, Return}
+use Rattle.ir_types.specs.declared.inst.InstKind.TheVariants.{Compare, Phi, Jump, Branch, Return, ReturnVoid}
 use Rattle.ir_types.specs.Written.{number_of, number_at, unescaped, name_behind, name_before}
-use Rattle.ir_types.specs.Tree.{local, number, InstTree, BlockTree, FunctionTree, WrittenFunction, WrittenModule}
-use Rattle.ir_types.specs.Grammar.{local_name, global_name, label, width, vector_type, value_type, return_type, value, binary, predicates, compared, compare, entry_of_phi, phi, target, branch, ret, operation_words, operation, terminator_words, terminator, block, parameter, function, module_form}
+use Rattle.ir_types.specs.TypeNodes.{TypeNode, scalar, called, array, opening, closing}
+use Rattle.ir_types.specs.Tree.{local, number, InstTree, BlockTree, FunctionTree, WrittenFunction, TypeNameTree, defined, opaque, missing, ModuleTree, Item, head_line, comdat_line, type_item, variable_item, function_item, metadata_line}
+use Rattle.ir_types.specs.Grammar.{local_name, global_name, label, width, vector_type, value_type, return_type, value, binary, predicates, compared, compare, entry_of_phi, phi, target, branch, ret, operation_words, operation, terminator_words, terminator, block, type_words, value_words, item_words, instruction_words, excluded_words, kept, memory_leaf, array_begin, type_parts, parameter, dotted_parameters, declared_function, defined_function, target_line, attribute_group, comdat, metadata, type_definition, initialiser_stops, extra_behind, behind_type, variable_word, variable_definition, item, module_form}
 use Rattle.ir_types.specs.Numbered.{numbered_module}
+use Rattle.ir_types.specs.Collected.{as_function, resolved_module}
 
 -- a string with a backslash and a quotation mark, which a literal here cannot have
 abbrev slash : ℕ
@@ -105,8 +110,11 @@ abbrev tokens : List ℕ → List ℕ → List Lexeme
 tokens w [] = token w (kind_of w)
 tokens w (c ∷ cs) = if eqb c 32 then token w (kind_of w) ++ tokens [] cs else tokens (w ++ c ∷ []) cs
 
-abbrev reading : List ℕ → Option WrittenModule
-reading s = read_whole module_form (tokens [] s)
+abbrev read_items : List Lexeme → Option (List (Item WrittenFunction))
+read_items ts = read_whole (module_form (length ts)) ts
+
+abbrev reading : List ℕ → Option (List (Item WrittenFunction))
+reading s = read_items (tokens [] s)
 
 -- ---- how things without a name are numbered: the names of the parameters, then of each block and of its results
 
@@ -122,13 +130,16 @@ abbrev function_names : List FunctionTree → List (List Name)
 function_names fs = map (λ f. map (λ p. p.name) f.params ++ block_names f.body) fs
 
 abbrev names_in : List ℕ → Option (List (List Name))
-names_in s = reading s >>= numbered_module >>= λ m. Some (function_names m.functions)
+names_in s = reading s >>= numbered_module >>= λ items. Some (function_names (filter_map as_function items))
 
 abbrev written_example : WrittenFunction
 written_example = record {
   name = Text (codes "f");
+  before = [];
   ret = Int 32;
-  params = record { ty = Int 32; name = Some (Number 0) } ∷ record { ty = Int 1; name = Some (Number 1) } ∷ [];
+  params = record { ty = Int 32; kept = []; name = Some (Number 0) } ∷ record { ty = Int 1; kept = []; name = Some (Number 1) } ∷ [];
+  varargs = false;
+  after = [];
   body =
       record { label = None; insts = record { kind = Branch; ty = Void; args = local (Number 1) ∷ []; labels = Number 3 ∷ Number 4 ∷ []; result = None } ∷ [] } ∷
       record { label = Some (Number 3); insts = record { kind = Jump; ty = Void; args = []; labels = Number 4 ∷ []; result = None } ∷ [] } ∷
@@ -146,26 +157,27 @@ abbrev example : List ℕ
 example = codes "define i32 @f ( i32 %0 , i1 %1 ) { br i1 %1 , label %3 , label %4 3: br label %4 4: %5 = phi i32 [ %0 , %2 ] , [ 7 , %3 ] ret i32 %5 }"
 
 record Readings : Type 0 where
-  whole : reading example ≡ Some (record { functions = written_example ∷ [] })
+  whole : reading example ≡ Some (function_item written_example ∷ [])
   -- the entry takes 2
   numbers : names_in example ≡ Some ((Number 0 ∷ Number 1 ∷ Number 2 ∷ Number 3 ∷ Number 4 ∷ Number 5 ∷ []) ∷ [])
   -- a module may have no function
-  none : reading [] ≡ Some (record { functions = [] })
+  none : reading [] ≡ Some []
   -- an operation's operands are held at its type, and `true` is 1
-  operands : reading (codes "define i1 @f ( ) { %x = icmp slt i32 -1 , true ret i1 2 }") ≡ Some (record {
-    functions = record {
-      name = Text (codes "f");
-      ret = Int 1;
-      params = [];
-      body = record {
-        label = None;
-        insts =
-            record { kind = Compare Slt (Int 32); ty = Int 1; args = number 4294967295 ∷ number 1 ∷ []; labels = []; result = Some (Text (codes "x")) } ∷
-            record { kind = Return (Int 1); ty = Void; args = number 0 ∷ []; labels = []; result = None } ∷
-            [];
-      } ∷ [];
+  operands : reading (codes "define i1 @f ( ) { %x = icmp slt i32 -1 , true ret i1 2 }") ≡ Some (function_item (record {
+    name = Text (codes "f");
+    before = [];
+    ret = Int 1;
+    params = [];
+    varargs = false;
+    after = [];
+    body = record {
+      label = None;
+      insts =
+          record { kind = Compare Slt (Int 32); ty = Int 1; args = number 4294967295 ∷ number 1 ∷ []; labels = []; result = Some (Text (codes "x")) } ∷
+          record { kind = Return (Int 1); ty = Void; args = number 0 ∷ []; labels = []; result = None } ∷
+          [];
     } ∷ [];
-  })
+  }) ∷ [])
   -- no block, no terminator, something behind the terminator that is no block
   no_block : reading (codes "define i32 @f ( ) { }") ≡ None
   no_terminator : reading (codes "define i32 @f ( ) { add i32 1 , 2 }") ≡ None
@@ -201,5 +213,63 @@ record Readings : Type 0 where
   no_next : names_in (codes "define i32 @f ( ) { %4294967295 = add i32 1 , 2 add i32 1 , 2 ret i32 0 }") ≡ None
 
 readings : Readings
-unfolding table local_name global_name label width vector_type value_type return_type value binary predicates compared compare entry_of_phi phi target branch ret operation_words operation terminator_words terminator block parameter function module_form
+unfolding table local_name global_name label width vector_type value_type return_type value binary predicates compared compare entry_of_phi phi target branch ret operation_words operation terminator_words terminator block kept_piece kept_run metadata_node attachment attachments left_out_words type_words value_words item_words instruction_words excluded_words kept memory_leaf array_begin type_parts parameter dotted_parameters declared_function defined_function target_line attribute_group comdat metadata type_definition initialiser_stops extra_behind behind_type variable_word variable_definition item module_form
 readings = record { whole = refl; numbers = refl; none = refl; operands = refl; no_block = refl; no_terminator = refl; open_block = refl; parameter_comma = refl; only_comma = refl; operand_comma = refl; entry_comma = refl; no_entries = refl; one_target = refl; three_lanes = refl; signed_lanes = refl; other_type = refl; fraction = refl; great_name = refl; in_order = refl; unnamed_block = refl; written_number = refl; used_number = refl; last_number = refl; no_next = refl }
+
+-- ---- items
+
+-- a definition that uses a type defined behind it, one that is nowhere, and a struct of none; a variable that uses another
+abbrev types : List ℕ
+types = codes "@v = internal constant [ 3 x %w ] zeroinitializer , align 4 %a = type { i8 , %b , %u } %b = type < { %t , [ 0 x i64 ] } > %c = type opaque %d = type { }"
+
+abbrev type_names : List ℕ → Option (List TypeNameTree)
+type_names s = reading s >>= numbered_module >>= resolved_module >>= λ m. Some m.type_names
+
+abbrev missing_type : List ℕ → TypeNameTree
+missing_type s = record { name = Text s; ty = missing }
+
+record Items : Type 0 where
+  -- variables, comdats, declarations and metadata
+  several : reading (codes "$v = comdat any @v = linkonce_odr global i32 0 , comdat , align 4 declare !note !0 void @g ( ) define void @h ( ) !note !0 { ret void } !0 = ! { }")
+      ≡ Some (
+      comdat_line (codes "$v" ∷ codes "=" ∷ codes "comdat" ∷ codes "any" ∷ []) ∷
+      variable_item (record { name = Text (codes "v"); before = codes "linkonce_odr" ∷ []; writable = true; ty = scalar (Int 32) ∷ []; after = codes "0" ∷ codes "," ∷ codes "comdat" ∷ codes "," ∷ codes "align" ∷ codes "4" ∷ [] }) ∷
+      function_item (record { name = Text (codes "g"); before = codes "!note" ∷ codes "!0" ∷ []; ret = Void; params = []; varargs = false; after = []; body = [] }) ∷
+      function_item (record {
+        name = Text (codes "h");
+        before = [];
+        ret = Void;
+        params = [];
+        varargs = false;
+        after = codes "!note" ∷ codes "!0" ∷ [];
+        body = record { label = None; insts = record { kind = ReturnVoid; ty = Void; args = []; labels = []; result = None } ∷ [] } ∷ [];
+      }) ∷
+      metadata_line (codes "!0" ∷ codes "=" ∷ codes "!" ∷ codes "{" ∷ codes "}" ∷ []) ∷
+      [])
+  -- definitions in their order, and then what types use and what variables use
+  named : type_names types
+      ≡ Some (
+      record { name = Text (codes "a"); ty = defined (opening false ∷ scalar (Int 8) ∷ called (Text (codes "b")) ∷ called (Text (codes "u")) ∷ closing ∷ []) } ∷
+      record { name = Text (codes "b"); ty = defined (opening true ∷ called (Text (codes "t")) ∷ array 0 ∷ scalar (Int 64) ∷ closing ∷ []) } ∷
+      record { name = Text (codes "c"); ty = opaque } ∷
+      record { name = Text (codes "d"); ty = defined (opening false ∷ closing ∷ []) } ∷
+      missing_type (codes "u") ∷ missing_type (codes "t") ∷ missing_type (codes "w") ∷
+      [])
+  -- dots behind parameters, alone, and behind a comma alone; two sections
+  dots_alone : names_in (codes "declare void @f ( ... )") ≡ Some ([] ∷ [])
+  dots_behind : names_in (codes "declare void @f ( i8 noundef , ... ) #0") ≡ Some ((Number 0 ∷ []) ∷ [])
+  dots_comma : reading (codes "declare void @f ( , ... )") ≡ None
+  dots_defined : reading (codes "define void @f ( ... ) { ret void }") ≡ None
+  two_sections : reading (codes "@v = global i8 0 , section s , section s") ≡ None
+  signed_alignment : reading (codes "@v = global i8 0 , align -4") ≡ None
+  -- an array of 2^64 elements, one with a sign, and a vector of arrays
+  great_array : reading (codes "%a = type [ 18446744073709551616 x i8 ]") ≡ None
+  signed_array : reading (codes "%a = type [ -1 x i8 ]") ≡ None
+  vector_of_arrays : reading (codes "%a = type < 2 x [ 2 x i8 ] >") ≡ None
+  -- a word that begins a value is not kept, and a bracket is to be closed
+  excluded : reading (codes "define true void @f ( ) { ret void }") ≡ None
+  unclosed : reading (codes "declare void @f ( ) memory ( read") ≡ None
+
+items : Items
+unfolding table local_name global_name label width vector_type value_type return_type value binary predicates compared compare entry_of_phi phi target branch ret operation_words operation terminator_words terminator block kept_piece kept_run metadata_node attachment attachments left_out_words type_words value_words item_words instruction_words excluded_words kept memory_leaf array_begin type_parts parameter dotted_parameters declared_function defined_function target_line attribute_group comdat metadata type_definition initialiser_stops extra_behind behind_type variable_word variable_definition item module_form
+items = record { several = refl; named = refl; dots_alone = refl; dots_behind = refl; dots_comma = refl; dots_defined = refl; two_sections = refl; signed_alignment = refl; great_array = refl; signed_array = refl; vector_of_arrays = refl; excluded = refl; unclosed = refl }

@@ -9,6 +9,10 @@ use Rattle.ir_types.specs.declared.inst.Inst.{Inst}
 use Rattle.ir_types.specs.declared.module.Block.{Block}
 use Rattle.ir_types.specs.declared.module.Param.{Param}
 use Rattle.ir_types.specs.declared.module.Function.{Function}
+use Rattle.ir_types.specs.declared.module.Symbol.{Symbol}
+use Rattle.ir_types.specs.declared.module.SymbolKind.{SymbolKind}
+use Rattle.ir_types.specs.declared.module.SymbolKind.TheVariants.{Variable, Missing}
+use Rattle.ir_types.specs.declared.module.SymbolKind.TheVariants as symbols
 use Rattle.ir_types.specs.declared.module.Module.{Module}
 
 -- i1 or i32
@@ -34,6 +38,13 @@ pub record IsFirstFunction (f : Function) : Type 0 where
   pub params : AllByRecursion (λ (p : Param). IsFirstType p.ty) f.params
   pub insts : AllByRecursion (λ (b : Block). AllByRecursion (λ (i : Inst). IsFirstInst i.kind i.ty) b.insts) f.body
 
--- a module of such functions alone
-abbrev pub IsFirst : Module → Type 0
-IsFirst m = AllByRecursion IsFirstFunction m.functions
+-- no variable
+abbrev pub IsNoVariable : SymbolKind → Type 0
+IsNoVariable (Variable id writable) = ⊥
+IsNoVariable (symbols.Function f) = Unit {0}
+IsNoVariable Missing = Unit {0}
+
+-- a module of such functions alone, without variables
+pub record IsFirst (m : Module) : Type 0 where
+  pub functions : AllByRecursion IsFirstFunction m.functions
+  pub symbols : AllByRecursion (λ (s : Symbol). IsNoVariable s.kind) m.symbols

@@ -1,7 +1,7 @@
 -- The grammar of modules.
-use Rattle.std.specs.Prelude.{ℕ, List, [], ◌∷◌, ◌++◌, map, codes, find, nat_lt, ◌^◌, ◌==◌, Option, Some, None, if◌then◌else◌}
-use Rattle.forms.specs.declared.TokenKind.TheVariants.{Local, Global, Label, Word, Number, Equal, Comma, LeftParen, RightParen, LeftBracket, RightBracket, LeftBrace, RightBrace, Less, Greater}
-use Rattle.forms.specs.Form.{Form, exactly, one, ahead, pair, either, mapped, made, optional, many, by_word}
+use Rattle.std.specs.Prelude.{ℕ, Bool, true, false, not, ◌&&◌, nat_le, count_by, is_some, length, List, [], ◌∷◌, ◌++◌, map, codes, find, nat_lt, ◌^◌, ◌==◌, Option, Some, None, if◌then◌else◌}
+use Rattle.forms.specs.declared.TokenKind.TheVariants.{Quoted, Local, Global, Comdat, Label, Word, Number, Metadata, AttributeGroup, Dots, Bang, Equal, Comma, LeftParen, RightParen, LeftBracket, RightBracket, LeftBrace, RightBrace, Less, Greater}
+use Rattle.forms.specs.Form.{Lexeme, Form, Stops, Spells, exactly, one, ahead, up_to, pair, either, mapped, made, optional, many, by_word}
 use Rattle.forms.specs.Reading.{◌>>=◌}
 use Rattle.forms.specs.Gives.{mark}
 pub use Rattle.forms.specs.Combined.{word, behind, after_mark, between, marked, some, commas, or_none, list}
@@ -15,13 +15,20 @@ use Rattle.ir_types.specs.declared.inst.Pred.TheVariants.{Eq, Ne, Ugt, Uge, Ult,
 use Rattle.ir_types.specs.declared.inst.InstKind.TheVariants as kinds
 use Rattle.ir_types.specs.declared.opcode.Operation.{Operation}
 use Rattle.ir_types.specs.declared.opcode.Operation.TheVariants as operations
+use Rattle.ir_types.specs.declared.opcode.ItemWord.{ItemWord}
+use Rattle.ir_types.specs.declared.opcode.ItemWord.TheVariants as items
+use Rattle.ir_types.specs.declared.opcode.Extra.{Extra}
+use Rattle.ir_types.specs.declared.opcode.Extra.TheVariants.{Section, Alignment, Attachment}
+use Rattle.ir_types.specs.declared.opcode.Extra.TheVariants as extras
 use Rattle.ir_types.specs.declared.opcode.Terminator.{Terminator}
 use Rattle.ir_types.specs.declared.opcode.Terminator.TheVariants as terminators
 pub use Rattle.ir_types.specs.Types.{lane_counts}
 use Rattle.ir_types.specs.Written.{number_of, number_at, name_behind, name_before}
-use Rattle.forms.specs.Nested.{TypeParts, memory}
+use Rattle.forms.specs.Nested.{TypeParts, memory, concat, joined}
+use Rattle.forms.specs.Kept.{kept_one, kept_token, kept_such, perhaps, in_braces, kept_run, attachment, attachments}
+use Rattle.forms.specs.LeftOut.{left_out_words}
 use Rattle.ir_types.specs.TypeNodes.{TypeNode, scalar, called, array, opening, closing}
-use Rattle.ir_types.specs.Tree.{OperandTree, local, number, InstTree, WrittenParam, WrittenBlock, WrittenFunction, WrittenModule}
+use Rattle.ir_types.specs.Tree.{KeptTexts, OperandTree, local, number, InstTree, WrittenParam, WrittenBlock, WrittenFunction, VariableTree, Item, head_line, comdat_line, type_item, variable_item, function_item, attribute_line, metadata_line}
 
 -- ---- names, types and values
 
@@ -259,19 +266,192 @@ block_tree x = record { label = x.0; insts = x.1.0 ++ x.1.1 ∷ [] }
 unfoldable pub block : Form WrittenBlock
 block = mapped block_tree (pair (optional label) (pair (many (line operation)) (line terminator)))
 
--- T [%name]
+-- ---- what is kept
+
+-- the words of types
+unfoldable pub type_words : List (List ℕ)
+type_words = codes "i1" ∷ codes "i8" ∷ codes "i16" ∷ codes "i32" ∷ codes "i64" ∷ codes "ptr" ∷ codes "void" ∷ []
+
+-- the words with which values begin
+unfoldable pub value_words : List (List ℕ)
+value_words = codes "true" ∷ codes "false" ∷ codes "null" ∷ codes "poison" ∷ codes "zeroinitializer" ∷ codes "splat" ∷ codes "getelementptr" ∷ []
+
+-- the words with which items begin
+unfoldable pub item_words : List (List ℕ × ItemWord)
+item_words =
+    (codes "source_filename", items.SourceFilename) ∷
+    (codes "target", items.Target) ∷
+    (codes "declare", items.Declare) ∷
+    (codes "define", items.Define) ∷
+    (codes "attributes", items.Attributes) ∷
+    []
+
+-- the words with which instructions begin
+unfoldable pub instruction_words : List (List ℕ)
+instruction_words =
+    codes "add" ∷ codes "sub" ∷ codes "mul" ∷ codes "shl" ∷ codes "udiv" ∷ codes "sdiv" ∷ codes "lshr" ∷ codes "ashr" ∷ codes "urem" ∷ codes "srem" ∷
+    codes "and" ∷ codes "xor" ∷ codes "or" ∷ codes "icmp" ∷ codes "select" ∷ codes "freeze" ∷ codes "trunc" ∷ codes "zext" ∷ codes "sext" ∷ codes "ptrtoint" ∷
+    codes "phi" ∷ codes "load" ∷ codes "store" ∷ codes "tail" ∷ codes "musttail" ∷ codes "notail" ∷ codes "call" ∷ codes "extractelement" ∷
+    codes "insertelement" ∷ codes "shufflevector" ∷ codes "br" ∷ codes "switch" ∷ codes "ret" ∷ codes "unreachable" ∷ []
+
+-- the words that no kept run has outside parentheses, but for `align` and `cc`, behind which a number may stand
+unfoldable pub excluded_words : List (List ℕ)
+excluded_words =
+    codes "align" ∷ codes "cc" ∷ codes "global" ∷ codes "constant" ∷ (type_words ++ (value_words ++ (map (λ e. e.0) item_words ++ (instruction_words ++ left_out_words))))
+
+-- K
+unfoldable pub kept : Form KeptTexts
+kept = kept_run excluded_words
+
+-- ---- functions
+
+-- T K [%name]
 unfoldable pub parameter : Form WrittenParam
-parameter = mapped (λ x. record { ty = x.0; name = x.1 }) (pair value_type (optional local_name))
+parameter = mapped (λ x. record { ty = x.0; kept = x.1.0; name = x.1.1 }) (pair value_type (pair kept (optional local_name)))
 
--- the parts of a function, by their names
-abbrev pub function_tree : Ty × (Name × (List WrittenParam × List WrittenBlock)) → WrittenFunction
-function_tree x = record { name = x.1.0; ret = x.0; params = x.1.1.0; body = x.1.1.1 }
+-- parameters, behind which dots may stand
+abbrev pub dotted : List WrittenParam × Option (Unit {0}) → List WrittenParam × Bool
+dotted x = (x.0, is_some x.1)
 
--- define R @name ( [T [%name], ..] ) { block.. }
-unfoldable pub function : Form WrittenFunction
-function =
-    mapped function_tree (behind (codes "define") (pair return_type (pair global_name (pair (between LeftParen RightParen (list parameter)) (between LeftBrace RightBrace (some block))))))
+-- no parameters and no dots
+abbrev pub or_no_params : Option (List WrittenParam × Bool) → List WrittenParam × Bool
+or_no_params None = ([], false)
+or_no_params (Some x) = x
 
--- item ..
-unfoldable pub module_form : Form WrittenModule
-module_form = mapped (λ fs. record { functions = fs }) (many function)
+-- `...`, or T K [%name], .. [, ...], or nothing
+unfoldable pub dotted_parameters : Form (List WrittenParam × Bool)
+dotted_parameters =
+    mapped or_no_params (optional (either (mapped (λ _. ([], true)) (mark Dots)) (mapped dotted (pair (commas parameter) (optional (marked Comma (mark Dots)))))))
+
+-- the parts of a declared function, by their names
+abbrev pub declared_tree : KeptTexts × (Ty × (Name × ((List WrittenParam × Bool) × KeptTexts))) → WrittenFunction
+declared_tree x = record { name = x.1.1.0; before = x.0; ret = x.1.0; params = x.1.1.1.0.0; varargs = x.1.1.1.0.1; after = x.1.1.1.1; body = [] }
+
+-- B K R @name ( .. ) K
+unfoldable pub declared_function : Form WrittenFunction
+declared_function =
+    mapped declared_tree (pair (joined attachments kept) (pair return_type (pair global_name (pair (between LeftParen RightParen dotted_parameters) kept))))
+
+-- the parts of a defined function, by their names
+abbrev pub defined_tree : KeptTexts × (Ty × (Name × (List WrittenParam × (KeptTexts × List WrittenBlock)))) → WrittenFunction
+defined_tree x = record { name = x.1.1.0; before = x.0; ret = x.1.0; params = x.1.1.1.0; varargs = false; after = x.1.1.1.1.0; body = x.1.1.1.1.1 }
+
+-- K R @name ( .. ) K B { block.. }
+unfoldable pub defined_function : Form WrittenFunction
+defined_function =
+    mapped defined_tree (pair kept (pair return_type (pair global_name (pair (between LeftParen RightParen (list parameter)) (pair (joined kept attachments) (between LeftBrace RightBrace (some block)))))))
+
+-- ---- lines that are kept whole
+
+-- = string
+abbrev pub equal_string : Form KeptTexts
+equal_string = joined (kept_one Equal) (kept_one Quoted)
+
+-- datalayout = string | triple = string
+unfoldable pub target_line : Form KeptTexts
+target_line = joined (either (kept_token Word (codes "datalayout")) (kept_token Word (codes "triple"))) equal_string
+
+-- #n = { balanced }
+unfoldable pub attribute_group : Form KeptTexts
+attribute_group = joined (kept_one AttributeGroup) (joined (kept_one Equal) in_braces)
+
+-- $name = comdat word
+unfoldable pub comdat : Form KeptTexts
+comdat = mapped (λ x. x.0 ∷ x.1) (ahead Comdat (joined (kept_one Equal) (joined (kept_token Word (codes "comdat")) (kept_one Word))))
+
+-- !name = [distinct] !{ balanced }
+unfoldable pub metadata : Form KeptTexts
+metadata = mapped (λ x. x.0 ∷ x.1) (ahead Metadata (joined (kept_one Equal) (joined (perhaps (kept_token Word (codes "distinct"))) (joined (kept_one Bang) in_braces))))
+
+-- ---- named types and variables, where memory types are of the form m
+
+-- a named type
+abbrev pub named_type : List ℕ × Option (List TypeNode) → Option (Item WrittenFunction)
+named_type x = name_behind x.0 >>= λ n. Some (type_item n x.1)
+
+-- %name = type M | %name = type opaque
+unfoldable pub type_definition : Form (List TypeNode) → Form (Item WrittenFunction)
+type_definition m = made named_type (ahead Local (after_mark Equal (behind (codes "type") (either (mapped Some m) (word (codes "opaque") None)))))
+
+-- where a variable's initialiser ends, outside brackets: at a comma, and where an item begins
+unfoldable pub initialiser_stops : Stops
+initialiser_stops = record { kinds = Comma ∷ []; words = map (λ e. e.0) item_words; before_equal = Local ∷ Global ∷ Comdat ∷ Metadata ∷ [] }
+
+-- digits without a sign
+abbrev pub is_unsigned : List ℕ → Bool
+is_unsigned [] = false
+is_unsigned (c ∷ ds) = not (c == 45)
+
+-- section string | comdat [ ($name) ] | align n | an attachment
+unfoldable pub extra_behind : Form (Extra × KeptTexts)
+extra_behind =
+    either (mapped (λ xs. (Section, xs)) (joined (kept_token Word (codes "section")) (kept_one Quoted)))
+    (either (mapped (λ xs. (extras.Comdat, xs)) (joined (kept_token Word (codes "comdat")) (perhaps (joined (kept_one LeftParen) (joined (kept_one Comdat) (kept_one RightParen))))))
+    (either (mapped (λ xs. (Alignment, xs)) (joined (kept_token Word (codes "align")) (kept_such Number is_unsigned))) (mapped (λ xs. (Attachment, xs)) attachment)))
+
+-- the same behind a comma
+abbrev pub extra : Form (Extra × KeptTexts)
+extra = mapped (λ x. (x.1.0, x.0 ∷ x.1.1)) (ahead Comma extra_behind)
+
+-- how many of them are of one kind
+abbrev pub count_of : (Extra → Bool) → List (Extra × KeptTexts) → ℕ
+count_of p xs = count_by (λ x. p x.0) xs
+
+abbrev pub is_section : Extra → Bool
+is_section Section = true
+is_section e = false
+
+abbrev pub is_comdat : Extra → Bool
+is_comdat extras.Comdat = true
+is_comdat e = false
+
+abbrev pub is_alignment : Extra → Bool
+is_alignment Alignment = true
+is_alignment e = false
+
+-- the texts of all, where no two are sections, comdats or alignments
+abbrev pub kept_once : List (Extra × KeptTexts) → Option KeptTexts
+kept_once xs =
+    if nat_le (count_of is_section xs) 1 && (nat_le (count_of is_comdat xs) 1 && nat_le (count_of is_alignment xs) 1) then Some (concat (map (λ x. x.1) xs)) else None
+
+-- [initialiser] [, section string] [, comdat [($name)]] [, align n] A, all behind the initialiser in any order
+unfoldable pub behind_type : Form KeptTexts
+behind_type = joined (up_to initialiser_stops) (made kept_once (many extra))
+
+-- global | constant: true where it may be written
+unfoldable pub variable_word : Form Bool
+variable_word = either (word (codes "global") true) (word (codes "constant") false)
+
+-- a variable of its parts
+abbrev pub named_variable : List ℕ × (KeptTexts × (Bool × (List TypeNode × KeptTexts))) → Option (Item WrittenFunction)
+named_variable x = name_behind x.0 >>= λ n. Some (variable_item (record { name = n; before = x.1.0; writable = x.1.1.0; ty = x.1.1.1.0; after = x.1.1.1.1 }))
+
+-- @name = K (global | constant) M ..
+unfoldable pub variable_definition : Form (List TypeNode) → Form (Item WrittenFunction)
+variable_definition m = made named_variable (ahead Global (after_mark Equal (pair kept (pair variable_word (pair m behind_type)))))
+
+-- ---- items and modules
+
+-- what is behind the word of an item
+abbrev pub item_behind : ItemWord → Form (Item WrittenFunction)
+item_behind items.SourceFilename = mapped (λ xs. head_line (codes "source_filename" ∷ xs)) equal_string
+item_behind items.Target = mapped (λ xs. head_line (codes "target" ∷ xs)) target_line
+item_behind items.Declare = mapped function_item declared_function
+item_behind items.Define = mapped function_item defined_function
+item_behind items.Attributes = mapped (λ xs. attribute_line (codes "attributes" ∷ xs)) attribute_group
+
+-- an item, where memory types are of the form m
+unfoldable pub item : Form (List TypeNode) → Form (Item WrittenFunction)
+item m =
+    either (by_word item_words item_behind)
+    (either (mapped comdat_line comdat)
+    (either (mapped metadata_line metadata)
+    (either (type_definition m) (variable_definition m))))
+
+-- item .., in which memory types are nested at most so deep
+unfoldable pub module_form : ℕ → Form (List (Item WrittenFunction))
+module_form depth = many (item (memory_type depth))
+
+-- by these tokens a module's items are spelled; no type is nested deeper than there are tokens
+abbrev pub SpellsModule : List (Item WrittenFunction) → List Lexeme → Type 0
+SpellsModule written tokens = Spells (module_form (length tokens)) written tokens

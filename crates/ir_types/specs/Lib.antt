@@ -6,6 +6,7 @@ pub mod Tree
 pub mod Written
 pub mod Grammar
 pub mod Numbered
+pub mod Collected
 pub mod Denotes
 pub mod Reads
 pub mod Values

@@ -1,5 +1,5 @@
 -- Things without a name take numbers: parameters first, then the blocks in the text's order, each before its results.
-use Rattle.std.specs.Prelude.{ℕ, ◌+◌, ◌^◌, max, nat_lt, Option, Some, None, if◌then◌else◌}
+use Rattle.std.specs.Prelude.{ℕ, List, ◌+◌, ◌^◌, max, nat_lt, Option, Some, None, if◌then◌else◌}
 use Rattle.forms.specs.Reading.{◌>>=◌}
 use Rattle.forms.specs.Walk.{walk}
 use Rattle.ir_types.specs.declared.name.Name.{Name}
@@ -7,7 +7,7 @@ use Rattle.ir_types.specs.declared.name.Name.TheVariants.{Text, Number}
 use Rattle.ir_types.specs.declared.inst.Ty.{Ty}
 use Rattle.ir_types.specs.declared.inst.Ty.TheVariants.{Void}
 use Rattle.ir_types.specs.Grammar.{named_by}
-use Rattle.ir_types.specs.Tree.{InstTree, BlockTree, ParamTree, FunctionTree, ModuleTree, WrittenParam, WrittenBlock, WrittenFunction, WrittenModule}
+use Rattle.ir_types.specs.Tree.{InstTree, BlockTree, ParamTree, FunctionTree, WrittenParam, WrittenBlock, WrittenFunction, Item, head_line, comdat_line, type_item, variable_item, function_item, attribute_line, metadata_line}
 
 -- the number for the next thing without a name, behind a name: one more than the greatest number so far, and 0 at first
 abbrev pub next_after : ℕ → Name → ℕ
@@ -35,17 +35,26 @@ numbered_block next b = named next b.label >>= λ x. walk numbered_inst x.1 b.in
 
 -- a parameter
 abbrev pub numbered_param : ℕ → WrittenParam → Option (ParamTree × ℕ)
-numbered_param next p = named next p.name >>= λ x. Some (record { ty = p.ty; name = x.0 }, x.1)
+numbered_param next p = named next p.name >>= λ x. Some (record { ty = p.ty; kept = p.kept; name = x.0 }, x.1)
+
+-- a function with these parameters and blocks
+abbrev pub with_parts : WrittenFunction → List ParamTree → List BlockTree → FunctionTree
+with_parts f params body = record { name = f.name; before = f.before; ret = f.ret; params = params; varargs = f.varargs; after = f.after; body = body }
 
 -- each function counts from 0
-abbrev pub numbered_function : Unit {0} → WrittenFunction → Option (FunctionTree × Unit {0})
-numbered_function u f =
-    walk numbered_param 0 f.params >>= λ x. walk numbered_block x.1 f.body >>= λ y. Some (record { name = f.name; ret = f.ret; params = x.0; body = y.0 }, u)
+abbrev pub numbered_function : WrittenFunction → Option FunctionTree
+numbered_function f = walk numbered_param 0 f.params >>= λ x. walk numbered_block x.1 f.body >>= λ y. Some (with_parts f x.0 y.0)
 
--- a module: each function by itself
-abbrev pub numbered_module : WrittenModule → Option ModuleTree
-numbered_module m = walk numbered_function tt m.functions >>= λ x. Some (record { functions = x.0 })
+-- an item: only in functions something takes a number
+abbrev pub numbered_item : Unit {0} → Item WrittenFunction → Option (Item FunctionTree × Unit {0})
+numbered_item u (head_line xs) = Some (head_line xs, u)
+numbered_item u (comdat_line xs) = Some (comdat_line xs, u)
+numbered_item u (type_item n t) = Some (type_item n t, u)
+numbered_item u (variable_item v) = Some (variable_item v, u)
+numbered_item u (function_item f) = numbered_function f >>= λ g. Some (function_item g, u)
+numbered_item u (attribute_line xs) = Some (attribute_line xs, u)
+numbered_item u (metadata_line xs) = Some (metadata_line xs, u)
 
--- what is left to be computed of a numbered module: nothing yet
-abbrev pub resolved_module : ModuleTree → Option ModuleTree
-resolved_module m = Some m
+-- a module's items: each function by itself
+abbrev pub numbered_module : List (Item WrittenFunction) → Option (List (Item FunctionTree))
+numbered_module items = walk numbered_item tt items >>= λ x. Some x.0

@@ -1,21 +1,22 @@
 -- Which module a text reads as.
 use Rattle.std.specs.Prelude.{◌≡◌, ℕ, List, Some}
-use Rattle.forms.specs.Form.{Lexeme, Spells}
+use Rattle.forms.specs.Form.{Lexeme}
 use Rattle.forms.specs.Lexical.{Lexes}
 use Rattle.ir_types.specs.declared.module.Module.{Module}
-use Rattle.ir_types.specs.Tree.{WrittenModule, ModuleTree}
-use Rattle.ir_types.specs.Grammar.{module_form}
-use Rattle.ir_types.specs.Numbered.{numbered_module, resolved_module}
+use Rattle.ir_types.specs.Tree.{FunctionTree, WrittenFunction, Item, ModuleTree}
+use Rattle.ir_types.specs.Grammar.{SpellsModule}
+use Rattle.ir_types.specs.Numbered.{numbered_module}
+use Rattle.ir_types.specs.Collected.{resolved_module}
 use Rattle.ir_types.specs.Denotes.{Denotes}
 
--- the text's tokens spell a module as it is written, things without a name take their numbers, and the module denotes that
+-- the text's tokens spell items as they are written, things without a name take their numbers, and the module denotes what they are collected to
 pub record Reads (text : List ℕ) (m : Module) : Type 0 where
   pub tokens : List Lexeme
-  pub written : WrittenModule
-  pub numbered : ModuleTree
+  pub written : List (Item WrittenFunction)
+  pub numbered : List (Item FunctionTree)
   pub resolved : ModuleTree
   pub lexes : Lexes text tokens
-  pub spelled : Spells module_form written tokens
+  pub spelled : SpellsModule written tokens
   pub numbers : numbered_module written ≡ Some numbered
   pub resolves : resolved_module numbered ≡ Some resolved
   pub denotes : Denotes m resolved

@@ -1,8 +1,13 @@
 -- What a module says, with names in the place of positions.
-use Rattle.std.specs.Prelude.{ℕ, List, Option}
+use Rattle.std.specs.Prelude.{ℕ, Bool, List, Option}
 use Rattle.ir_types.specs.declared.name.Name.{Name}
 use Rattle.ir_types.specs.declared.inst.Ty.{Ty}
 use Rattle.ir_types.specs.declared.inst.InstKind.{InstKind}
+use Rattle.ir_types.specs.TypeNodes.{TypeNode}
+
+-- tokens that are kept as they stand, as their texts
+abbrev pub KeptTexts : Type 0
+KeptTexts = List (List ℕ)
 
 -- an operand: a local by its name, or a number
 pub data OperandTree : Type 0 where
@@ -22,27 +27,61 @@ pub record BlockTree : Type 0 where
   pub name : Name
   pub insts : List InstTree
 
--- a parameter
+-- a parameter, with what is kept between its type and its name
 pub record ParamTree : Type 0 where
   pub ty : Ty
+  pub kept : KeptTexts
   pub name : Name
 
--- a function: its name, the type of what it returns, its parameters, and its blocks, the entry first
+-- a function: its name, what is kept before the type of what it returns, that type, its parameters, whether it takes further arguments, what is
+-- kept behind them, and its blocks, the entry first; a declared one has none
 pub record FunctionTree : Type 0 where
   pub name : Name
+  pub before : KeptTexts
   pub ret : Ty
   pub params : List ParamTree
+  pub varargs : Bool
+  pub after : KeptTexts
   pub body : List BlockTree
+
+-- what the name of a type stands for, a type by its nodes
+pub data NamedTree : Type 0 where
+  defined : List TypeNode → NamedTree
+  opaque : NamedTree
+  missing : NamedTree
+
+-- a name of a type
+pub record TypeNameTree : Type 0 where
+  pub name : Name
+  pub ty : NamedTree
+
+-- what a symbol stands for: a variable of a type, by its nodes, which may be written or not; the function at a place; or nothing
+pub data SymbolKindTree : Type 0 where
+  variable : List TypeNode → Bool → SymbolKindTree
+  function : ℕ → SymbolKindTree
+  missing_symbol : SymbolKindTree
+
+-- a symbol, with what is kept before and behind a variable's type
+pub record SymbolTree : Type 0 where
+  pub name : Name
+  pub kind : SymbolKindTree
+  pub before : KeptTexts
+  pub after : KeptTexts
 
 -- a module
 pub record ModuleTree : Type 0 where
+  pub head : List KeptTexts
+  pub type_names : List TypeNameTree
+  pub symbols : List SymbolTree
   pub functions : List FunctionTree
+  pub tail : List KeptTexts
 
--- ---- the same as it is written: parameters, blocks and results may have no name
+-- ---- the same as it is written: parameters, blocks and results may have no name, and items stand in the text's order
 
 -- a parameter, with its name where it is written
 pub record WrittenParam : Type 0 where
   pub ty : Ty
+  pub kept : KeptTexts
   pub name : Option Name
 
 -- a block, with its label where it is written
@@ -53,10 +92,29 @@ pub record WrittenBlock : Type 0 where
 -- a function of such parameters and blocks
 pub record WrittenFunction : Type 0 where
   pub name : Name
+  pub before : KeptTexts
   pub ret : Ty
   pub params : List WrittenParam
+  pub varargs : Bool
+  pub after : KeptTexts
   pub body : List WrittenBlock
 
--- a module of such functions
-pub record WrittenModule : Type 0 where
-  pub functions : List WrittenFunction
+-- a variable: what is kept before `global` or `constant`, whether it may be written, its type, and what is kept behind that
+pub record VariableTree : Type 0 where
+  pub name : Name
+  pub before : KeptTexts
+  pub writable : Bool
+  pub ty : List TypeNode
+  pub after : KeptTexts
+
+-- an item of a module, whose functions are of this kind
+pub data Item (F : Type 0) : Type 0 where
+  -- the name of the source, or a line about the target
+  head_line : KeptTexts → Item F
+  comdat_line : KeptTexts → Item F
+  -- a named type: none where it is opaque
+  type_item : Name → Option (List TypeNode) → Item F
+  variable_item : VariableTree → Item F
+  function_item : F → Item F
+  attribute_line : KeptTexts → Item F
+  metadata_line : KeptTexts → Item F

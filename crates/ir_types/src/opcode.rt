@@ -1,4 +1,4 @@
-// The words with which instructions begin.
+// The words with which instructions and items begin.
 
 /// The words of instructions that don't end a block.
 #[derive(Clone, Copy, Debug, PartialEq, Eq)]
@@ -18,4 +18,32 @@ pub enum Terminator {
     Br,
     /// `ret`: back to the caller.
     Ret,
+}
+
+/// The words of items.
+#[derive(Clone, Copy, Debug, PartialEq, Eq)]
+pub enum ItemWord {
+    /// `source_filename`: the name of the source.
+    SourceFilename,
+    /// `target`: a line about the target.
+    Target,
+    /// `declare`: a function without its blocks.
+    Declare,
+    /// `define`: a function with its blocks.
+    Define,
+    /// `attributes`: a group of attributes.
+    Attributes,
+}
+
+/// What may stand behind a variable's initialiser, each behind a comma.
+#[derive(Clone, Copy, Debug, PartialEq, Eq)]
+pub enum Extra {
+    /// `section` and a string.
+    Section,
+    /// `comdat`, and a comdat's name in parentheses or none.
+    Comdat,
+    /// `align` and a number.
+    Alignment,
+    /// An attachment of metadata.
+    Attachment,
 }
