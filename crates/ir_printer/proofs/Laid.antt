@@ -1,23 +1,23 @@
 -- Pieces that are tokens and join, and how they are put together.
-use Rattle.std.proofs.Common.{◌≡◌, ℕ, Bool, true, false, not, ◌&&◌, ◌||◌, List, [], ◌∷◌, ◌++◌, Some, refl}
+use Rattle.std.proofs.Common.{◌≡◌, ℕ, true, List, [], ◌∷◌, ◌++◌, Some, refl}
 use Rattle.std.specs.Prelude.{map}
 use Rattle.std.specs.List.{AllByRecursion}
 use Rattle.forms.specs.declared.TokenKind.{TokenKind}
 use Rattle.forms.specs.Form.{Lexeme}
 use Rattle.forms.specs.Lexical.{kind_of}
-use Rattle.text_lex.specs.Layout.{Piece, lexeme, AreTokens, is_mark, joins, ends_open}
+use Rattle.text_lex.specs.Layout.{Piece, lexeme, AreTokens, is_mark, closed, open_, left_by, joins, end_of}
 use Rattle.text_lex.proofs.Layouts.{AreTokens-append, joins-from, joins_closed, joins_any}
 use Rattle.ir_printer.specs.Print.{token, blank, line_feed, indent, each_behind, separated}
 
 -- tokens that join
 pub record IsLaid (ps : List Piece) : Type 0 where
   pub tokens : AreTokens ps
-  pub joined : joins false ps ≡ true
+  pub joined : joins closed ps ≡ true
 
 -- and may stand behind any token
 pub record IsBehind (ps : List Piece) : Type 0 where
   pub tokens : AreTokens ps
-  pub joined : joins true ps ≡ true
+  pub joined : joins open_ ps ≡ true
 
 pub loose : {ps : List Piece} → IsBehind ps → IsLaid ps
 loose {ps} h = record { tokens = h.tokens; joined = joins_closed ps h.joined }
@@ -38,17 +38,13 @@ pub mark_laid : {ps : List Piece} (k : TokenKind) (s : List ℕ) → is_mark k �
 mark_laid k s m e h = record { tokens = (e, h.tokens); joined = rw m (h.joined) }
 
 pub token_laid : {ps : List Piece} (t : Lexeme) → kind_of t.text ≡ Some t.kind → IsBehind ps → IsLaid (lexeme t ∷ ps)
-token_laid {ps} t e h = record { tokens = (e, h.tokens); joined = first (is_mark t.kind) }
-  where
-    first : (m : Bool) → ((m || not false) && joins (not m) ps) ≡ true
-    first true = joins_closed ps h.joined
-    first false = h.joined
+token_laid {ps} t e h = record { tokens = (e, h.tokens); joined = joins_any (left_by t.kind) ps h.joined }
 
 pub laid-append : (ps qs : List Piece) → IsLaid ps → IsBehind qs → IsLaid (ps ++ qs)
-laid-append ps qs h g = record { tokens = AreTokens-append ps qs h.tokens g.tokens; joined = joins-from false ps qs h.joined (joins_any (ends_open false ps) qs g.joined) }
+laid-append ps qs h g = record { tokens = AreTokens-append ps qs h.tokens g.tokens; joined = joins-from closed ps qs h.joined (joins_any (end_of closed ps) qs g.joined) }
 
 pub behind-append : (ps qs : List Piece) → IsBehind ps → IsBehind qs → IsBehind (ps ++ qs)
-behind-append ps qs h g = record { tokens = AreTokens-append ps qs h.tokens g.tokens; joined = joins-from true ps qs h.joined (joins_any (ends_open true ps) qs g.joined) }
+behind-append ps qs h g = record { tokens = AreTokens-append ps qs h.tokens g.tokens; joined = joins-from open_ ps qs h.joined (joins_any (end_of open_ ps) qs g.joined) }
 
 -- ---- lists
 

@@ -8,6 +8,9 @@ pub mod Ranges
 pub mod Colons
 pub mod Marks
 pub mod Layouts
+pub mod KeptTexts
+pub mod Lexed
+pub mod KeptExamples
 pub mod Decimals
 pub mod Printed
 pub mod Omitted

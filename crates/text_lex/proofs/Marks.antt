@@ -1,6 +1,7 @@
 -- A mark is one byte, which is a token whatever stands beside it.
 use Rattle.std.proofs.Common.{◌≡◌, ℕ, Bool, true, false, not, ◌&&◌, ◌||◌, eqb, List, [], ◌∷◌, Some, refl, ap, ◌∙◌, inl, inr}
 use Rattle.std.proofs.lemmas.Bool.{and_parts, eqb-true, eq-eqb}
+use Rattle.std.specs.Prelude.{codes}
 use Rattle.forms.specs.declared.TokenKind.{TokenKind}
 use Rattle.forms.specs.declared.TokenKind.TheVariants.{Quoted, Local, Global, Comdat, Label, Word, Number, TextConstant, Metadata, AttributeGroup, Dots, Equal, Comma, LeftParen, RightParen, LeftBracket, RightBracket, LeftBrace, RightBrace, Less, Greater, Star, Bang, Colon, Bar, Decimal, Hexadecimal, NamedGroup}
 use Rattle.forms.specs.declared.Class.{Class}
@@ -140,3 +141,57 @@ mark_is Bar w m e = mark_by Bar 124 w refl refl refl e
 mark_is Decimal w m e = absurd cc
 mark_is Hexadecimal w m e = absurd cc
 mark_is NamedGroup w m e = absurd cc
+
+-- ---- the one text of a token of these kinds
+
+pub equal_text : (w : List ℕ) → kind_of w ≡ Some Equal → w ≡ codes "="
+unfolding table only_byte is_byte is_class none_left
+equal_text w e = byte_by Equal 61 table w refl e
+
+pub comma_text : (w : List ℕ) → kind_of w ≡ Some Comma → w ≡ codes ","
+unfolding table only_byte is_byte is_class none_left
+comma_text w e = byte_by Comma 44 table w refl e
+
+pub left_paren_text : (w : List ℕ) → kind_of w ≡ Some LeftParen → w ≡ codes "("
+unfolding table only_byte is_byte is_class none_left
+left_paren_text w e = byte_by LeftParen 40 table w refl e
+
+pub right_paren_text : (w : List ℕ) → kind_of w ≡ Some RightParen → w ≡ codes ")"
+unfolding table only_byte is_byte is_class none_left
+right_paren_text w e = byte_by RightParen 41 table w refl e
+
+pub left_bracket_text : (w : List ℕ) → kind_of w ≡ Some LeftBracket → w ≡ codes "["
+unfolding table only_byte is_byte is_class none_left
+left_bracket_text w e = byte_by LeftBracket 91 table w refl e
+
+pub right_bracket_text : (w : List ℕ) → kind_of w ≡ Some RightBracket → w ≡ codes "]"
+unfolding table only_byte is_byte is_class none_left
+right_bracket_text w e = byte_by RightBracket 93 table w refl e
+
+pub left_brace_text : (w : List ℕ) → kind_of w ≡ Some LeftBrace → w ≡ codes "{"
+unfolding table only_byte is_byte is_class none_left
+left_brace_text w e = byte_by LeftBrace 123 table w refl e
+
+pub right_brace_text : (w : List ℕ) → kind_of w ≡ Some RightBrace → w ≡ codes "}"
+unfolding table only_byte is_byte is_class none_left
+right_brace_text w e = byte_by RightBrace 125 table w refl e
+
+pub less_text : (w : List ℕ) → kind_of w ≡ Some Less → w ≡ codes "<"
+unfolding table only_byte is_byte is_class none_left
+less_text w e = byte_by Less 60 table w refl e
+
+pub greater_text : (w : List ℕ) → kind_of w ≡ Some Greater → w ≡ codes ">"
+unfolding table only_byte is_byte is_class none_left
+greater_text w e = byte_by Greater 62 table w refl e
+
+pub star_text : (w : List ℕ) → kind_of w ≡ Some Star → w ≡ codes "*"
+unfolding table only_byte is_byte is_class none_left
+star_text w e = byte_by Star 42 table w refl e
+
+pub bang_text : (w : List ℕ) → kind_of w ≡ Some Bang → w ≡ codes "!"
+unfolding table only_byte is_byte is_class none_left
+bang_text w e = byte_by Bang 33 table w refl e
+
+pub bar_text : (w : List ℕ) → kind_of w ≡ Some Bar → w ≡ codes "|"
+unfolding table only_byte is_byte is_class none_left
+bar_text w e = byte_by Bar 124 table w refl e

@@ -1,8 +1,8 @@
 -- A printed text in pieces, and where two pieces may stand with nothing between them.
-use Rattle.std.specs.Prelude.{◌≡◌, ℕ, Bool, true, false, not, ◌&&◌, ◌||◌, List, [], ◌∷◌, ◌++◌, Some}
+use Rattle.std.specs.Prelude.{◌≡◌, ℕ, Bool, true, false, ◌&&◌, ◌||◌, ◌==◌, List, [], ◌∷◌, ◌++◌, Some, if◌then◌else◌}
 use Rattle.forms.specs.declared.TokenKind.{TokenKind}
 use Rattle.forms.specs.declared.TokenKind.TheVariants.{Quoted, Local, Global, Comdat, Label, Word, Number, TextConstant, Metadata, AttributeGroup, Dots, Equal, Comma, LeftParen, RightParen, LeftBracket, RightBracket, LeftBrace, RightBrace, Less, Greater, Star, Bang, Colon, Bar, Decimal, Hexadecimal, NamedGroup}
-use Rattle.forms.specs.Form.{Lexeme}
+use Rattle.forms.specs.Form.{Lexeme, kind_code}
 use Rattle.forms.specs.Lexical.{kind_of, is_space}
 use Rattle.text_lex.specs.Neighbours.{all_of}
 
@@ -65,14 +65,39 @@ abbrev pub is_empty : List ℕ → Bool
 is_empty [] = true
 is_empty (c ∷ cs) = false
 
--- Two tokens stand apart by white space, or one of them is a mark. The first argument says whether a token that is no mark stands at once before.
-abbrev pub joins : Bool → List Piece → Bool
-joins open_ [] = true
-joins open_ (gap s ∷ ps) = all_of is_space s && joins (open_ && is_empty s) ps
-joins open_ (lexeme t ∷ ps) = (is_mark t.kind || not open_) && joins (not (is_mark t.kind)) ps
+-- the text begins with `"`
+abbrev pub begins_quoted : List ℕ → Bool
+begins_quoted [] = false
+begins_quoted (c ∷ cs) = c == 34
 
--- whether a token that is no mark stands at the end
-abbrev pub ends_open : Bool → List Piece → Bool
-ends_open open_ [] = open_
-ends_open open_ (gap s ∷ ps) = ends_open (open_ && is_empty s) ps
-ends_open open_ (lexeme t ∷ ps) = ends_open (not (is_mark t.kind)) ps
+-- what stands at once before a place: white space, a mark or nothing; a `!` by itself; another token
+pub data Before : Type 0 where
+  closed : Before
+  bang : Before
+  open_ : Before
+
+-- before the place behind a token of the kind
+abbrev pub left_by : TokenKind → Before
+left_by k = if is_mark k then closed else (if kind_code k == kind_code Bang then bang else open_)
+
+-- before the place behind white space
+abbrev pub spaced : Before → List ℕ → Before
+spaced b s = if is_empty s then b else closed
+
+-- whether a token may stand here: a mark may always, and what begins with `"` behind a `!`
+abbrev pub may_stand : Before → Lexeme → Bool
+may_stand closed t = true
+may_stand bang t = is_mark t.kind || begins_quoted t.text
+may_stand open_ t = is_mark t.kind
+
+-- Between the pieces is white space where it has to be. The first argument says what stands at once before them.
+abbrev pub joins : Before → List Piece → Bool
+joins b [] = true
+joins b (gap s ∷ ps) = all_of is_space s && joins (spaced b s) ps
+joins b (lexeme t ∷ ps) = may_stand b t && joins (left_by t.kind) ps
+
+-- before the place behind the pieces
+abbrev pub end_of : Before → List Piece → Before
+end_of b [] = b
+end_of b (gap s ∷ ps) = end_of (spaced b s) ps
+end_of b (lexeme t ∷ ps) = end_of (left_by t.kind) ps

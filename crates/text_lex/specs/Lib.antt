@@ -4,3 +4,4 @@ pub mod Spelling
 pub mod Fault
 pub mod Layout
 pub mod Names
+pub mod KeptText
