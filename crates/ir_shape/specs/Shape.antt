@@ -1,35 +1,27 @@
 -- What is known of a tree that some text says.
-use Rattle.std.specs.Prelude.{◌≡◌, ◌<◌, ◌^◌, ℕ, ◌⊎◌, List, [], ◌∷◌, length, map, Option, Some, None}
+use Rattle.std.specs.Prelude.{codes, true, ◌≡◌, ◌<◌, ◌^◌, ℕ, ◌⊎◌, List, [], ◌∷◌, length, map, Option, Some, None}
 use Rattle.std.specs.List.{AllByRecursion}
+use Rattle.forms.specs.declared.TokenKind.TheVariants.{Word}
+use Rattle.forms.specs.Form.{Form, Spells, either}
+use Rattle.forms.specs.Nested.{joined}
+use Rattle.forms.specs.Kept.{kept_token, attachments}
+use Rattle.text_lex.specs.KeptText.{token_of, IsToken}
 use Rattle.ir_types.specs.declared.name.Name.{Name}
 use Rattle.ir_types.specs.declared.name.Name.TheVariants.{Text, Number}
 use Rattle.ir_types.specs.declared.inst.Ty.{Ty}
 use Rattle.ir_types.specs.declared.inst.Ty.TheVariants.{Int, Ptr, Vector, Void}
 use Rattle.ir_types.specs.declared.inst.InstKind.{InstKind}
 use Rattle.ir_types.specs.declared.inst.InstKind.TheVariants.{Binary, Compare, Phi, Jump, Branch, Return, ReturnVoid}
-use Rattle.ir_types.specs.Grammar.{lane_counts, width_of, bits_for}
-use Rattle.ir_types.specs.Tree.{OperandTree, local, number, InstTree, BlockTree, ParamTree, FunctionTree, ModuleTree}
+pub use Rattle.ir_types.specs.Types.{IsOneOf, widths, IsType}
+use Rattle.ir_types.specs.TypeNodes.{TypeNode, scalar, called, array, opening, closing}
+use Rattle.ir_types.specs.Collected.{collected}
+use Rattle.ir_types.specs.Grammar.{width_of, bits_for, kept, equal_string, target_line, attribute_group, comdat, metadata, behind_type}
+use Rattle.ir_types.specs.Tree.{KeptTexts, OperandTree, local, number, InstTree, BlockTree, ParamTree, FunctionTree, ModuleTree, VariableTree, Item, head_line, comdat_line, type_item, variable_item, function_item, attribute_line, metadata_line}
 
 -- a number as a name has 32 bits
 abbrev pub IsName : Name → Type 0
 IsName (Text s) = Unit {0}
 IsName (Number n) = n < 2 ^ 32
-
--- one of these numbers
-abbrev pub IsOneOf : List ℕ → ℕ → Type 0
-IsOneOf [] n = ⊥
-IsOneOf (x ∷ xs) n = (n ≡ x) ⊎ IsOneOf xs n
-
--- the widths that are written, in bits
-abbrev pub widths : List ℕ
-widths = 1 ∷ 8 ∷ 16 ∷ 32 ∷ 64 ∷ []
-
--- the types of values that are written
-abbrev pub IsType : Ty → Type 0
-IsType (Int w) = IsOneOf widths w
-IsType Ptr = Unit {0}
-IsType (Vector n w) = IsOneOf lane_counts n × IsOneOf widths w
-IsType Void = ⊥
 
 -- the types of what a function returns: one of a value, or none
 abbrev pub IsReturnType : Ty → Type 0
@@ -106,19 +98,86 @@ pub record IsBlock (b : BlockTree) : Type 0 where
   pub insts : AllByRecursion IsInst b.insts
   pub ending : EndsOnce (map (λ i. i.kind) b.insts)
 
--- a parameter: a type that is written, and a name
+-- ---- what is kept
+
+-- a form spells these texts by the tokens with these texts
+pub record IsKept (form : Form KeptTexts) (xs : KeptTexts) : Type 0 where
+  pub spelled : Spells form xs (map token_of xs)
+  pub tokens : AllByRecursion IsToken xs
+
+-- what a function keeps before its result's type: attachments and a run where it is declared, a run where it is defined
+abbrev pub before_form : List BlockTree → Form KeptTexts
+before_form [] = joined attachments kept
+before_form (b ∷ bs) = kept
+
+-- and behind its parameters
+abbrev pub after_form : List BlockTree → Form KeptTexts
+after_form [] = kept
+after_form (b ∷ bs) = joined kept attachments
+
+-- a line of a module's head
+abbrev pub head_form : Form KeptTexts
+head_form = either (joined (kept_token Word (codes "source_filename")) equal_string) (joined (kept_token Word (codes "target")) target_line)
+
+-- a group of attributes
+abbrev pub attributes_form : Form KeptTexts
+attributes_form = joined (kept_token Word (codes "attributes")) attribute_group
+
+-- ---- functions, types and modules
+
+-- a parameter: a type that is written, a kept run, and a name
 pub record IsParam (p : ParamTree) : Type 0 where
   pub ty : IsType p.ty
+  pub kept_texts : IsKept kept p.kept
   pub name : IsName p.name
 
--- a function, with at least one block
+-- a function, declared where it has no block; only a declared one takes further arguments
 pub record IsFunction (f : FunctionTree) : Type 0 where
   pub name : IsName f.name
+  pub before : IsKept (before_form f.body) f.before
   pub ret : IsReturnType f.ret
   pub params : AllByRecursion IsParam f.params
+  pub fixed : f.varargs ≡ true → f.body ≡ []
+  pub after : IsKept (after_form f.body) f.after
   pub blocks : AllByRecursion IsBlock f.body
-  pub some : 0 < length f.body
 
--- a module: its functions
-abbrev pub IsModule : ModuleTree → Type 0
-IsModule m = AllByRecursion IsFunction m.functions
+-- a node of a memory type as it can be written
+abbrev pub IsNode : TypeNode → Type 0
+IsNode (scalar t) = IsType t
+IsNode (called n) = IsName n
+IsNode (array n) = n < 2 ^ 64
+IsNode (opening packed) = Unit {0}
+IsNode closing = Unit {0}
+
+-- a memory type, by its nodes: there is one, and each can be written
+pub record IsMemory (nodes : List TypeNode) : Type 0 where
+  pub some : 0 < length nodes
+  pub each : AllByRecursion IsNode nodes
+
+-- the type of a definition, where it is not opaque
+abbrev pub IsDefinition : Option (List TypeNode) → Type 0
+IsDefinition None = Unit {0}
+IsDefinition (Some nodes) = IsMemory nodes
+
+-- a variable
+pub record IsVariable (v : VariableTree) : Type 0 where
+  pub name : IsName v.name
+  pub before : IsKept kept v.before
+  pub ty : IsMemory v.ty
+  pub after : IsKept behind_type v.after
+
+-- an item
+abbrev pub IsItem : Item FunctionTree → Type 0
+IsItem (head_line xs) = IsKept head_form xs
+IsItem (comdat_line xs) = IsKept comdat xs
+IsItem (type_item n t) = IsName n × IsDefinition t
+IsItem (variable_item v) = IsVariable v
+IsItem (function_item f) = IsFunction f
+IsItem (attribute_line xs) = IsKept attributes_form xs
+IsItem (metadata_line xs) = IsKept metadata xs
+
+-- a module: what such items are collected to
+pub record IsModule (m : ModuleTree) : Type 0 where
+  pub items : List (Item FunctionTree)
+  pub known : AllByRecursion IsItem items
+  pub says : collected items ≡ m
