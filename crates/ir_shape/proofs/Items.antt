@@ -5,6 +5,7 @@ use Rattle.std.specs.List.{AllByRecursion}
 use Rattle.std.proofs.lemmas.Bool.Decides.{nat_tests}
 use Rattle.std.proofs.lemmas.Option.{cond_some}
 use Rattle.forms.specs.declared.TokenKind.TheVariants.{Quoted, Local, Global, Comdat, Word, Number, Metadata, AttributeGroup, Dots, Bang, Equal, Comma, LeftParen, RightParen, LeftBracket, RightBracket, LeftBrace, RightBrace, Less, Greater}
+use Rattle.forms.specs.declared.TokenKind.{TokenKind}
 use Rattle.forms.specs.declared.Around.{Around}
 use Rattle.forms.specs.declared.Around.TheVariants.{InArray, InStruct}
 use Rattle.forms.specs.Bind.{◌>>=◌}
@@ -28,7 +29,8 @@ use Rattle.ir_types.specs.Tree.{KeptTexts, WrittenParam, WrittenBlock, WrittenFu
 use Rattle.ir_types.specs.Grammar.{elements_of, memory_leaf, array_begin, type_parts, memory_type, kept, parameter, dotted, or_no_params, dotted_parameters, declared_function, defined_function, equal_string, target_line, attribute_group, comdat, metadata, type_definition, initialiser_stops, extra_behind, extra, kept_once, behind_type, variable_word, variable_definition, item_behind, item, module_form}
 use Rattle.ir_shape.specs.Shape.{IsName, IsType, IsReturnType, IsNameThere, IsKept, head_form, attributes_form, IsNode, IsMemory, IsDefinition, IsVariable}
 use Rattle.ir_shape.proofs.Names.{behind_is}
-use Rattle.ir_shape.proofs.Stub.{Verbatim, one_verbatim, token_verbatim, such_verbatim, joined_verbatim, either_verbatim, perhaps_verbatim, braces_verbatim, run_verbatim, attachment_verbatim, attachments_verbatim, up_to_verbatim, ahead_verbatim}
+use Rattle.kept_runs.specs.Verbatim.{Verbatim}
+use Rattle.kept_runs.proofs.Verbatim.{verbatim_one, verbatim_token, verbatim_such, verbatim_joined, verbatim_either, verbatim_perhaps, verbatim_up_to, verbatim_braces, verbatim_run, verbatim_attachment, verbatim_attachments}
 use Rattle.ir_shape.proofs.Sure.{Sure, one_sure, mark_sure, exactly_sure, word_sure, pair_sure, either_sure, mapped_sure, made_sure, ahead_sure, IsThere, optional_sure, by_word_sure, many_sure, behind_sure, after_mark_sure, between_sure, marked_sure, Filled, some_sure, commas_sure, list_sure, joined_sure, joined_filled, concat_sure, filled_all, kept_sure}
 use Rattle.ir_shape.proofs.Written.{local_sure, global_sure, type_sure, return_type_sure, block_sure, there_name, IsWrittenBlock, IsWrittenParam}
 
@@ -36,7 +38,7 @@ use Rattle.ir_shape.proofs.Written.{local_sure, global_sure, type_sure, return_t
 
 kept_is : Verbatim kept
 unfolding kept
-kept_is = run_verbatim _
+kept_is = verbatim_run _
 
 pub run_sure : Sure kept (IsKept kept)
 run_sure = kept_sure kept_is
@@ -78,7 +80,7 @@ pub record IsWrittenFunction (f : WrittenFunction) : Type 0 where
 
 declared_sure : Sure declared_function IsWrittenFunction
 unfolding declared_function
-declared_sure = mapped_sure (pair_sure (kept_sure (joined_verbatim attachments_verbatim kept_is)) (pair_sure return_type_sure (pair_sure global_sure (pair_sure (between_sure LeftParen RightParen dotted_sure) run_sure)))) (λ x h. record {
+declared_sure = mapped_sure (pair_sure (kept_sure (verbatim_joined _ _ verbatim_attachments kept_is)) (pair_sure return_type_sure (pair_sure global_sure (pair_sure (between_sure LeftParen RightParen dotted_sure) run_sure)))) (λ x h. record {
   name = h.1.1.0;
   before = h.0;
   ret = h.1.0;
@@ -101,7 +103,7 @@ not_true e = cc
 
 defined_sure : Sure defined_function IsWrittenFunction
 unfolding defined_function
-defined_sure = mapped_sure (pair_sure run_sure (pair_sure return_type_sure (pair_sure global_sure (pair_sure (between_sure LeftParen RightParen (list_sure param_sure)) (pair_sure (kept_sure (joined_verbatim kept_is attachments_verbatim)) (between_sure LeftBrace RightBrace (some_sure block_sure))))))) (λ x h. record {
+defined_sure = mapped_sure (pair_sure run_sure (pair_sure return_type_sure (pair_sure global_sure (pair_sure (between_sure LeftParen RightParen (list_sure param_sure)) (pair_sure (kept_sure (verbatim_joined _ _ kept_is verbatim_attachments)) (between_sure LeftBrace RightBrace (some_sure block_sure))))))) (λ x h. record {
   name = h.1.1.0;
   before = before_defined x.1.1.1.1.1 x.0 h.1.1.1.1.1.0 h.0;
   ret = h.1.0;
@@ -210,7 +212,7 @@ record Beside (f : Form (Extra × KeptTexts)) : Type 0 where
   same : (a : Extra × KeptTexts) (ts : List Lexeme) → AreLexed ts → Spells f a ts → a.1 ≡ texts ts
 
 beside : {f : Form KeptTexts} (e : Extra) → Verbatim f → Beside (mapped (λ xs. (e, xs)) f)
-beside e v = record { same = λ a ts l h. ap (λ (x : Extra × KeptTexts). x.1) (sym h.1) ∙ v.same h.0 ts l h.2 }
+beside e v = record { same = λ a ts l h. ap (λ (x : Extra × KeptTexts). x.1) (sym h.1) ∙ v.says h.0 ts l h.2 }
 
 either_beside : {f g : Form (Extra × KeptTexts)} → Beside f → Beside g → Beside (either f g)
 either_beside p q = record { same = λ a ts l h. elim h [ inl x ↦ p.same a ts l x | inr x ↦ q.same a ts l x ] }
@@ -218,9 +220,9 @@ either_beside p q = record { same = λ a ts l h. elim h [ inl x ↦ p.same a ts 
 extra_behind_is : Beside extra_behind
 unfolding extra_behind
 extra_behind_is =
-    either_beside (beside _ (joined_verbatim (token_verbatim Word _) (one_verbatim Quoted)))
-    (either_beside (beside _ (joined_verbatim (token_verbatim Word _) (perhaps_verbatim (joined_verbatim (one_verbatim LeftParen) (joined_verbatim (one_verbatim Comdat) (one_verbatim RightParen))))))
-    (either_beside (beside _ (joined_verbatim (token_verbatim Word _) (such_verbatim Number _))) (beside _ attachment_verbatim)))
+    either_beside (beside _ (verbatim_joined _ _ (verbatim_token Word _) (verbatim_one Quoted)))
+    (either_beside (beside _ (verbatim_joined _ _ (verbatim_token Word _) (verbatim_perhaps _ (verbatim_joined _ _ (verbatim_one LeftParen) (verbatim_joined _ _ (verbatim_one Comdat) (verbatim_one RightParen))))))
+    (either_beside (beside _ (verbatim_joined _ _ (verbatim_token Word _) (verbatim_such Number _))) (beside _ verbatim_attachment)))
 
 later_lexed : (t : Lexeme) (ts us : List Lexeme) → ts ≡ t ∷ us → AreLexed ts → AreLexed us
 later_lexed t ts us e l = (subst AreLexed e l).1
@@ -246,12 +248,12 @@ all_beside (x ∷ xs) ts l h =
 
 extras_verbatim : Verbatim (made kept_once (many extra))
 extras_verbatim = record {
-  same = λ a ts l h. sym (cond_some _ (concat (map (λ x. x.1) h.0)) a h.1).1 ∙ all_beside h.0 ts l h.2;
+  says = λ a ts l h. sym (cond_some _ (concat (map (λ x. x.1) h.0)) a h.1).1 ∙ all_beside h.0 ts l h.2;
 }
 
 once_verbatim : Verbatim behind_type
 unfolding behind_type
-once_verbatim = joined_verbatim (up_to_verbatim initialiser_stops) extras_verbatim
+once_verbatim = verbatim_joined _ _ (verbatim_up_to initialiser_stops) extras_verbatim
 
 variable_sure : (d : ℕ) → Sure (variable_definition (memory_type d)) IsWrittenItem
 unfolding variable_definition variable_word
@@ -262,23 +264,28 @@ variable_sure d = made_sure {Q = IsWrittenItem} (ahead_sure Global (after_mark_s
 -- ---- lines
 
 equal_string_is : Verbatim equal_string
-equal_string_is = joined_verbatim (one_verbatim Equal) (one_verbatim Quoted)
+equal_string_is = verbatim_joined _ _ (verbatim_one Equal) (verbatim_one Quoted)
 
 target_is : Verbatim target_line
 unfolding target_line
-target_is = joined_verbatim (either_verbatim (token_verbatim Word _) (token_verbatim Word _)) equal_string_is
+target_is = verbatim_joined _ _ (verbatim_either _ _ (verbatim_token Word _) (verbatim_token Word _)) equal_string_is
 
 group_is : Verbatim attribute_group
 unfolding attribute_group
-group_is = joined_verbatim (one_verbatim AttributeGroup) (joined_verbatim (one_verbatim Equal) braces_verbatim)
+group_is = verbatim_joined _ _ (verbatim_one AttributeGroup) (verbatim_joined _ _ (verbatim_one Equal) verbatim_braces)
+
+ahead_verbatim : {f : Form KeptTexts} (k : TokenKind) → Verbatim f → Verbatim (mapped (λ x. x.0 ∷ x.1) (ahead k f))
+ahead_verbatim k v = record {
+  says = λ a ts l h. sym h.1 ∙ ap (λ (xs : KeptTexts). h.0.0 ∷ xs) (v.says h.0.1 h.2.0 (later_lexed _ ts h.2.0 h.2.1 l) h.2.2) ∙ sym (ap texts h.2.1);
+}
 
 comdat_is : Verbatim comdat
 unfolding comdat
-comdat_is = ahead_verbatim Comdat (joined_verbatim (one_verbatim Equal) (joined_verbatim (token_verbatim Word _) (one_verbatim Word)))
+comdat_is = ahead_verbatim Comdat (verbatim_joined _ _ (verbatim_one Equal) (verbatim_joined _ _ (verbatim_token Word _) (verbatim_one Word)))
 
 metadata_is : Verbatim metadata
 unfolding metadata
-metadata_is = ahead_verbatim Metadata (joined_verbatim (one_verbatim Equal) (joined_verbatim (perhaps_verbatim (token_verbatim Word _)) (joined_verbatim (one_verbatim Bang) braces_verbatim)))
+metadata_is = ahead_verbatim Metadata (verbatim_joined _ _ (verbatim_one Equal) (verbatim_joined _ _ (verbatim_perhaps _ (verbatim_token Word _)) (verbatim_joined _ _ (verbatim_one Bang) verbatim_braces)))
 
 abbrev token : List ℕ → Lexeme
 token w = record { kind = Word; text = w }

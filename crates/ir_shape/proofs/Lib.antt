@@ -1,6 +1,5 @@
 pub mod Among
 pub mod Names
-mod Stub
 pub mod Sure
 pub mod Written
 pub mod Items

@@ -8,7 +8,7 @@ use Rattle.forms.specs.Gives.{mark}
 use Rattle.forms.specs.Nested.{joined, concat}
 use Rattle.text_lex.specs.KeptText.{token_of, IsToken, AreLexed}
 use Rattle.text_lex.proofs.Lexed.{lexed_split, each_append, tokens_again, lexed_are_tokens}
-use Rattle.ir_shape.proofs.Stub.{Verbatim}
+use Rattle.kept_runs.specs.Verbatim.{Verbatim}
 use Rattle.ir_types.specs.Tree.{KeptTexts}
 use Rattle.ir_types.specs.Grammar.{word, behind, after_mark, between, marked, some, commas, list, or_none}
 use Rattle.ir_shape.specs.Shape.{IsKept}
@@ -141,4 +141,4 @@ kept_again f a ts l e h = record {
 }
 
 pub kept_sure : {f : Form KeptTexts} → Verbatim f → Sure f (IsKept f)
-kept_sure {f} v = record { known = λ a ts l h. kept_again f a ts l (v.same a ts l h) h }
+kept_sure {f} v = record { known = λ a ts l h. kept_again f a ts l (v.says a ts l h) h }
