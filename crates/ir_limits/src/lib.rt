@@ -1,0 +1,4 @@
+//! The limits on what a module has.
+#![tactic(auto)]
+
+mod names;
