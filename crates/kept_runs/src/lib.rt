@@ -5,6 +5,7 @@
 
 mod awaited;
 mod enclosed;
+mod pieces;
 mod tokens;
 mod up_to;
 
