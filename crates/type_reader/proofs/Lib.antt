@@ -1,3 +1,4 @@
 pub mod Digits
 pub mod Same
 pub mod Vectors
+pub mod Places
