@@ -1,3 +1,4 @@
 pub mod Vectors
 pub mod TypeTable
 pub mod Frames
+pub mod Heads

@@ -1,6 +1,7 @@
 //! Reads names and types: those of values, and those of what lies in memory.
 #![tactic(auto)]
 
+mod heads;
 mod names;
 mod numbers;
 mod type_names;
