@@ -4,6 +4,7 @@
 mod heads;
 mod names;
 mod numbers;
+mod stack;
 mod type_names;
 mod types;
 
