@@ -1,10 +1,10 @@
-use Rattle.std.proofs.Common.{◌≡◌, ◌<◌, Some, sym, refl, subst, length, arith}
+use Rattle.std.proofs.Common.{◌≡◌, Some, refl, subst, length, arith}
 use Rattle.std.specs.Prelude.{slice_get}
 use Rattle.std.proofs.lemmas.Option.{slice_get_read}
-use Rattle.ir_sizes.specs.Known.{IsSized, AreSized}
+use Rattle.ir_sizes.specs.Known.{AreSized}
 use Rattle.ir_sizes.proofs.Setting.{right_small, right_set}
-use Rattle.ir_sizes.proofs.extents.set_at.Goals as goal
-use Rattle.ir_sizes.proofs.extents.set_at.Goals.{After-extent_of-extent}
+use Rattle.ir_sizes.proofs.place.set_at.Goals as goal
+use Rattle.ir_sizes.proofs.place.set_at.Goals.{After-extent_of-extent}
 
 -- the type at the place
 found : (c : After-extent_of-extent) → slice_get c.args.types.now c.args.place ≡ Some c.index-types-place.result
