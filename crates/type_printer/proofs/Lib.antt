@@ -7,3 +7,6 @@ pub mod Spelled
 pub mod Laid
 pub mod LaidOut
 pub mod Appended
+pub mod MemorySays
+pub mod MemoryLaid
+pub mod MemoryPrinted
