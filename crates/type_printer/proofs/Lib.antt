@@ -10,3 +10,7 @@ pub mod Appended
 pub mod MemorySays
 pub mod MemoryLaid
 pub mod MemoryPrinted
+pub mod MemoryRest
+pub mod TypeNames
+pub mod MemoryPlaced
+pub mod Frames

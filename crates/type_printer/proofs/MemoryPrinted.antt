@@ -136,6 +136,7 @@ with_next nodes pieces x p a h = record {
   where
     before : (k : ℕ) → k < length nodes → AllByRecursion IsNode (nodes_at (nodes ++ x ∷ []) k) → Prints (nodes_at (nodes ++ x ∷ []) k) (pieces_at (pieces ++ p ∷ []) k)
     before k lt = let e = a.size in let inside : k < length pieces = omega arith in rw (nodes_front nodes x k lt, get_or-append pieces (p ∷ []) [] k inside) (a.each k lt)
+
     last : AllByRecursion IsNode (nodes_at (nodes ++ x ∷ []) (length nodes)) → Prints (nodes_at (nodes ++ x ∷ []) (length nodes)) (pieces_at (pieces ++ p ∷ []) (length nodes))
     last = rw (nodes_last nodes x) (rw (a.size, get_or-append_seam pieces p [] []) h)
 

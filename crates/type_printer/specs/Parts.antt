@@ -1,5 +1,5 @@
 -- The types that stand in a type, and what stands around them.
-use Rattle.std.specs.Prelude.{ℕ, zero, suc, nat_lt, List, [], ◌∷◌, ◌++◌, length, if◌then◌else◌}
+use Rattle.std.specs.Prelude.{ℕ, zero, suc, ◌<◌, nat_lt, List, [], ◌∷◌, ◌++◌, length, if◌then◌else◌}
 use Rattle.text_lex.specs.Layout.{Piece, lexeme}
 use Rattle.ir_types.specs.declared.name.Name.{Name}
 use Rattle.ir_types.specs.declared.memory_type.TypeId.{TypeId}
@@ -8,6 +8,13 @@ use Rattle.ir_types.specs.declared.memory_type.MemTy.TheVariants.{One, Array, St
 use Rattle.ir_types.specs.Names.{name_at}
 use Rattle.type_printer.specs.Pieces.{comma, blank, right_bracket, local_token, type_pieces}
 use Rattle.type_printer.specs.MemoryPieces.{array_head, struct_head, struct_end}
+
+-- the name of a type that has one stands in the list
+abbrev pub HasItsName : List Name → MemTy → Type 0
+HasItsName names (One t) = Unit {0}
+HasItsName names (Array n element) = Unit {0}
+HasItsName names (Struct packed members) = Unit {0}
+HasItsName names (Named k) = k < length names
 
 -- the types that stand in a type: the element of an array, the members of a struct
 abbrev pub parts_of : MemTy → List TypeId
