@@ -46,7 +46,7 @@ seen-alike s t a at_last rest = refines-refl (seen s)
 seen-alike s t a both_over rest = refines-refl (seen s)
 
 abbrev direct_function : Function
-direct_function = record { name = f; ret = i32; params = []; body = block 0 (jump 1 ∷ []) ∷ block 1 (ret (IntOperand 5) ∷ []) ∷ []; names = map Number (0 ∷ 1 ∷ 2 ∷ 3 ∷ 4 ∷ 5 ∷ 6 ∷ 7 ∷ []) }
+direct_function = record { name = f; before = []; ret = i32; params = []; varargs = false; after = []; body = block 0 (jump 1 ∷ []) ∷ block 1 (ret (IntOperand 5) ∷ []) ∷ []; names = map Number (0 ∷ 1 ∷ 2 ∷ 3 ∷ 4 ∷ 5 ∷ 6 ∷ 7 ∷ []) }
 
 only : (name : Name) (g : Function) → function_of direct name ≡ Some g → (f ≡ name) × (direct_function ≡ g)
 only (Text t) g found = by (bytes_eq (codes "f") t) refl found
@@ -124,7 +124,7 @@ simulation = record { seen = seen-alike; move = move; settled = settled; start =
 -- ---- what can be run
 
 abbrev detour_function : Function
-detour_function = record { name = f; ret = i32; params = []; body = block 0 (jump 2 ∷ []) ∷ block 1 (ret (IntOperand 5) ∷ []) ∷ block 2 (jump 1 ∷ []) ∷ []; names = direct_function.names }
+detour_function = record { name = f; before = []; ret = i32; params = []; varargs = false; after = []; body = block 0 (jump 2 ∷ []) ∷ block 1 (ret (IntOperand 5) ∷ []) ∷ block 2 (jump 1 ∷ []) ∷ []; names = direct_function.names }
 
 defined : (name : Name) (g : Function) → Defines direct name g → (k : Function) × Defines detour name k × SameSignature g k
 defined name g d =

@@ -147,4 +147,4 @@ function-images f g p q e = record {
 -- modules of one tree, with all positions in their tables, have the same functions
 pub same-functions : (m n : Module) → IsPlaced m → IsPlaced n → AllByRecursion (λ f. IsTable f.names) m.functions → AllByRecursion (λ f. IsTable f.names) n.functions → tree_of m ≡ tree_of n → SameFunctions m n
 same-functions m n p q t t' e =
-    zip-images IsSound IsSound SameFunction tree_of_function tree_of_function function-images m.functions n.functions (all-sound m.functions p t) (all-sound n.functions q t') (ap (λ s. s.functions) e)
+    zip-images IsSound IsSound SameFunction tree_of_function tree_of_function function-images m.functions n.functions (all-sound m.functions p.functions t) (all-sound n.functions q.functions t') (ap (λ s. s.functions) e)

@@ -1,5 +1,5 @@
 -- Small modules, to try the definitions on.
-use Rattle.std.specs.Prelude.{◌≡◌, ℕ, ◌+◌, codes, List, [], ◌∷◌, ◌++◌, map, Some, None}
+use Rattle.std.specs.Prelude.{false, ◌≡◌, ℕ, suc, ◌+◌, codes, List, [], ◌∷◌, ◌++◌, map, Some, None}
 use Rattle.ir_types.specs.declared.name.Name.{Name}
 use Rattle.ir_types.specs.declared.name.Name.TheVariants.{Text, Number}
 use Rattle.ir_types.specs.declared.name.ValueId.{ValueId}
@@ -14,6 +14,9 @@ use Rattle.ir_types.specs.declared.inst.InstKind.TheVariants.{Binary, Compare, P
 use Rattle.ir_types.specs.declared.inst.Inst.{Inst}
 use Rattle.ir_types.specs.declared.module.Block.{Block}
 use Rattle.ir_types.specs.declared.module.Param.{Param}
+use Rattle.ir_types.specs.declared.module.Function.{Function}
+use Rattle.ir_types.specs.declared.module.Symbol.{Symbol}
+use Rattle.ir_types.specs.declared.module.SymbolKind.TheVariants.{Function as FunctionSymbol}
 use Rattle.ir_types.specs.declared.module.Module.{Module}
 use Rattle.ir_types.specs.declared.value.Value.{Value}
 use Rattle.ir_types.specs.declared.value.Value.TheVariants.{Int}
@@ -52,7 +55,7 @@ abbrev pub of_i32 : ℕ → Typed
 of_i32 x = record { ty = i32; value = int32 x }
 
 abbrev pub param : Ty → ℕ → Param
-param t n = record { ty = t; name = id n }
+param t n = record { ty = t; kept = []; name = id n }
 
 -- ---- instructions
 
@@ -83,11 +86,19 @@ icmp n p x y = record { kind = Compare p i32; ty = i1; args = x ∷ y ∷ []; la
 abbrev pub block : ℕ → List Inst → Block
 block n insts = record { name = id n; insts = insts }
 
+-- the symbols of functions from a place on
+abbrev pub symbols_behind : ℕ → List Function → List Symbol
+symbols_behind i [] = []
+symbols_behind i (g ∷ gs) = record { name = g.name; kind = FunctionSymbol (record { 0 = i }); before = []; after = [] } ∷ symbols_behind (suc i) gs
+
+-- a module of these functions alone
+abbrev pub with_functions : List Function → Module
+with_functions fs = record { head = []; types = []; extents = []; type_names = []; symbols = symbols_behind 0 fs; functions = fs; tail = [] }
+
 -- a module with the function `@f` alone, whose names are numbers
 abbrev pub one_function : List Param → List Block → Module
-one_function params body = record {
-  functions = record { name = f; ret = i32; params = params; body = body; names = map Number (0 ∷ 1 ∷ 2 ∷ 3 ∷ 4 ∷ 5 ∷ 6 ∷ 7 ∷ []) } ∷ [];
-}
+one_function params body =
+    with_functions (record { name = f; before = []; ret = i32; params = params; varargs = false; after = []; body = body; names = map Number (0 ∷ 1 ∷ 2 ∷ 3 ∷ 4 ∷ 5 ∷ 6 ∷ 7 ∷ []) } ∷ [])
 
 -- ---- modules
 
@@ -116,7 +127,7 @@ loops =
 
 -- no function
 abbrev pub empty : Module
-empty = record { functions = [] }
+empty = with_functions []
 
 -- define i32 @f(): %1 = add i32 x, y; ret i32 %1
 abbrev pub adds : (x y : ℕ) → Module
@@ -187,7 +198,7 @@ returns x = one_function [] (block 0 (ret (IntOperand x) ∷ []) ∷ [])
 
 -- two functions, two parameters, two blocks and two entries of one name
 abbrev pub two_functions : Module
-two_functions = record { functions = (returns 1).functions ++ (returns 2).functions }
+two_functions = with_functions ((returns 1).functions ++ (returns 2).functions)
 
 abbrev pub two_parameters : Module
 two_parameters = one_function (param i32 1 ∷ param i32 1 ∷ []) (block 0 (ret (at 1) ∷ []) ∷ [])

@@ -1,20 +1,21 @@
 // What texts read as.
 
 ghost use Rattle.std.specs.Prelude.{◌≡◌, ℕ, List, None};
-ghost use Rattle.forms.specs.Form.{Lexeme, Spells};
+ghost use Rattle.forms.specs.Form.{Lexeme};
 ghost use Rattle.forms.specs.Lexical.{Lexes, StopsAt};
 ghost use Rattle.ir_types.specs.declared.module.Module.{Module};
-ghost use Rattle.ir_types.specs.Grammar.{module_form};
+ghost use Rattle.ir_types.specs.Grammar.{SpellsModule};
 ghost use Rattle.ir_types.specs.Numbered.{numbered_module};
 ghost use Rattle.ir_types.specs.Reads.{Reads, SameModule, IsReadable};
-ghost use Rattle.ir_types.specs.Tree.{WrittenModule};
+ghost use Rattle.ir_types.specs.Tree.{WrittenFunction, Item};
 
-/// A text reads as at most one module, up to the positions of names.
+/// A text reads as at most one module, up to the positions of names and of types, and has at most one list of items.
 pub fn one_reading()
-    ensures { (text : List ℕ) (m n : Module) → Reads text m → Reads text n → SameModule m n }
+    ensures module { (text : List ℕ) (m n : Module) → Reads text m → Reads text n → SameModule m n }
+    ensures items { (text : List ℕ) (m n : Module) (r : Reads text m) (s : Reads text n) → r.numbered ≡ s.numbered }
 {}
 
-/// What a text reads as, it reads as with the names in other positions too.
+/// What a text reads as, it reads as with the names and types in other positions too.
 pub fn positions_are_free()
     ensures { (text : List ℕ) (m n : Module) → Reads text m → SameModule m n → Reads text n }
 {}
@@ -23,8 +24,8 @@ pub fn positions_are_free()
 /// name finds no number.
 pub fn no_reading()
     ensures stopped { (text : List ℕ) (place : ℕ) (m : Module) → StopsAt text place → Reads text m → ⊥ }
-    ensures unspelled { (text : List ℕ) (tokens : List Lexeme) (m : Module) → Lexes text tokens → ((written : WrittenModule) → Spells module_form written tokens → ⊥) → Reads text m → ⊥ }
-    ensures unnumbered { (text : List ℕ) (tokens : List Lexeme) (written : WrittenModule) (m : Module) → Lexes text tokens → Spells module_form written tokens → numbered_module written ≡ None → Reads text m → ⊥ }
+    ensures unspelled { (text : List ℕ) (tokens : List Lexeme) (m : Module) → Lexes text tokens → ((written : List (Item WrittenFunction)) → SpellsModule written tokens → ⊥) → Reads text m → ⊥ }
+    ensures unnumbered { (text : List ℕ) (tokens : List Lexeme) (written : List (Item WrittenFunction)) (m : Module) → Lexes text tokens → SpellsModule written tokens → numbered_module written ≡ None → Reads text m → ⊥ }
 {}
 
 /// Being the same module goes both ways and from one to the next, and a module that some text reads as is the same as itself.

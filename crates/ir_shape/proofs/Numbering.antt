@@ -13,11 +13,12 @@ use Rattle.ir_types.specs.declared.name.Name.{Name}
 use Rattle.ir_types.specs.declared.name.Name.TheVariants.{Number}
 use Rattle.ir_types.specs.declared.inst.Ty.{Ty}
 use Rattle.ir_types.specs.declared.inst.Ty.TheVariants.{Int, Ptr, Vector, Void}
-use Rattle.ir_types.specs.Tree.{InstTree, BlockTree, ParamTree, FunctionTree, ModuleTree, WrittenParam, WrittenBlock, WrittenFunction, WrittenModule}
+use Rattle.ir_types.specs.Tree.{KeptTexts, InstTree, BlockTree, ParamTree, FunctionTree, WrittenParam, WrittenBlock, WrittenFunction, Item, head_line, comdat_line, type_item, variable_item, function_item, attribute_line, metadata_line}
 use Rattle.ir_types.specs.Grammar.{named_by}
-use Rattle.ir_types.specs.Numbered.{next_after, named, named_result, numbered_inst, numbered_block, numbered_param, numbered_function, numbered_module}
-use Rattle.ir_shape.specs.Shape.{IsName, IsBody, IsNameThere, IsResult, IsInst, EndsOnce, IsBlock, IsParam, IsFunction, IsModule}
-use Rattle.ir_shape.proofs.Written.{IsWrittenInst, IsWrittenBlock, IsWrittenParam, IsWrittenFunction, IsWrittenModule, renamed}
+use Rattle.ir_types.specs.Numbered.{next_after, named, named_result, numbered_inst, numbered_block, numbered_param, numbered_function, numbered_item, numbered_module}
+use Rattle.ir_shape.specs.Shape.{IsName, IsBody, IsNameThere, IsResult, IsInst, EndsOnce, IsKept, before_form, after_form, IsBlock, IsParam, IsFunction, IsItem}
+use Rattle.ir_shape.proofs.Written.{IsWrittenInst, IsWrittenBlock, IsWrittenParam, renamed}
+use Rattle.ir_shape.proofs.Items.{before_written, after_written, IsWrittenFunction, IsWrittenItem}
 
 -- ---- walks
 
@@ -101,21 +102,52 @@ block_known next b x h e =
 param_known : (next : ℕ) (p : WrittenParam) (x : ParamTree × ℕ) → IsWrittenParam p → numbered_param next p ≡ Some x → IsParam x.0
 param_known next w x h e =
     let p = bind_some (named next w.name) _ x e in
-    subst (λ (y : ParamTree × ℕ). IsParam y.0) (some_is _ x p.2) (record { ty = h.ty; name = named_known next w.name p.0 h.name p.1 })
+    subst (λ (y : ParamTree × ℕ). IsParam y.0) (some_is _ x p.2) (record { ty = h.ty; kept_texts = h.kept_texts; name = named_known next w.name p.0 h.name p.1 })
 
-function_known : (u : Unit {0}) (f : WrittenFunction) (x : FunctionTree × Unit {0}) → IsWrittenFunction f → numbered_function u f ≡ Some x → IsFunction x.0
-function_known u f x h e =
+before_known : (ws : List WrittenBlock) (bs : List BlockTree) (xs : KeptTexts) → length ws ≡ length bs → IsKept (before_written ws) xs → IsKept (before_form bs) xs
+before_known [] [] xs e h = h
+before_known [] (b ∷ bs) xs e h = absurd (omega arith)
+before_known (w ∷ ws) [] xs e h = absurd (omega arith)
+before_known (w ∷ ws) (b ∷ bs) xs e h = h
+
+after_known : (ws : List WrittenBlock) (bs : List BlockTree) (xs : KeptTexts) → length ws ≡ length bs → IsKept (after_written ws) xs → IsKept (after_form bs) xs
+after_known [] [] xs e h = h
+after_known [] (b ∷ bs) xs e h = absurd (omega arith)
+after_known (w ∷ ws) [] xs e h = absurd (omega arith)
+after_known (w ∷ ws) (b ∷ bs) xs e h = h
+
+none_again : {A B : Type 0} (ws : List A) (bs : List B) → length ws ≡ length bs → ws ≡ [] → bs ≡ []
+none_again ws [] e h = refl
+none_again [] (b ∷ bs) e h = absurd (omega arith)
+none_again (w ∷ ws) (b ∷ bs) e h = absurd cc
+
+function_known : (f : WrittenFunction) (x : FunctionTree) → IsWrittenFunction f → numbered_function f ≡ Some x → IsFunction x
+function_known f x h e =
     let p = bind_some (walk numbered_param 0 f.params) _ x e in
     let q = bind_some (walk numbered_block p.0.1 f.body) _ x p.2 in
-    subst (λ (y : FunctionTree × Unit {0}). IsFunction y.0) (some_is _ x q.2) (record {
+    let n = walk_length numbered_block p.0.1 f.body q.0 q.1 in
+    subst IsFunction (some_is _ x q.2) (record {
       name = h.name;
+      before = before_known f.body q.0.0 f.before n h.before;
       ret = h.ret;
       params = walk_all IsWrittenParam IsParam numbered_param param_known 0 f.params p.0 h.params p.1;
+      fixed = λ v. none_again f.body q.0.0 n (h.fixed v);
+      after = after_known f.body q.0.0 f.after n h.after;
       blocks = walk_all IsWrittenBlock IsBlock numbered_block block_known p.0.1 f.body q.0 h.blocks q.1;
-      some = omega (arith, h.some, walk_length numbered_block p.0.1 f.body q.0 q.1);
     })
 
-pub module_known : (w : WrittenModule) (m : ModuleTree) → IsWrittenModule w → numbered_module w ≡ Some m → IsModule m
-module_known w m h e =
-    let p = bind_some (walk numbered_function tt w.functions) _ m e in
-    subst IsModule (some_is _ m p.2) (walk_all IsWrittenFunction IsFunction numbered_function function_known tt w.functions p.0 h p.1)
+item_known : (u : Unit {0}) (i : Item WrittenFunction) (x : Item FunctionTree × Unit {0}) → IsWrittenItem i → numbered_item u i ≡ Some x → IsItem x.0
+item_known u (head_line xs) x h e = subst (λ (y : Item FunctionTree × Unit {0}). IsItem y.0) (some_is _ x e) h
+item_known u (comdat_line xs) x h e = subst (λ (y : Item FunctionTree × Unit {0}). IsItem y.0) (some_is _ x e) h
+item_known u (type_item n t) x h e = subst (λ (y : Item FunctionTree × Unit {0}). IsItem y.0) (some_is _ x e) h
+item_known u (variable_item v) x h e = subst (λ (y : Item FunctionTree × Unit {0}). IsItem y.0) (some_is _ x e) h
+item_known u (function_item f) x h e =
+    let p = bind_some (numbered_function f) _ x e in
+    subst (λ (y : Item FunctionTree × Unit {0}). IsItem y.0) (some_is _ x p.2) (function_known f p.0 h p.1)
+item_known u (attribute_line xs) x h e = subst (λ (y : Item FunctionTree × Unit {0}). IsItem y.0) (some_is _ x e) h
+item_known u (metadata_line xs) x h e = subst (λ (y : Item FunctionTree × Unit {0}). IsItem y.0) (some_is _ x e) h
+
+pub items_known : (w : List (Item WrittenFunction)) (items : List (Item FunctionTree)) → AllByRecursion IsWrittenItem w → numbered_module w ≡ Some items → AllByRecursion IsItem items
+items_known w items h e =
+    let p = bind_some (walk numbered_item tt w) _ items e in
+    subst (AllByRecursion IsItem) (some_is _ items p.2) (walk_all IsWrittenItem IsItem numbered_item item_known tt w p.0 h p.1)

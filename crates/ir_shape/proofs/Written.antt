@@ -1,9 +1,9 @@
--- What is known of a module that tokens spell.
+-- What is known of types, instructions and blocks that tokens spell.
 use Rattle.std.proofs.Common.{◌≡◌, ◌%◌, ◌<◌, ◌^◌, ℕ, List, [], ◌∷◌, ◌++◌, length, Option, Some, None, Bool, true, false, cond, eqb, lit<, refl, subst, arith, inl, inr}
 use Rattle.std.specs.Prelude.{map, codes, find}
 use Rattle.std.specs.List.{AllByRecursion}
 use Rattle.std.proofs.lemmas.List.{length-map}
-use Rattle.forms.specs.declared.TokenKind.TheVariants.{Local, Global, Label, Number, Equal, Comma, LeftParen, RightParen, LeftBracket, RightBracket, LeftBrace, RightBrace, Less, Greater}
+use Rattle.forms.specs.declared.TokenKind.TheVariants.{Local, Global, Label, Number, Equal, Comma, LeftBracket, RightBracket, Less, Greater}
 use Rattle.forms.specs.Form.{Lexeme, Form, Spells, pair, mapped}
 use Rattle.forms.proofs.Sound.{bind_some}
 use Rattle.forms.proofs.Exact.{some_is}
@@ -19,24 +19,24 @@ use Rattle.ir_types.specs.declared.opcode.Operation.TheVariants as operations
 use Rattle.ir_types.specs.declared.opcode.Terminator.{Terminator}
 use Rattle.ir_types.specs.declared.opcode.Terminator.TheVariants as terminators
 use Rattle.ir_types.specs.Written.{number_of, number_at, name_behind}
-use Rattle.ir_types.specs.Tree.{InstTree, WrittenParam, WrittenBlock, WrittenFunction, WrittenModule}
-use Rattle.ir_types.specs.Grammar.{local_name, global_name, label, width, lanes_of, vector_type, value_type, return_type, WrittenValue, named, digits, yes, no, value, lane_counts, width_of, operand_at, two_values, binary, compared, compare, entry_of_phi, phi, target, jump_tree, branch, void_tree, ret, operation_behind, operation, terminator_behind, terminator, named_by, line, block, parameter, function, module_form}
-use Rattle.ir_shape.specs.Shape.{IsName, IsOneOf, widths, IsType, IsReturnType, IsOperand, IsBody, IsNameThere, IsTerminator, EndsOnce}
+use Rattle.ir_types.specs.Tree.{InstTree, WrittenParam, WrittenBlock}
+use Rattle.ir_types.specs.Grammar.{local_name, global_name, label, width, lanes_of, vector_type, value_type, return_type, WrittenValue, named, digits, yes, no, value, lane_counts, width_of, operand_at, two_values, binary, compared, compare, entry_of_phi, phi, target, jump_tree, branch, void_tree, ret, operation_behind, operation, terminator_behind, terminator, named_by, line, block, kept}
+use Rattle.ir_shape.specs.Shape.{IsKept, IsName, IsOneOf, widths, IsType, IsReturnType, IsOperand, IsBody, IsNameThere, IsTerminator, EndsOnce}
 use Rattle.ir_shape.proofs.Among.{of_each}
 use Rattle.ir_shape.proofs.Names.{behind_is, before_is}
-use Rattle.ir_shape.proofs.Sure.{Sure, one_sure, word_sure, pair_sure, either_sure, mapped_sure, made_sure, ahead_sure, IsThere, optional_sure, by_word_sure, many_sure, behind_sure, after_mark_sure, between_sure, some_sure, commas_sure, list_sure}
+use Rattle.ir_shape.proofs.Sure.{Sure, one_sure, mark_sure, word_sure, pair_sure, either_sure, mapped_sure, made_sure, ahead_sure, IsThere, optional_sure, by_word_sure, many_sure, behind_sure, after_mark_sure, between_sure, marked_sure, commas_sure}
 
 -- ---- names, types and values
 
-local_sure : Sure local_name IsName
+pub local_sure : Sure local_name IsName
 unfolding local_name
 local_sure = made_sure (one_sure Local) (λ s n u e. behind_is s n e)
 
-global_sure : Sure global_name IsName
+pub global_sure : Sure global_name IsName
 unfolding global_name
 global_sure = made_sure (one_sure Global) (λ s n u e. behind_is s n e)
 
-label_sure : Sure label IsName
+pub label_sure : Sure label IsName
 unfolding label
 label_sure = made_sure (one_sure Label) (λ s n u e. before_is s n e)
 
@@ -63,11 +63,11 @@ lanes_counted (c ∷ ds) n e = without_sign (eqb c 45) (c ∷ ds) n e
 
 vector_sure : Sure vector_type IsType
 unfolding vector_type
-vector_sure = made_sure {Q = IsType} (between_sure Less Greater (pair_sure (one_sure Number) (behind_sure (codes "x") width_sure))) (λ x t h e.
+vector_sure = made_sure {Q = IsType} (marked_sure Less (mapped_sure {Q = λ x. IsOneOf widths x.1} (pair_sure (pair_sure (one_sure Number) (behind_sure (codes "x") width_sure)) (mark_sure Greater)) (λ x h. h.0.1))) (λ x t h e.
     let b = bind_some (lanes_of x.0) _ t e in
-    subst IsType (some_is _ t b.2) (lanes_counted x.0 b.0 b.1, h.1))
+    subst IsType (some_is _ t b.2) (lanes_counted x.0 b.0 b.1, h))
 
-type_sure : Sure value_type IsType
+pub type_sure : Sure value_type IsType
 unfolding value_type
 type_sure = either_sure (mapped_sure {Q = IsType} width_sure (λ w h. h)) (either_sure (word_sure _ Ptr tt) vector_sure)
 
@@ -77,9 +77,9 @@ return_type_is Ptr h = h
 return_type_is (Vector n w) h = h
 return_type_is Void h = tt
 
-return_type_sure : Sure return_type IsReturnType
+pub return_type_sure : Sure return_type IsReturnType
 unfolding return_type
-return_type_sure = either_sure (record { known = λ t ts h. return_type_is t (type_sure.known t ts h) }) (word_sure _ Void tt)
+return_type_sure = either_sure (record { known = λ t ts l h. return_type_is t (type_sure.known t ts l h) }) (word_sure _ Void tt)
 
 abbrev IsValue : WrittenValue → Type 0
 IsValue (named n) = IsName n
@@ -248,7 +248,7 @@ operation_line_sure = line_sure operation_sure (λ i o h g. record { inst = reco
 terminator_line_sure : Sure (line terminator) IsTerminatorLine
 terminator_line_sure = line_sure terminator_sure (λ i o h g. record { inst = record { body = renamed i o h.body; result = g }; ends = h.ends })
 
--- ---- blocks, functions and modules
+-- ---- blocks
 
 pub record IsWrittenBlock (b : WrittenBlock) : Type 0 where
   pub name : IsNameThere b.label
@@ -257,14 +257,8 @@ pub record IsWrittenBlock (b : WrittenBlock) : Type 0 where
 
 pub record IsWrittenParam (p : WrittenParam) : Type 0 where
   pub ty : IsType p.ty
+  pub kept_texts : IsKept kept p.kept
   pub name : IsNameThere p.name
-
-pub record IsWrittenFunction (f : WrittenFunction) : Type 0 where
-  pub name : IsName f.name
-  pub ret : IsReturnType f.ret
-  pub params : AllByRecursion IsWrittenParam f.params
-  pub blocks : AllByRecursion IsWrittenBlock f.body
-  pub some : 0 < length f.body
 
 all_insts : (is : List InstTree) (last : InstTree) → AllByRecursion IsOperationLine is → IsTerminatorLine last → AllByRecursion IsWrittenInst (is ++ last ∷ [])
 all_insts [] last h g = (g.inst, tt)
@@ -279,39 +273,14 @@ ending_of : (is : List InstTree) (last : InstTree) → AllByRecursion IsOperatio
 ending_of [] last h g = g.ends
 ending_of (i ∷ is) last h g = ends_behind i.kind is last h.0.goes_on (ending_of is last h.1 g)
 
-there_name : (o : Option Name) → IsThere IsName o → IsNameThere o
+pub there_name : (o : Option Name) → IsThere IsName o → IsNameThere o
 there_name None h = tt
 there_name (Some n) h = h
 
-block_sure : Sure block IsWrittenBlock
+pub block_sure : Sure block IsWrittenBlock
 unfolding block
 block_sure = mapped_sure (pair_sure (optional_sure label_sure) (pair_sure (many_sure operation_line_sure) terminator_line_sure)) (λ x h. record {
   name = there_name x.0 h.0;
   insts = all_insts x.1.0 x.1.1 h.1.0 h.1.1;
   ending = ending_of x.1.0 x.1.1 h.1.0 h.1.1;
 })
-
-param_sure : Sure parameter IsWrittenParam
-unfolding parameter
-param_sure = mapped_sure (pair_sure type_sure (optional_sure local_sure)) (λ x h. record { ty = h.0; name = there_name x.1 h.1 })
-
-function_sure : Sure function IsWrittenFunction
-unfolding function
-function_sure = mapped_sure (behind_sure (codes "define") (pair_sure return_type_sure (pair_sure global_sure (pair_sure (between_sure LeftParen RightParen (list_sure param_sure)) (between_sure LeftBrace RightBrace (some_sure block_sure)))))) (λ x h. record {
-  name = h.1.0;
-  ret = h.0;
-  params = h.1.1.0;
-  blocks = h.1.1.1.1;
-  some = h.1.1.1.0;
-})
-
-abbrev pub IsWrittenModule : WrittenModule → Type 0
-IsWrittenModule m = AllByRecursion IsWrittenFunction m.functions
-
-module_sure : Sure module_form IsWrittenModule
-unfolding module_form
-module_sure = mapped_sure (many_sure function_sure) (λ fs h. h)
-
--- What tokens spell is so.
-pub spelled_is : (m : WrittenModule) (ts : List Lexeme) → Spells module_form m ts → IsWrittenModule m
-spelled_is m ts h = module_sure.known m ts h

@@ -1,4 +1,5 @@
--- Each position of a name in a module is one in its function's table of names.
+-- Each position in a module is one of the list that it speaks of: that of a local name in its function's table of names, that of a type or a function
+-- in the module's lists.
 use Rattle.std.specs.Prelude.{◌<◌, List, length, IfSome}
 use Rattle.std.specs.List.{AllByRecursion}
 use Rattle.ir_types.specs.declared.name.Name.{Name}
@@ -9,7 +10,15 @@ use Rattle.ir_types.specs.declared.inst.Inst.{Inst}
 use Rattle.ir_types.specs.declared.module.Block.{Block}
 use Rattle.ir_types.specs.declared.module.Param.{Param}
 use Rattle.ir_types.specs.declared.module.Function.{Function}
+use Rattle.ir_types.specs.declared.module.Symbol.{Symbol}
+use Rattle.ir_types.specs.declared.module.SymbolKind.{SymbolKind}
+use Rattle.ir_types.specs.declared.module.SymbolKind.TheVariants.{Variable}
+use Rattle.ir_types.specs.declared.module.SymbolKind.TheVariants as symbols
 use Rattle.ir_types.specs.declared.module.Module.{Module}
+use Rattle.ir_types.specs.declared.memory_type.MemTy.{MemTy}
+use Rattle.ir_types.specs.declared.memory_type.NamedType.{NamedType}
+use Rattle.ir_types.specs.declared.memory_type.NamedType.TheVariants.{Defined, Opaque, Missing}
+use Rattle.ir_types.specs.declared.memory_type.TypeName.{TypeName}
 
 -- a position in a table of names
 abbrev pub IsPlace : List Name → ValueId → Type 0
@@ -40,6 +49,20 @@ pub record IsFunctionPlaced (f : Function) : Type 0 where
   pub params : AllByRecursion (IsParamPlaced f.names) f.params
   pub blocks : AllByRecursion (IsBlockPlaced f.names) f.body
 
--- a module: all its functions
-abbrev pub IsPlaced : Module → Type 0
-IsPlaced m = AllByRecursion IsFunctionPlaced m.functions
+-- what a name of a type stands for: a type of the list
+abbrev pub IsNamedPlaced : List MemTy → NamedType → Type 0
+IsNamedPlaced types (Defined id) = id.0 < length types
+IsNamedPlaced types Opaque = Unit {0}
+IsNamedPlaced types Missing = Unit {0}
+
+-- what a symbol stands for: a variable's type, or a function of the list
+abbrev pub IsSymbolPlaced : Module → SymbolKind → Type 0
+IsSymbolPlaced m (Variable id writable) = id.0 < length m.types
+IsSymbolPlaced m (symbols.Function f) = f.0 < length m.functions
+IsSymbolPlaced m symbols.Missing = Unit {0}
+
+-- a module: all its functions, names of types and symbols
+pub record IsPlaced (m : Module) : Type 0 where
+  pub functions : AllByRecursion IsFunctionPlaced m.functions
+  pub named : AllByRecursion (λ (n : TypeName). IsNamedPlaced m.types n.ty) m.type_names
+  pub symbols : AllByRecursion (λ (s : Symbol). IsSymbolPlaced m s.kind) m.symbols

@@ -1,5 +1,5 @@
 -- Kept tokens as they are printed.
-use Rattle.std.proofs.Common.{◌≡◌, List, [], ◌∷◌, refl}
+use Rattle.std.proofs.Common.{◌≡◌, [], ◌∷◌, refl}
 use Rattle.std.specs.Prelude.{codes}
 use Rattle.text_lex.specs.Layout.{text_of}
 use Rattle.text_lex.specs.KeptText.{token_of, touches, kept_pieces, line_pieces}

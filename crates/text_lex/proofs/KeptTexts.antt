@@ -1,15 +1,16 @@
 -- Tokens that are laid out from their texts are these tokens, and join.
-use Rattle.std.proofs.Common.{◌≡◌, ℕ, true, false, ◌&&◌, ◌||◌, List, [], ◌∷◌, ◌++◌, Some, refl, sym, ap, ◌∙◌, subst, inl, inr}
+use Rattle.std.proofs.Common.{◌≡◌, ℕ, true, false, ◌||◌, List, [], ◌∷◌, ◌++◌, Some, refl, ap, ◌∙◌, subst, inl, inr}
 use Rattle.std.specs.Prelude.{map, codes}
 use Rattle.std.specs.List.{AllByRecursion}
 use Rattle.std.proofs.lemmas.Bool.{and_parts, and_from}
-use Rattle.forms.specs.Form.{Lexeme, same_text, is_one_of}
-use Rattle.forms.specs.Lexical.{kind_of, table}
+use Rattle.forms.specs.Form.{Lexeme, texts, same_text, is_one_of}
+use Rattle.forms.specs.Lexical.{kind_of, table, Lexes}
 use Rattle.forms.proofs.Begins.{test, or_true, or_right}
 use Rattle.forms.proofs.Tokens.{is_text}
-use Rattle.text_lex.specs.Layout.{Piece, gap, lexeme, text_of, tokens_of, AreTokens, is_mark, begins_quoted, Before, closed, bang, open_, left_by, may_stand, joins, end_of}
-use Rattle.text_lex.specs.KeptText.{token_of, IsToken, no_space_before, no_space_behind, is_node, touches, between, kept_behind, kept_pieces, line_pieces}
-use Rattle.text_lex.proofs.Layouts.{AreTokens-append, joins-from, joins_any, mark_stands}
+use Rattle.text_lex.specs.Layout.{Piece, lexeme, text_of, tokens_of, AreTokens, is_mark, begins_quoted, closed, bang, open_, left_by, may_stand, joins, end_of}
+use Rattle.text_lex.specs.KeptText.{token_of, IsToken, AreLexed, no_space_before, no_space_behind, is_node, touches, between, kept_behind, kept_pieces, line_pieces}
+use Rattle.text_lex.proofs.Layouts.{pieces_lexed, joins-from, joins_any, mark_stands}
+use Rattle.text_lex.proofs.Lexed.{tokens_again, lexed_are_tokens}
 
 -- ---- a token
 
@@ -159,3 +160,18 @@ kept_then ws ps h = joins-from closed (kept_pieces ws) ps (kept_joins ws) (joins
 
 pub line_then : (ws : List (List ℕ)) (ps : List Piece) → joins open_ ps ≡ true → joins closed (line_pieces ws ++ ps) ≡ true
 line_then ws ps h = joins-from closed (line_pieces ws) ps (line_joins ws) (joins_any (end_of closed (line_pieces ws)) ps h)
+
+-- ---- the printed text has the kept tokens
+
+lexed_pieces : (ps : List Piece) (ts : List Lexeme) → AreTokens ps → joins closed ps ≡ true → tokens_of ps ≡ ts → Lexes (text_of ps) ts
+lexed_pieces ps ts a j e = subst (λ (us : List Lexeme). Lexes (text_of ps) us) e (pieces_lexed ps a j)
+
+pub kept_lexed : (ts : List Lexeme) → AreLexed ts → Lexes (text_of (kept_pieces (texts ts))) ts
+kept_lexed ts h =
+    let ws = texts ts in
+    lexed_pieces (kept_pieces ws) ts (kept_are ws (lexed_are_tokens ts h)) (kept_joins ws) (kept_tokens ws ∙ tokens_again ts h)
+
+pub line_lexed : (ts : List Lexeme) → AreLexed ts → Lexes (text_of (line_pieces (texts ts))) ts
+line_lexed ts h =
+    let ws = texts ts in
+    lexed_pieces (line_pieces ws) ts (line_are ws (lexed_are_tokens ts h)) (line_joins ws) (line_tokens ws ∙ tokens_again ts h)

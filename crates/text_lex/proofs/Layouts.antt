@@ -1,7 +1,6 @@
 -- A printed text has the printed tokens.
 use Rattle.std.proofs.Common.{◌≡◌, ℕ, Bool, true, false, ◌&&◌, ◌||◌, eqb, List, [], ◌∷◌, ◌++◌, Some, refl, sym, ap, ◌∙◌, subst, append_assoc, ◌⊎◌, inl, inr}
 use Rattle.std.proofs.lemmas.Bool.{and_parts, and_from, eqb-true}
-use Rattle.std.specs.Prelude.{codes}
 use Rattle.forms.specs.declared.TokenKind.TheVariants.{Bang}
 use Rattle.forms.specs.Form.{Lexeme, kind_code}
 use Rattle.forms.specs.Lexical.{Lexes, here, space, token, Longest, kind_of, is_space}

@@ -8,8 +8,8 @@ pub mod Ranges
 pub mod Colons
 pub mod Marks
 pub mod Layouts
-pub mod KeptTexts
 pub mod Lexed
+pub mod KeptTexts
 pub mod KeptExamples
 pub mod Decimals
 pub mod Printed

@@ -49,7 +49,7 @@ abbrev pub kept_pieces : List (List ℕ) → List Piece
 kept_pieces [] = []
 kept_pieces (w ∷ ws) = lexeme (token_of w) ∷ kept_behind w ws
 
--- a whole line: up to the first `=` and behind it, each token has a space behind it
+-- the tokens of a whole line: each up to the first `=`, and this, with a space behind it, and then the others
 abbrev pub line_pieces : List (List ℕ) → List Piece
 line_pieces [] = []
 line_pieces (w ∷ ws) = lexeme (token_of w) ∷ gap (32 ∷ []) ∷ (if same_text (codes "=") w then kept_pieces ws else line_pieces ws)

@@ -1,0 +1,5 @@
+mod Stack
+pub mod Behind
+mod Balanced
+pub mod Takes
+pub mod Verbatim
