@@ -1,0 +1,49 @@
+-- Keeping a balanced list token by token, with a stack of what is awaited.
+use Rattle.std.proofs.Common.{◌≡◌, ℕ, Bool, true, false, ◌&&◌, List, [], ◌∷◌, ◌++◌, Option, Some, None, refl, sym, ap, ◌∙◌, append_assoc}
+use Rattle.std.proofs.lemmas.List.{append-nil}
+use Rattle.forms.specs.declared.TokenKind.{TokenKind}
+use Rattle.forms.specs.Form.{Lexeme, Stops, enclosed, mapped, is_empty, step, stops_at}
+use Rattle.forms.specs.Gives.{mark}
+use Rattle.forms.specs.Machine.{behind}
+use Rattle.forms.specs.Reading.{◌>>=◌, ends, read, read_one, read_inside, read_up_to}
+use Rattle.forms.proofs.Parts.{some_is}
+use Rattle.kept_runs.proofs.Behind.{Reads}
+
+-- a text before the others
+abbrev before : List ℕ → Reads (List ℕ) → Reads (List ℕ)
+before w r = r >>= λ y. Some (w ∷ y.0, y.1)
+
+one_more : (front : List (List ℕ)) (w : List ℕ) (r : Reads (List ℕ)) → behind front (before w r) ≡ behind (front ++ w ∷ []) r
+one_more front w None = refl
+one_more front w (Some y) = ap (λ (zs : List _). Some (zs, y.1)) (sym (append_assoc front (w ∷ []) y.0))
+
+-- the token that stands next
+abbrev lexeme : TokenKind → List ℕ → Lexeme
+lexeme k w = record { kind = k; text = w }
+
+-- ---- up to the token that closes
+
+pub inside_ends : (c : TokenKind) (s : List TokenKind) (front : List (List ℕ)) (k : TokenKind) (w : List ℕ) (ts us : List Lexeme) (whole : Reads (List ℕ)) → ts ≡ lexeme k w ∷ us → ends c s k ≡ true
+    → behind front (read_inside c s ts) ≡ whole → whole ≡ Some (front, us)
+inside_ends c s front k w ts us whole n e so_far =
+    let here : behind front (read_inside c s (lexeme k w ∷ us)) ≡ Some (front, us) = rw e (ap (λ (l : List _). Some (l, us)) (append-nil front)) in
+    sym so_far ∙ ap (λ (l : List Lexeme). behind front (read_inside c s l)) n ∙ here
+
+pub inside_next : (c : TokenKind) (s u : List TokenKind) (front : List (List ℕ)) (k : TokenKind) (w : List ℕ) (ts us : List Lexeme) (whole : Reads (List ℕ)) → ts ≡ lexeme k w ∷ us → ends c s k ≡ false → step s k ≡ Some u
+    → behind front (read_inside c s ts) ≡ whole → behind (front ++ w ∷ []) (read_inside c u us) ≡ whole
+inside_next c s u front k w ts us whole n e d so_far =
+    let here : behind front (read_inside c s (lexeme k w ∷ us)) ≡ behind (front ++ w ∷ []) (read_inside c u us) = rw (e, d) (one_more front w (read_inside c u us)) in
+    sym here ∙ ap (λ (l : List Lexeme). behind front (read_inside c s l)) (sym n) ∙ so_far
+
+-- ---- up to a stop
+
+pub second_false : (x y : Bool) → y ≡ false → (x && y) ≡ false
+second_false true y e = e
+second_false false y e = refl
+
+pub up_to_next : (st : Stops) (s u : List TokenKind) (front : List (List ℕ)) (k : TokenKind) (w : List ℕ) (ts us : List Lexeme) (whole : Reads (List ℕ)) → ts ≡ lexeme k w ∷ us → (is_empty s && stops_at st ts) ≡ false → step s k ≡ Some u
+    → behind front (read_up_to st s ts) ≡ whole → behind (front ++ w ∷ []) (read_up_to st u us) ≡ whole
+up_to_next st s u front k w ts us whole n e d so_far =
+    let go : (is_empty s && stops_at st (lexeme k w ∷ us)) ≡ false = ap (λ (l : List Lexeme). is_empty s && stops_at st l) (sym n) ∙ e in
+    let here : behind front (read_up_to st s (lexeme k w ∷ us)) ≡ behind (front ++ w ∷ []) (read_up_to st u us) = rw (go, d) (one_more front w (read_up_to st u us)) in
+    sym here ∙ ap (λ (l : List Lexeme). behind front (read_up_to st s l)) (sym n) ∙ so_far

@@ -1,0 +1,3 @@
+mod Stack
+pub mod Behind
+mod Balanced

@@ -1,0 +1,74 @@
+// Balanced lists between two marks.
+
+ghost use Rattle.std.specs.Prelude.{[]};
+ghost use Rattle.forms.specs.Gives.{Gives, left};
+ghost use Rattle.forms.specs.Kept.{in_parens, in_braces};
+ghost use Rattle.forms.specs.Machine.{behind};
+ghost use Rattle.forms.specs.Reading.{read, read_inside};
+
+use crate::awaited::Awaited;
+use forms::{Cursor, SyntaxFault, TokenKind};
+use lists::Texts;
+use std::alloc::Global;
+
+/// Keeps what stands before the token of this kind that closes, which is taken and not kept.
+fn keep_inside<'t>(
+    alloc: Global,
+    tokens: Cursor<'t>,
+    close: TokenKind,
+    texts: &mut Texts,
+) -> Result<Cursor<'t>, SyntaxFault>
+    ensures { Gives (λ rest. (texts.new, left rest)) result (behind texts.old (read_inside close [] (left tokens.entry))) }
+{
+    let mut awaited = Awaited::new(alloc);
+    let mut rest = tokens;
+    'each: while let Some((kind, text, after)) = rest.split_first() {
+        if awaited.ends(close, kind) {
+            return Ok(after);
+        }
+        if !awaited.step(kind)? {
+            return Err(rest.refusal());
+        }
+        texts.push(text)?;
+        rest = after;
+    }
+    Err(rest.refusal())
+}
+
+/// Keeps `(`, a balanced list and `)`.
+///
+/// # Errors
+///
+/// Where none stands next, or there is no room.
+pub fn keep_parens<'t>(
+    alloc: Global,
+    tokens: Cursor<'t>,
+    texts: &mut Texts,
+) -> Result<Cursor<'t>, SyntaxFault>
+    ensures { Gives (λ rest. (texts.new, left rest)) result (behind texts.old (read in_parens (left tokens.entry))) }
+{
+    let rest = tokens.mark(TokenKind::LeftParen)?;
+    texts.push(b"(")?;
+    let rest = keep_inside(alloc, rest, TokenKind::RightParen, texts)?;
+    texts.push(b")")?;
+    Ok(rest)
+}
+
+/// Keeps `{`, a balanced list and `}`.
+///
+/// # Errors
+///
+/// Where none stands next, or there is no room.
+pub fn keep_braces<'t>(
+    alloc: Global,
+    tokens: Cursor<'t>,
+    texts: &mut Texts,
+) -> Result<Cursor<'t>, SyntaxFault>
+    ensures { Gives (λ rest. (texts.new, left rest)) result (behind texts.old (read in_braces (left tokens.entry))) }
+{
+    let rest = tokens.mark(TokenKind::LeftBrace)?;
+    texts.push(b"{")?;
+    let rest = keep_inside(alloc, rest, TokenKind::RightBrace, texts)?;
+    texts.push(b"}")?;
+    Ok(rest)
+}

@@ -1,0 +1,14 @@
+//! Readers of tokens that are kept as they stand: each adds the texts of the tokens that it takes to a list.
+//!
+//! After a refusal nothing is known of the list.
+#![tactic(auto)]
+
+mod awaited;
+mod enclosed;
+mod pieces;
+mod tokens;
+mod up_to;
+
+pub use enclosed::{keep_braces, keep_parens};
+pub use tokens::{keep, keep_word};
+pub use up_to::{Stops, keep_up_to};

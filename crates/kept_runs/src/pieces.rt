@@ -1,0 +1,91 @@
+// Kept runs and their pieces.
+
+ghost use Rattle.std.specs.Prelude.{◌≡◌, map};
+ghost use Rattle.forms.specs.declared.TokenKind.TheVariants.{Word, Number, Equal, Quoted};
+ghost use Rattle.forms.specs.Form.{either};
+ghost use Rattle.forms.specs.Gives.{Gives, left};
+ghost use Rattle.forms.specs.Kept.{kept_one, perhaps, in_parens, kept_word, kept_numbered, kept_string, kept_piece, kept_run};
+ghost use Rattle.forms.specs.Machine.{behind};
+ghost use Rattle.forms.specs.Nested.{joined};
+ghost use Rattle.forms.specs.Reading.{read, opens};
+
+use crate::enclosed::keep_parens;
+use crate::tokens::{keep, keep_word};
+use forms::{Cursor, SyntaxFault, TokenKind, is_one_of};
+use lists::Texts;
+use std::alloc::Global;
+
+/// Keeps a balanced list in parentheses, or nothing.
+fn perhaps_parens<'t>(
+    alloc: Global,
+    tokens: Cursor<'t>,
+    texts: &mut Texts,
+) -> Result<Cursor<'t>, SyntaxFault>
+    ensures { Gives (λ rest. (texts.new, left rest)) result (behind texts.old (read (perhaps in_parens) (left tokens.entry))) }
+{
+    if tokens.is_next(TokenKind::LeftParen) {
+        return keep_parens(alloc, tokens, texts);
+    }
+    Ok(tokens)
+}
+
+/// Keeps a word, and a balanced list in parentheses behind it.
+fn keep_any_word<'t>(
+    alloc: Global,
+    tokens: Cursor<'t>,
+    texts: &mut Texts,
+) -> Result<Cursor<'t>, SyntaxFault>
+    ensures { Gives (λ rest. (texts.new, left rest)) result (behind texts.old (read (joined (kept_one Word) (perhaps in_parens)) (left tokens.entry))) }
+{
+    let rest = keep(tokens, TokenKind::Word, texts)?;
+    perhaps_parens(alloc, rest, texts)
+}
+
+/// Keeps a number or a balanced list in parentheses, or nothing.
+fn perhaps_number<'t>(
+    alloc: Global,
+    tokens: Cursor<'t>,
+    texts: &mut Texts,
+) -> Result<Cursor<'t>, SyntaxFault>
+    ensures { Gives (λ rest. (texts.new, left rest)) result (behind texts.old (read (perhaps (either (kept_one Number) in_parens)) (left tokens.entry))) }
+{
+    if tokens.is_next(TokenKind::Number) {
+        return keep(tokens, TokenKind::Number, texts);
+    }
+    perhaps_parens(alloc, tokens, texts)
+}
+
+/// Keeps this word, and a number or a balanced list in parentheses behind it.
+fn keep_numbered<'t>(
+    alloc: Global,
+    tokens: Cursor<'t>,
+    word: &[u8],
+    texts: &mut Texts,
+) -> Result<Cursor<'t>, SyntaxFault>
+    ensures { Gives (λ rest. (texts.new, left rest)) result (behind texts.old (read (kept_numbered word.now) (left tokens.entry))) }
+{
+    let rest = keep_word(tokens, word, texts)?;
+    perhaps_number(alloc, rest, texts)
+}
+
+/// Keeps `=` and a string, or nothing.
+fn perhaps_value<'t>(
+    tokens: Cursor<'t>,
+    texts: &mut Texts,
+) -> Result<Cursor<'t>, SyntaxFault>
+    ensures { Gives (λ rest. (texts.new, left rest)) result (behind texts.old (read (perhaps (joined (kept_one Equal) (kept_one Quoted))) (left tokens.entry))) }
+{
+    if !tokens.is_next(TokenKind::Equal) {
+        return Ok(tokens);
+    }
+    let rest = keep(tokens, TokenKind::Equal, texts)?;
+    keep(rest, TokenKind::Quoted, texts)
+}
+
+/// Keeps a string, and `=` and a string behind it.
+fn keep_string<'t>(tokens: Cursor<'t>, texts: &mut Texts) -> Result<Cursor<'t>, SyntaxFault>
+    ensures { Gives (λ rest. (texts.new, left rest)) result (behind texts.old (read kept_string (left tokens.entry))) }
+{
+    let rest = keep(tokens, TokenKind::Quoted, texts)?;
+    perhaps_value(rest, texts)
+}
