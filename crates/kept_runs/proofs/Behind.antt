@@ -1,13 +1,16 @@
 -- Reading behind texts that were kept before, part after part.
-use Rattle.std.proofs.Common.{◌≡◌, ◌<◌, Bool, true, false, cond, List, [], ◌∷◌, ◌++◌, length, Option, Some, None, refl, sym, ap, ◌∙◌, append_assoc}
+use Rattle.std.proofs.Common.{◌≡◌, ◌<◌, Bool, true, false, cond, List, [], ◌∷◌, ◌++◌, length, Option, Some, None, refl, sym, ap, ◌∙◌, append_assoc, arith}
 use Rattle.std.proofs.lemmas.List.{append-nil}
 use Rattle.forms.specs.Form.{Lexeme, Form, pair, either, mapped, optional, many}
 use Rattle.forms.specs.Combined.{or_none}
 use Rattle.forms.specs.Kept.{perhaps}
+use Rattle.forms.specs.declared.cursor.Cursor.{Cursor}
+use Rattle.forms.specs.Gives.{left}
 use Rattle.forms.specs.Machine.{behind}
 use Rattle.forms.specs.Nested.{concat, joined}
 use Rattle.forms.specs.Reading.{◌>>=◌, nullable, opens, read}
 use Rattle.forms.proofs.Many.{many_step, many_done, shorter}
+use Rattle.forms.proofs.Viewed.{count_viewed}
 use Rattle.forms.proofs.Parts.{bind_some, there, some_is}
 
 -- what is read, and what is left
@@ -103,3 +106,8 @@ kept_shorter {A} f front kept ts us n e =
     let made : List A × List Lexeme = (front ++ b.0.0, b.0.1) in
     let same : b.0.1 ≡ us = ap (λ (y : List A × List Lexeme). y.1) (some_is made (kept, us) b.2) in
     let lt = shorter f ts b.0 n b.1 in rw same at lt
+
+pub kept_takes : {A : Type 0} (f : Form (List A)) (front kept : List A) (t u : Cursor) → nullable f ≡ false → behind front (read f (left t)) ≡ Some (kept, left u) → length u.rest.now < length t.rest.now
+kept_takes f front kept t u n e =
+    let lt = kept_shorter f front kept (left t) (left u) n e in
+    omega (arith, lt, count_viewed t.text.now t.rest.now, count_viewed u.text.now u.rest.now)

@@ -1,3 +1,4 @@
 mod Stack
 pub mod Behind
 mod Balanced
+pub mod Takes

@@ -3,12 +3,15 @@
 //! After a refusal nothing is known of the list.
 #![tactic(auto)]
 
+mod attachments;
 mod awaited;
 mod enclosed;
 mod pieces;
 mod tokens;
 mod up_to;
 
+pub use attachments::{begins_attachment, keep_attachment, keep_attachments, keep_node};
 pub use enclosed::{keep_braces, keep_parens};
+pub use pieces::{begins_run, keep_run};
 pub use tokens::{keep, keep_word};
 pub use up_to::{Stops, keep_up_to};

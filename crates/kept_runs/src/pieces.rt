@@ -1,7 +1,7 @@
 // Kept runs and their pieces.
 
-ghost use Rattle.std.specs.Prelude.{◌≡◌, map};
-ghost use Rattle.forms.specs.declared.TokenKind.TheVariants.{Word, Number, Equal, Quoted};
+ghost use Rattle.std.specs.Prelude.{◌≡◌, map, codes};
+ghost use Rattle.forms.specs.declared.TokenKind.TheVariants.{Word, Number, Equal, Quoted, AttributeGroup};
 ghost use Rattle.forms.specs.Form.{either};
 ghost use Rattle.forms.specs.Gives.{Gives, left};
 ghost use Rattle.forms.specs.Kept.{kept_one, perhaps, in_parens, kept_word, kept_numbered, kept_string, kept_piece, kept_run};
@@ -88,4 +88,79 @@ fn keep_string<'t>(tokens: Cursor<'t>, texts: &mut Texts) -> Result<Cursor<'t>, 
 {
     let rest = keep(tokens, TokenKind::Quoted, texts)?;
     perhaps_value(rest, texts)
+}
+
+/// Whether a word that is none of these stands next.
+fn begins_word(tokens: Cursor<'_>, excluded: &[&[u8]]) -> bool
+    ensures { result ≡ opens (kept_word (map (λ w. w.now) excluded.now)) (left tokens.entry) }
+{
+    match tokens.split_first() {
+        Some((TokenKind::Word, word, _)) => !is_one_of(excluded, word),
+        _ => false,
+    }
+}
+
+/// Whether a word with a number stands next, a string or a number of attributes.
+fn begins_other(tokens: Cursor<'_>) -> bool
+    ensures { result ≡ opens (either (kept_numbered (codes "align")) (either (kept_numbered (codes "cc")) (either kept_string (kept_one AttributeGroup)))) (left tokens.entry) }
+{
+    tokens.behind_word(b"align").is_some()
+        || tokens.behind_word(b"cc").is_some()
+        || tokens.is_next(TokenKind::Quoted)
+        || tokens.is_next(TokenKind::AttributeGroup)
+}
+
+/// Whether a piece of a kept run stands next.
+#[tactic(auto, unfolding(forms::specs::Kept::kept_piece))]
+pub fn begins_run(tokens: Cursor<'_>, excluded: &[&[u8]]) -> bool
+    ensures { result ≡ opens (kept_piece (map (λ w. w.now) excluded.now)) (left tokens.entry) }
+{
+    begins_word(tokens, excluded) || begins_other(tokens)
+}
+
+/// Keeps a piece of a run.
+#[tactic(auto, unfolding(forms::specs::Kept::kept_piece))]
+fn keep_piece<'t>(
+    alloc: Global,
+    tokens: Cursor<'t>,
+    excluded: &[&[u8]],
+    texts: &mut Texts,
+) -> Result<Cursor<'t>, SyntaxFault>
+    ensures { Gives (λ rest. (texts.new, left rest)) result (behind texts.old (read (kept_piece (map (λ w. w.now) excluded.now)) (left tokens.entry))) }
+{
+    if begins_word(tokens, excluded) {
+        return keep_any_word(alloc, tokens, texts);
+    }
+    if tokens.behind_word(b"align").is_some() {
+        return keep_numbered(alloc, tokens, b"align", texts);
+    }
+    if tokens.behind_word(b"cc").is_some() {
+        return keep_numbered(alloc, tokens, b"cc", texts);
+    }
+    if tokens.is_next(TokenKind::Quoted) {
+        return keep_string(tokens, texts);
+    }
+    keep(tokens, TokenKind::AttributeGroup, texts)
+}
+
+/// Keeps as many pieces of a run as stand there: words that are none of these, alone or before a balanced list in parentheses, `align`
+/// and `cc` with a number, strings, and numbers of attributes.
+///
+/// # Errors
+///
+/// Where a piece is not complete, or there is no room.
+#[tactic(auto, unfolding(forms::specs::Kept::kept_run))]
+pub fn keep_run<'t>(
+    alloc: Global,
+    tokens: Cursor<'t>,
+    excluded: &[&[u8]],
+    texts: &mut Texts,
+) -> Result<Cursor<'t>, SyntaxFault>
+    ensures { Gives (λ rest. (texts.new, left rest)) result (behind texts.old (read (kept_run (map (λ w. w.now) excluded.now)) (left tokens.entry))) }
+{
+    let mut rest = tokens;
+    'more: while begins_run(rest, excluded) {
+        rest = keep_piece(alloc, rest, excluded, texts)?;
+    }
+    Ok(rest)
 }

@@ -1,0 +1,12 @@
+use Rattle.std.proofs.Common.{◌≡◌, length, map}
+use Rattle.forms.specs.Gives.{left}
+use Rattle.forms.specs.Kept.{kept_run}
+use Rattle.forms.specs.Machine.{behind}
+use Rattle.forms.specs.Reading.{read}
+use Rattle.kept_runs.proofs.pieces.keep_run.Given as goal
+
+abbrev pub decreases-more : goal.decreases-more
+decreases-more l = length l.rest.rest.now
+
+abbrev pub invariant-more : goal.invariant-more
+invariant-more l = behind l.texts (read (kept_run (map (λ w. w.now) l.excluded)) (left l.rest)) ≡ behind l.fn.texts (read (kept_run (map (λ w. w.now) l.fn.excluded)) (left l.fn.tokens))
