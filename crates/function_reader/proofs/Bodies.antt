@@ -1,24 +1,77 @@
 -- Reading a function part after part is reading it whole.
-use Rattle.std.proofs.Common.{◌≡◌, ℕ, List, Option, Some, None, refl, sym, ap, ◌∙◌}
-use Rattle.std.specs.Prelude.{codes}
-use Rattle.forms.specs.declared.TokenKind.TheVariants.{Word, LeftParen, RightParen, LeftBrace, RightBrace}
-use Rattle.forms.specs.Form.{Lexeme, Form, pair, exactly}
+use Rattle.std.proofs.Common.{◌≡◌, ℕ, Bool, List, [], Option, Some, None, refl, sym, ap, ◌∙◌}
+use Rattle.std.specs.Prelude.{is_some}
+use Rattle.forms.specs.declared.TokenKind.TheVariants.{Comma, Dots, LeftParen, RightParen, LeftBrace, RightBrace}
+use Rattle.forms.specs.Form.{Lexeme, Form, pair, optional}
 use Rattle.forms.specs.Reading.{◌>>=◌, read}
 use Rattle.forms.specs.Walk.{walk, completed}
+use Rattle.forms.specs.Gives.{mark}
+use Rattle.forms.specs.Kept.{attachments}
+use Rattle.forms.specs.Nested.{joined}
 use Rattle.ir_types.specs.declared.name.Name.{Name}
 use Rattle.ir_types.specs.declared.inst.Ty.{Ty}
-use Rattle.ir_types.specs.Tree.{ParamTree, BlockTree, FunctionTree, WrittenParam, WrittenBlock, WrittenFunction}
-use Rattle.ir_types.specs.Grammar.{return_type, global_name, parameter, list, some, block, between, function, function_tree}
+use Rattle.ir_types.specs.Tree.{KeptTexts, ParamTree, BlockTree, FunctionTree, WrittenParam, WrittenBlock, WrittenFunction}
+use Rattle.ir_types.specs.Grammar.{return_type, global_name, kept, parameter, dotted, dotted_parameters, marked, commas, list, some, block, between, declared_tree, declared_function, defined_tree, defined_function}
 use Rattle.ir_types.specs.Numbered.{numbered_param, numbered_block, numbered_function}
-use Rattle.function_reader.specs.Threads.{thread, between_read}
-use Rattle.function_reader.specs.Functions.{function_of, body_read, function_read}
-use Rattle.function_reader.proofs.Threads.{thread_is, between_is, completed_alike, completed_some_of, mapped_some, mapped_first}
+use Rattle.function_reader.specs.Threads.{between_read}
+use Rattle.function_reader.specs.Functions.{numbered_dotted, comma_dots, some_dotted_read, declared_read, defined_read}
+use Rattle.function_reader.proofs.Threads.{between_is, completed_mapped, completed_alike}
+use Rattle.function_reader.proofs.Chains.{alike, first_apart, chained, then_made}
 
-abbrev Written : Type 0
-Written = List WrittenParam × List WrittenBlock
+-- ---- parameters with dots behind them
 
-abbrev Numbered : Type 0
-Numbered = List ParamTree × List BlockTree
+abbrev dots : Form (Option (Unit {0}))
+dots = optional (marked Comma (mark Dots))
+
+abbrev with_dots : List ParamTree × ℕ → Option (Unit {0}) → Option ((List ParamTree × Bool) × ℕ)
+with_dots p d = Some ((p.0, is_some d), p.1)
+
+pub some_dotted_is : (next : ℕ) (ts : List Lexeme) → some_dotted_read next ts ≡ completed (λ x. numbered_dotted next (dotted x)) (read (pair (commas parameter) dots) ts)
+some_dotted_is next ts =
+    alike (completed (walk numbered_param next) (read (commas parameter) ts)) _ _ (λ p. each p.0 (read dots p.1))
+    ∙ sym (chained (walk numbered_param next) with_dots (commas parameter) dots ts)
+  where
+    each : (p : List ParamTree × ℕ) (o : Option (Option (Unit {0}) × List Lexeme)) → ((o >>= λ x. Some (is_some x.0, x.1)) >>= λ d. Some (((p.0, d.0), p.1), d.1)) ≡ completed (with_dots p) o
+    each p None = refl
+    each p (Some x) = refl
+
+-- ---- declared functions
+
+abbrev dotted_in_parens : Form (List WrittenParam × Bool)
+dotted_in_parens = between LeftParen RightParen dotted_parameters
+
+abbrev declared_of : KeptTexts → Ty → Name → (List ParamTree × Bool) × ℕ → KeptTexts → Option FunctionTree
+declared_of b t n p a = Some (record { name = n; before = b; ret = t; params = p.0.0; varargs = p.0.1; after = a; body = [] })
+
+declared_numbers : (b : KeptTexts) (t : Ty) (n : Name) (x : (List WrittenParam × Bool) × KeptTexts) → numbered_function (declared_tree (b, (t, (n, x)))) ≡ (numbered_dotted 0 x.0 >>= λ p. declared_of b t n p x.1)
+declared_numbers b t n x = by (walk numbered_param 0 x.0.0)
+  where
+    by : (o : Option (List ParamTree × ℕ)) → (o >>= λ y. declared_of b t n ((y.0, x.0.1), y.1) x.1) ≡ ((o >>= λ y. Some ((y.0, x.0.1), y.1)) >>= λ p. declared_of b t n p x.1)
+    by None = refl
+    by (Some y) = refl
+
+behind_declared : (b : KeptTexts) (t : Ty) (n : Name) (ts : List Lexeme)
+    → (between_read LeftParen RightParen (numbered_dotted 0) (read dotted_parameters) ts >>= λ p. completed (declared_of b t n p.0) (read kept p.1))
+    ≡ completed (λ x. numbered_function (declared_tree (b, (t, (n, x))))) (read (pair dotted_in_parens kept) ts)
+behind_declared b t n ts =
+    ap (λ (o : Option _). o >>= λ p. completed (declared_of b t n p.0) (read kept p.1)) (between_is LeftParen RightParen (numbered_dotted 0) dotted_parameters ts)
+    ∙ sym (completed_alike _ _ (read (pair dotted_in_parens kept) ts) (declared_numbers b t n) ∙ chained (numbered_dotted 0) (declared_of b t n) dotted_in_parens kept ts)
+
+pub declared_is : (ts : List Lexeme) → declared_read ts ≡ completed numbered_function (read declared_function ts)
+unfolding declared_function
+declared_is ts =
+    let inner = pair dotted_in_parens kept in
+    let named = pair global_name inner in
+    let typed = pair return_type named in
+    let front = joined attachments kept in
+    alike (read front ts) _ _ (λ b.
+      alike (read return_type b.1) _ _ (λ t.
+        alike (read global_name t.1) _ _ (λ n. behind_declared b.0 t.0 n.0 n.1)
+        ∙ sym (first_apart (λ x. numbered_function (declared_tree (b.0, (t.0, x)))) global_name inner t.1))
+      ∙ sym (first_apart (λ x. numbered_function (declared_tree (b.0, x))) return_type named b.1))
+    ∙ sym (completed_mapped numbered_function declared_tree (pair front typed) ts ∙ first_apart (λ x. numbered_function (declared_tree x)) front typed ts)
+
+-- ---- defined functions
 
 abbrev in_parens : Form (List WrittenParam)
 in_parens = between LeftParen RightParen (list parameter)
@@ -26,94 +79,39 @@ in_parens = between LeftParen RightParen (list parameter)
 abbrev in_braces : Form (List WrittenBlock)
 in_braces = between LeftBrace RightBrace (some block)
 
--- a function of what was numbered; the numbers end with it
-abbrev ended : Ty → Name → Numbered × ℕ → FunctionTree × Unit {0}
-ended t n x = (function_of t n x.0.0 x.0.1, tt)
+abbrev defined_of : KeptTexts → Ty → Name → List ParamTree → KeptTexts → List BlockTree × ℕ → FunctionTree
+defined_of b t n ps a k = record { name = n; before = b; ret = t; params = ps; varargs = false; after = a; body = k.0 }
 
-abbrev numbers : ℕ → Written → Option (Numbered × ℕ)
-numbers = thread (walk numbered_param) (walk numbered_block)
+abbrev with_blocks : KeptTexts → Ty → Name → List ParamTree × ℕ → KeptTexts × List WrittenBlock → Option FunctionTree
+with_blocks b t n p x = walk numbered_block p.1 x.1 >>= λ k. Some (defined_of b t n p.0 x.0 k)
 
-abbrev with_blocks : List ParamTree → Option (List BlockTree × ℕ) → Option (Numbered × ℕ)
-with_blocks ps o = o >>= λ y. Some ((ps, y.0), y.1)
+behind_params : (b : KeptTexts) (t : Ty) (n : Name) (p : List ParamTree × ℕ) (ts : List Lexeme)
+    → (read (joined kept attachments) ts >>= λ a. between_read LeftBrace RightBrace (walk numbered_block p.1) (read (some block)) a.1 >>= λ k. Some (defined_of b t n p.0 a.0 k.0, k.1))
+    ≡ completed (with_blocks b t n p) (read (pair (joined kept attachments) in_braces) ts)
+behind_params b t n p ts =
+    alike (read (joined kept attachments) ts) _ _ (λ a.
+      ap (λ (o : Option _). o >>= λ k. Some (defined_of b t n p.0 a.0 k.0, k.1)) (between_is LeftBrace RightBrace (walk numbered_block p.1) (some block) a.1)
+      ∙ sym (then_made (walk numbered_block p.1) (defined_of b t n p.0 a.0) (read in_braces a.1)))
+    ∙ sym (first_apart (with_blocks b t n p) (joined kept attachments) in_braces ts)
 
-abbrev made_of : Ty → Name → List ParamTree → Option (List BlockTree × ℕ) → Option (FunctionTree × Unit {0})
-made_of t n ps o = o >>= λ y. Some (function_of t n ps y.0, tt)
+behind_defined : (b : KeptTexts) (t : Ty) (n : Name) (ts : List Lexeme)
+    → (between_read LeftParen RightParen (walk numbered_param 0) (read (list parameter)) ts >>= λ p. completed (with_blocks b t n p.0) (read (pair (joined kept attachments) in_braces) p.1))
+    ≡ completed (λ x. numbered_function (defined_tree (b, (t, (n, x))))) (read (pair in_parens (pair (joined kept attachments) in_braces)) ts)
+behind_defined b t n ts =
+    ap (λ (o : Option _). o >>= λ p. completed (with_blocks b t n p.0) (read (pair (joined kept attachments) in_braces) p.1)) (between_is LeftParen RightParen (walk numbered_param 0) (list parameter) ts)
+    ∙ sym (chained (walk numbered_param 0) (with_blocks b t n) in_parens (pair (joined kept attachments) in_braces) ts)
 
-made_is : (t : Ty) (n : Name) (ps : List ParamTree) (o : Option (List BlockTree × ℕ)) → made_of t n ps o ≡ mapped_some (ended t n) (with_blocks ps o)
-made_is t n ps None = refl
-made_is t n ps (Some y) = refl
-
-function_numbers : (t : Ty) (n : Name) (x : Written) → numbered_function tt (function_tree (t, (n, x))) ≡ mapped_some (ended t n) (numbers 0 x)
-function_numbers t n x = by (walk numbered_param 0 x.0)
-  where
-    by : (o : Option (List ParamTree × ℕ)) → (o >>= λ a. made_of t n a.0 (walk numbered_block a.1 x.1)) ≡ mapped_some (ended t n) (o >>= λ a. with_blocks a.0 (walk numbered_block a.1 x.1))
-    by None = refl
-    by (Some a) = made_is t n a.0 (walk numbered_block a.1 x.1)
-
-abbrev Found : Type 0
-Found = Option ((FunctionTree × Unit {0}) × List Lexeme)
-
-abbrev finished : Ty → Name → List ParamTree → Option ((List BlockTree × ℕ) × List Lexeme) → Found
-finished t n ps o = o >>= λ k. Some ((function_of t n ps k.0.0, tt), k.1)
-
-abbrev put_beside : List ParamTree → Option ((List BlockTree × ℕ) × List Lexeme) → Option ((Numbered × ℕ) × List Lexeme)
-put_beside ps o = o >>= λ y. Some (((ps, y.0.0), y.0.1), y.1)
-
-finished_is : (t : Ty) (n : Name) (ps : List ParamTree) (o : Option ((List BlockTree × ℕ) × List Lexeme)) → finished t n ps o ≡ mapped_first (ended t n) (put_beside ps o)
-finished_is t n ps None = refl
-finished_is t n ps (Some k) = refl
-
-body_is : (t : Ty) (n : Name) (ts : List Lexeme) → body_read t n ts ≡ completed (λ x. numbered_function tt (function_tree (t, (n, x)))) (read (pair in_parens in_braces) ts)
-body_is t n ts =
-    ap from (between_is LeftParen RightParen (walk numbered_param 0) (list parameter) ts)
-    ∙ by (completed (walk numbered_param 0) (read in_parens ts))
-    ∙ sym (completed_alike (λ x. numbered_function tt (function_tree (t, (n, x)))) (λ x. mapped_some (ended t n) (numbers 0 x)) (read (pair in_parens in_braces) ts) (function_numbers t n)
-    ∙ completed_some_of (numbers 0) (ended t n) (read (pair in_parens in_braces) ts)
-    ∙ ap (mapped_first (ended t n)) (thread_is (walk numbered_param) (walk numbered_block) 0 (read in_parens) (read in_braces) ts))
-  where
-    from : Option ((List ParamTree × ℕ) × List Lexeme) → Found
-    from o = o >>= λ p. finished t n p.0.0 (between_read LeftBrace RightBrace (walk numbered_block p.0.1) (read (some block)) p.1)
-
-    by : (o : Option ((List ParamTree × ℕ) × List Lexeme)) → (o >>= λ p. finished t n p.0.0 (between_read LeftBrace RightBrace (walk numbered_block p.0.1) (read (some block)) p.1)) ≡ mapped_first (ended t n) (o >>= λ p. put_beside p.0.0 (completed (walk numbered_block p.0.1) (read in_braces p.1)))
-    by None = refl
-    by (Some p) = ap (finished t n p.0.0) (between_is LeftBrace RightBrace (walk numbered_block p.0.1) (some block) p.1) ∙ finished_is t n p.0.0 (completed (walk numbered_block p.0.1) (read in_braces p.1))
-
--- ---- the head
-
-abbrev Bodies : Type 0
-Bodies = Option (Written × List Lexeme)
-
-abbrev after_name : Name → Bodies → Option ((Name × Written) × List Lexeme)
-after_name n o = o >>= λ y. Some ((n, y.0), y.1)
-
-abbrev after_type : Ty → Option ((Name × Written) × List Lexeme) → Option ((Ty × (Name × Written)) × List Lexeme)
-after_type t o = o >>= λ y. Some ((t, y.0), y.1)
-
-abbrev after_word : Unit {0} → Option ((Ty × (Name × Written)) × List Lexeme) → Option ((Unit {0} × (Ty × (Name × Written))) × List Lexeme)
-after_word u o = o >>= λ y. Some ((u, y.0), y.1)
-
-abbrev without_word : Option ((Unit {0} × (Ty × (Name × Written))) × List Lexeme) → Option ((Ty × (Name × Written)) × List Lexeme)
-without_word o = o >>= λ x. Some (x.0.1, x.1)
-
-abbrev as_function : Option ((Unit {0} × (Ty × (Name × Written))) × List Lexeme) → Option (WrittenFunction × List Lexeme)
-as_function o = without_word o >>= λ x. Some (function_tree x.0, x.1)
-
-headed : (u : Unit {0}) (t : Ty) (n : Name) (o : Bodies) → completed (λ x. numbered_function tt (function_tree (t, (n, x)))) o ≡ completed (numbered_function tt) (as_function (after_word u (after_type t (after_name n o))))
-headed u t n None = refl
-headed u t n (Some x) = refl
-
-pub function_is : (ts : List Lexeme) → function_read ts ≡ completed (numbered_function tt) (read function ts)
-unfolding function
-function_is ts = by_word (read (exactly Word (codes "define")) ts)
-  where
-    by_name : (u : Unit {0}) (t : Ty) (o : Option (Name × List Lexeme)) → (o >>= λ g. body_read t g.0 g.1) ≡ completed (numbered_function tt) (as_function (after_word u (after_type t (o >>= λ g. after_name g.0 (read (pair in_parens in_braces) g.1)))))
-    by_name u t None = refl
-    by_name u t (Some g) = body_is t g.0 g.1 ∙ headed u t g.0 (read (pair in_parens in_braces) g.1)
-
-    by_type : (u : Unit {0}) (o : Option (Ty × List Lexeme)) → (o >>= λ t. read global_name t.1 >>= λ g. body_read t.0 g.0 g.1) ≡ completed (numbered_function tt) (as_function (after_word u (o >>= λ t. after_type t.0 (read global_name t.1 >>= λ g. after_name g.0 (read (pair in_parens in_braces) g.1)))))
-    by_type u None = refl
-    by_type u (Some t) = by_name u t.0 (read global_name t.1)
-
-    by_word : (o : Option (Unit {0} × List Lexeme)) → (o >>= λ d. read return_type d.1 >>= λ t. read global_name t.1 >>= λ g. body_read t.0 g.0 g.1) ≡ completed (numbered_function tt) (as_function (o >>= λ d. after_word d.0 (read return_type d.1 >>= λ t. after_type t.0 (read global_name t.1 >>= λ g. after_name g.0 (read (pair in_parens in_braces) g.1)))))
-    by_word None = refl
-    by_word (Some d) = by_type d.0 (read return_type d.1)
+pub defined_is : (ts : List Lexeme) → defined_read ts ≡ completed numbered_function (read defined_function ts)
+unfolding defined_function
+defined_is ts =
+    let inner = pair in_parens (pair (joined kept attachments) in_braces) in
+    let named = pair global_name inner in
+    let typed = pair return_type named in
+    alike (read kept ts) _ _ (λ b.
+      alike (read return_type b.1) _ _ (λ t.
+        alike (read global_name t.1) _ _ (λ n.
+          alike (between_read LeftParen RightParen (walk numbered_param 0) (read (list parameter)) n.1) _ _ (λ p. behind_params b.0 t.0 n.0 p.0 p.1)
+          ∙ behind_defined b.0 t.0 n.0 n.1)
+        ∙ sym (first_apart (λ x. numbered_function (defined_tree (b.0, (t.0, x)))) global_name inner t.1))
+      ∙ sym (first_apart (λ x. numbered_function (defined_tree (b.0, x))) return_type named b.1))
+    ∙ sym (completed_mapped numbered_function defined_tree (pair kept typed) ts ∙ first_apart (λ x. numbered_function (defined_tree x)) kept typed ts)

@@ -1,6 +1,5 @@
 -- The parts of a function, read one behind the other.
 use Rattle.std.proofs.Common.{◌≡◌, Bool, true, false, cond, ◌||◌, List, [], ◌∷◌, ◌++◌, Option, Some, None, refl, sym, ap, ◌∙◌}
-use Rattle.std.specs.List.{AllByRecursion}
 use Rattle.forms.specs.Form.{Lexeme}
 use Rattle.forms.specs.declared.TokenKind.TheVariants.{Label}
 use Rattle.forms.specs.Reading.{◌>>=◌, opens, read, any_of, next_in, fits, first}
@@ -38,7 +37,3 @@ block_begins [] = refl
 block_begins (t ∷ ts) =
     ap (λ (b : Bool). fits (t ∷ ts) (any_of Label) || b) (fits_append (t ∷ ts) (first (line operation)) (first (line terminator)))
     ∙ ap (λ (b : Bool). b || (opens (line operation) (t ∷ ts) || opens (line terminator) (t ∷ ts))) (sym (or_nothing (fits (t ∷ ts) (any_of Label))))
-
-pub all-push : {A : Type 0} (P : A → Type 0) (xs : List A) (x : A) → AllByRecursion P xs → P x → AllByRecursion P (xs ++ x ∷ [])
-all-push P [] x all p = (p, tt)
-all-push P (y ∷ ys) x all p = (all.0, all-push P ys x all.1 p)

@@ -2,6 +2,7 @@ pub mod Modulo
 pub mod Branches
 pub mod Lines
 pub mod Threads
+pub mod Chains
 pub mod Parts
 pub mod Starts
 pub mod Functions

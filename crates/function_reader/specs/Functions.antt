@@ -1,17 +1,20 @@
 -- A function is read part after part.
-use Rattle.std.specs.Prelude.{List, map, codes, Option, Some}
-use Rattle.forms.specs.declared.TokenKind.TheVariants.{Word, LeftParen, RightParen, LeftBrace, RightBrace}
-use Rattle.forms.specs.Form.{Lexeme, exactly}
-use Rattle.forms.specs.Reading.{◌>>=◌, read, read_whole}
-use Rattle.forms.specs.Walk.{walk}
+use Rattle.std.specs.Prelude.{ℕ, Bool, false, List, [], map, is_some, Option, Some}
+use Rattle.std.specs.Global.{Vec}
+use Rattle.forms.specs.declared.TokenKind.TheVariants.{Comma, Dots, LeftParen, RightParen, LeftBrace, RightBrace}
+use Rattle.forms.specs.Form.{Lexeme, Form, mapped, optional}
+use Rattle.forms.specs.Reading.{◌>>=◌, read}
+use Rattle.forms.specs.Walk.{walk, completed}
+use Rattle.forms.specs.Gives.{mark}
+use Rattle.forms.specs.Kept.{attachments}
+use Rattle.forms.specs.Nested.{joined}
 use Rattle.ir_types.specs.declared.name.Name.{Name}
-use Rattle.ir_types.specs.declared.inst.Ty.{Ty}
 use Rattle.ir_types.specs.declared.module.Param.{Param}
 use Rattle.ir_types.specs.declared.module.Block.{Block}
-use Rattle.ir_types.specs.Tree.{ParamTree, BlockTree, FunctionTree, ModuleTree}
+use Rattle.ir_types.specs.Tree.{ParamTree, BlockTree, FunctionTree, WrittenParam}
 use Rattle.ir_types.specs.Denotes.{param_in, block_in}
-use Rattle.ir_types.specs.Grammar.{return_type, global_name, parameter, list, some, block, module_form}
-use Rattle.ir_types.specs.Numbered.{numbered_param, numbered_block, numbered_module}
+use Rattle.ir_types.specs.Grammar.{return_type, global_name, kept, parameter, dotted_parameters, marked, commas, list, some, block}
+use Rattle.ir_types.specs.Numbered.{numbered_param, numbered_block}
 use Rattle.function_reader.specs.Threads.{between_read}
 
 abbrev pub params_in : List Name → List Param → List ParamTree
@@ -20,24 +23,42 @@ params_in ns ps = map (param_in ns) ps
 abbrev pub blocks_in : List Name → List Block → List BlockTree
 blocks_in ns bs = map (block_in ns) bs
 
--- a function of its name, type, parameters and blocks
-abbrev pub function_of : Ty → Name → List ParamTree → List BlockTree → FunctionTree
-function_of t n ps bs = record { name = n; ret = t; params = ps; body = bs }
+-- parameters, and whether dots stand behind them
+abbrev pub dotted_in : List Name → Vec Param × Bool → List ParamTree × Bool
+dotted_in ns x = (params_in ns x.0.items, x.1)
 
--- the parameters, and the blocks behind them
-abbrev pub body_read : Ty → Name → List Lexeme → Option ((FunctionTree × Unit {0}) × List Lexeme)
-body_read t n ts =
-    between_read LeftParen RightParen (walk numbered_param 0) (read (list parameter)) ts >>= λ p.
-    between_read LeftBrace RightBrace (walk numbered_block p.0.1) (read (some block)) p.1 >>= λ k.
-    Some ((function_of t n p.0.0 k.0.0, tt), k.1)
+-- the same, numbered
+abbrev pub numbered_dotted : ℕ → List WrittenParam × Bool → Option ((List ParamTree × Bool) × ℕ)
+numbered_dotted next x = walk numbered_param next x.0 >>= λ y. Some ((y.0, x.1), y.1)
 
-abbrev pub function_read : List Lexeme → Option ((FunctionTree × Unit {0}) × List Lexeme)
-function_read ts =
-    read (exactly Word (codes "define")) ts >>= λ d.
-    read return_type d.1 >>= λ t.
-    read global_name t.1 >>= λ g.
-    body_read t.0 g.0 g.1
+-- whether a comma and dots stand there
+abbrev pub comma_dots : Form Bool
+comma_dots = mapped is_some (optional (marked Comma (mark Dots)))
 
--- the module that the tokens spell, numbered
-abbrev pub module_read : List Lexeme → Option ModuleTree
-module_read ts = read_whole module_form ts >>= numbered_module
+-- at least one parameter, and whether dots are behind
+abbrev pub some_dotted_read : ℕ → List Lexeme → Option (((List ParamTree × Bool) × ℕ) × List Lexeme)
+some_dotted_read next ts =
+    completed (walk numbered_param next) (read (commas parameter) ts) >>= λ p.
+    read comma_dots p.1 >>= λ d.
+    Some (((p.0.0, d.0), p.0.1), d.1)
+
+-- a declared function, without its word
+abbrev pub declared_read : List Lexeme → Option (FunctionTree × List Lexeme)
+declared_read ts =
+    read (joined attachments kept) ts >>= λ b.
+    read return_type b.1 >>= λ t.
+    read global_name t.1 >>= λ n.
+    between_read LeftParen RightParen (numbered_dotted 0) (read dotted_parameters) n.1 >>= λ p.
+    read kept p.1 >>= λ a.
+    Some (record { name = n.0; before = b.0; ret = t.0; params = p.0.0.0; varargs = p.0.0.1; after = a.0; body = [] }, a.1)
+
+-- a defined function, without its word
+abbrev pub defined_read : List Lexeme → Option (FunctionTree × List Lexeme)
+defined_read ts =
+    read kept ts >>= λ b.
+    read return_type b.1 >>= λ t.
+    read global_name t.1 >>= λ n.
+    between_read LeftParen RightParen (walk numbered_param 0) (read (list parameter)) n.1 >>= λ p.
+    read (joined kept attachments) p.1 >>= λ a.
+    between_read LeftBrace RightBrace (walk numbered_block p.0.1) (read (some block)) a.1 >>= λ k.
+    Some (record { name = n.0; before = b.0; ret = t.0; params = p.0.0; varargs = false; after = a.0; body = k.0.0 }, k.1)

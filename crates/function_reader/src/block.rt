@@ -18,11 +18,11 @@ ghost use Rattle.function_reader.specs.Blocks.{insts_in, contents_in, contents_r
 use crate::inst::Place;
 use crate::line::{begins_line, line};
 use crate::numbering::{Numbering, named_id};
-use crate::value::block_label;
 use forms::{Cursor, SyntaxFault, TokenKind};
 use ir_types::{Block, Inst, Names, ValueId};
 use lists::Items;
 use std::alloc::Global;
+use type_reader::block_label;
 
 /// No instructions, before the tokens. (A loop whose rest begins as a parameter isn't covered.)
 fn no_insts<'t>(alloc: Global, tokens: Cursor<'t>) -> (Vec<Inst>, Cursor<'t>)

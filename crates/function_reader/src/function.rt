@@ -1,33 +1,31 @@
-// Functions, and the modules that they make.
+// Functions, without the words before them.
 
 ghost use Rattle.std.specs.Prelude.{◌≡◌, [], ℕ, List, map, IfOk};
-ghost use Rattle.std.specs.List.{AllByRecursion};
 ghost use Rattle.forms.specs.View.{Extends};
 ghost use Rattle.forms.specs.declared.TokenKind.TheVariants.{LeftParen, RightParen, LeftBrace, RightBrace};
-ghost use Rattle.forms.specs.Form.{many};
 ghost use Rattle.forms.specs.Reading.{read, opens};
 ghost use Rattle.forms.specs.Walk.{walk, completed};
 ghost use Rattle.forms.specs.Gives.{Gives, left};
 ghost use Rattle.ir_types.specs.declared.name.Name.{Name};
 ghost use Rattle.ir_types.specs.Names.{IsTable};
 ghost use Rattle.ir_types.specs.Denotes.{block_in, tree_of_function};
-ghost use Rattle.ir_types.specs.Grammar.{parameter, list, some, block, between, function};
+ghost use Rattle.ir_types.specs.Grammar.{parameter, dotted_parameters, list, some, block, declared_function, defined_function};
 ghost use Rattle.ir_types.specs.Numbered.{numbered_param, numbered_block, numbered_function};
 ghost use Rattle.function_reader.specs.View.{Stays};
 ghost use Rattle.function_reader.specs.Threads.{between_read};
-ghost use Rattle.function_reader.specs.Functions.{params_in, blocks_in, function_read};
+ghost use Rattle.function_reader.specs.Functions.{params_in, blocks_in, dotted_in, numbered_dotted, declared_read, defined_read};
 
 use crate::block::block;
 use crate::inst::Place;
+use crate::keeping::{kept, kept_before, kept_behind};
 use crate::line::begins_line;
 use crate::numbering::Numbering;
-use crate::param::params;
-use crate::types::return_type;
-use crate::value::global;
+use crate::param::{dotted_params, params};
 use forms::{Cursor, SyntaxFault, TokenKind};
 use ir_types::{Block, Function, Names, Param};
 use lists::Items;
 use std::alloc::Global;
+use type_reader::{global, return_type};
 
 /// Whether a block stands next.
 #[tactic(auto, using(crate::proofs::Functions::block_begins))]
@@ -95,26 +93,79 @@ fn enclosed_blocks<'t>(
     Ok((blocks, rest))
 }
 
-/// The parts of a function.
-fn parts<'t>(alloc: Global, tokens: Cursor<'t>) -> Result<(Function, Cursor<'t>), SyntaxFault>
-    ensures reads { Gives (λ x. ((tree_of_function x.0, tt), left x.1)) result (function_read (left tokens.entry)) }
+/// The parameters in their parentheses, where dots may stand behind them.
+fn enclosed_dotted<'t>(
+    alloc: Global,
+    tokens: Cursor<'t>,
+    names: &mut Names,
+    numbering: &mut Numbering,
+) -> Result<((Vec<Param>, bool), Cursor<'t>), SyntaxFault>
+    ensures grows { Extends names.old names.new }
+    ensures reads { Gives (λ x. ((dotted_in names.new x.0, numbering.new.next), left x.1)) result (between_read LeftParen RightParen (numbered_dotted numbering.old.next) (read dotted_parameters) (left tokens.entry)) }
+    ensures stays { Stays dotted_in names.new result }
+{
+    let rest = tokens.mark(TokenKind::LeftParen)?;
+    let (params, rest) = dotted_params(alloc, rest, names, numbering)?;
+    let rest = rest.mark(TokenKind::RightParen)?;
+    Ok((params, rest))
+}
+
+/// The parts of a declared function.
+fn declared_parts<'t>(
+    alloc: Global,
+    tokens: Cursor<'t>,
+) -> Result<(Function, Cursor<'t>), SyntaxFault>
+    ensures reads { Gives (λ x. (tree_of_function x.0, left x.1)) result (declared_read (left tokens.entry)) }
     ensures table { IfOk result (λ x. IsTable x.0.names) }
 {
-    let Some(rest) = tokens.behind_word(b"define") else {
-        return Err(tokens.refusal());
-    };
+    let (before, rest) = kept_before(alloc, tokens)?;
+    let (ret, rest) = return_type(rest)?;
+    let (name, rest) = global(alloc, rest)?;
+    let mut names = Names::new(alloc);
+    let mut numbering = Numbering::new();
+    let ((params, varargs), rest) = enclosed_dotted(alloc, rest, &mut names, &mut numbering)?;
+    let (after, rest) = kept(alloc, rest)?;
+    let _ = names.len();
+    Ok((
+        Function {
+            name,
+            before,
+            ret,
+            params: Items::from_vec(params),
+            varargs,
+            after,
+            body: Items::from_vec(Vec::new(alloc)),
+            names,
+        },
+        rest,
+    ))
+}
+
+/// The parts of a defined function.
+fn defined_parts<'t>(
+    alloc: Global,
+    tokens: Cursor<'t>,
+) -> Result<(Function, Cursor<'t>), SyntaxFault>
+    ensures reads { Gives (λ x. (tree_of_function x.0, left x.1)) result (defined_read (left tokens.entry)) }
+    ensures table { IfOk result (λ x. IsTable x.0.names) }
+{
+    let (before, rest) = kept(alloc, tokens)?;
     let (ret, rest) = return_type(rest)?;
     let (name, rest) = global(alloc, rest)?;
     let mut names = Names::new(alloc);
     let mut numbering = Numbering::new();
     let (params, rest) = enclosed_params(alloc, rest, &mut names, &mut numbering)?;
+    let (after, rest) = kept_behind(alloc, rest)?;
     let (body, rest) = enclosed_blocks(alloc, rest, &mut names, &mut numbering)?;
     let _ = names.len();
     Ok((
         Function {
             name,
+            before,
             ret,
             params: Items::from_vec(params),
+            varargs: false,
+            after,
             body: Items::from_vec(body),
             names,
         },
@@ -122,43 +173,32 @@ fn parts<'t>(alloc: Global, tokens: Cursor<'t>) -> Result<(Function, Cursor<'t>)
     ))
 }
 
-/// A function.
-fn function<'t>(alloc: Global, tokens: Cursor<'t>) -> Result<(Function, Cursor<'t>), SyntaxFault>
-    ensures reads { Gives (λ x. ((tree_of_function x.0, tt), left x.1)) result (completed (numbered_function tt) (read function (left tokens.entry))) }
-    ensures table { IfOk result (λ x. IsTable x.0.names) }
-{
-    parts(alloc, tokens)
-}
-
-/// Whether a function stands next.
-#[tactic(auto, unfolding(ir_types::specs::Grammar::function))]
-fn begins_function(tokens: Cursor<'_>) -> bool
-    ensures { result ≡ opens function (left tokens.entry) }
-{
-    tokens.behind_word(b"define").is_some()
-}
-
-/// No functions, before the tokens. (A loop whose rest begins as a parameter isn't covered.)
-fn no_functions<'t>(alloc: Global, tokens: Cursor<'t>) -> (Vec<Function>, Cursor<'t>)
-    ensures functions { result.0.items ≡ [] }
-    ensures rest { result.1 ≡ tokens.entry }
-{
-    (Vec::new(alloc), tokens)
-}
-
-/// The functions, up to what begins none.
-pub fn functions<'t>(
+/// What is behind the word `declare`: a function without its blocks.
+///
+/// # Errors
+///
+/// Where no such function stands, with the place at which reading from left to right stops, or there is no room.
+pub fn declared<'t>(
     alloc: Global,
     tokens: Cursor<'t>,
-) -> Result<(Vec<Function>, Cursor<'t>), SyntaxFault>
-    ensures reads { Gives (λ x. ((map tree_of_function x.0.items, tt), left x.1)) result (completed (walk numbered_function tt) (read (many function) (left tokens.entry))) }
-    ensures tables { IfOk result (λ x. AllByRecursion (λ f. IsTable f.names) x.0.items) }
+) -> Result<(Function, Cursor<'t>), SyntaxFault>
+    ensures reads { Gives (λ x. (tree_of_function x.0, left x.1)) result (completed numbered_function (read declared_function (left tokens.entry))) }
+    ensures table { IfOk result (λ x. IsTable x.0.names) }
 {
-    let (mut functions, mut rest) = no_functions(alloc, tokens);
-    'more: while begins_function(rest) {
-        let (next, after) = function(alloc, rest)?;
-        functions.push(next)?;
-        rest = after;
-    }
-    Ok((functions, rest))
+    declared_parts(alloc, tokens)
+}
+
+/// What is behind the word `define`: a function with its blocks.
+///
+/// # Errors
+///
+/// Where no such function stands, with the place at which reading from left to right stops, or there is no room.
+pub fn defined<'t>(
+    alloc: Global,
+    tokens: Cursor<'t>,
+) -> Result<(Function, Cursor<'t>), SyntaxFault>
+    ensures reads { Gives (λ x. (tree_of_function x.0, left x.1)) result (completed numbered_function (read defined_function (left tokens.entry))) }
+    ensures table { IfOk result (λ x. IsTable x.0.names) }
+{
+    defined_parts(alloc, tokens)
 }

@@ -13,7 +13,6 @@ ghost use Rattle.function_reader.specs.View.{Stays};
 ghost use Rattle.function_reader.specs.Lines.{form_at};
 
 use crate::entries::{entries, parted};
-use crate::types::{begins_type, value_type};
 use crate::value::{comma_value, local_id, operand, written_value};
 use crate::words::{operation_of, predicate_of, terminator_of};
 use forms::{Cursor, SyntaxFault, TokenKind};
@@ -23,6 +22,7 @@ use ir_types::{
 };
 use lists::Few;
 use std::alloc::{AllocError, Global};
+use type_reader::{begins_type, value_type};
 
 /// One operand, in a list.
 fn one_operand(alloc: Global, only: Operand) -> Result<Operands, AllocError>

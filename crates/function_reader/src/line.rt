@@ -15,12 +15,12 @@ ghost use Rattle.function_reader.specs.View.{Stays};
 ghost use Rattle.function_reader.specs.Lines.{tok, result_next, named_so, plainly, form_at};
 
 use crate::inst::{Place, instruction};
-use crate::names::name_behind;
 use crate::numbering::{Numbering, named_id, result_id};
 use crate::words::{operation_of, terminator_of};
 use forms::{Cursor, SyntaxFault, TokenKind};
 use ir_types::{Inst, Name, Names, ValueId};
 use std::alloc::Global;
+use type_reader::name_behind;
 
 /// The token of the result's name, and what is behind `%name =`, where that stands next.
 fn behind_result<'t>(tokens: Cursor<'t>) -> Option<(&'t [u8], Cursor<'t>)>

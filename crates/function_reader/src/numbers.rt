@@ -1,7 +1,6 @@
 // Numbers as they are written.
 
-ghost use Rattle.std.specs.Prelude.{◌≡◌, ◌≤◌, ◌%◌, ◌^◌, ◌<◌};
-ghost use Rattle.std.specs.Option.{SomeIff};
+ghost use Rattle.std.specs.Prelude.{◌≡◌, ◌≤◌, ◌%◌, ◌^◌};
 ghost use Rattle.ir_types.specs.Written.{number_of, number_at, negated};
 
 /// The number that decimal digits stand for, modulo 2^64.
@@ -43,19 +42,4 @@ pub fn number_at(width: u32, text: &[u8]) -> u64
     } else {
         low_bits(number_of(text), width)
     }
-}
-
-/// The number of 32 bits that decimal digits stand for.
-pub fn number_of_32_bits(digits: &[u8]) -> Option<u32>
-    ensures { SomeIff result (number_of digits.now < 2 ^ 32) (number_of digits.now) }
-{
-    let mut number = 0u32;
-    for digit in digits {
-        let next = u64::from(number) * 10 + u64::from(digit.saturating_sub(b'0'));
-        if next > u64::from(u32::MAX) {
-            return None;
-        }
-        number = next as u32;
-    }
-    Some(number)
 }

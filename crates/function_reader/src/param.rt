@@ -2,26 +2,26 @@
 
 ghost use Rattle.std.specs.Prelude.{◌≡◌, [], ℕ, List, map, IfOk};
 ghost use Rattle.forms.specs.View.{Extends};
-ghost use Rattle.forms.specs.declared.TokenKind.TheVariants.{Comma};
+ghost use Rattle.forms.specs.declared.TokenKind.TheVariants.{Comma, Dots};
 ghost use Rattle.forms.specs.Form.{many, optional};
 ghost use Rattle.forms.specs.Reading.{read, opens};
 ghost use Rattle.forms.specs.Walk.{walk, completed};
-ghost use Rattle.forms.specs.Gives.{Gives, left};
+ghost use Rattle.forms.specs.Gives.{Gives, left, mark};
 ghost use Rattle.ir_types.specs.declared.name.Name.{Name};
 ghost use Rattle.ir_types.specs.Denotes.{name_in, param_in};
-ghost use Rattle.ir_types.specs.Grammar.{local_name, parameter, commas, marked, list};
+ghost use Rattle.ir_types.specs.Grammar.{local_name, parameter, dotted_parameters, commas, marked, list};
 ghost use Rattle.ir_types.specs.Numbered.{named, numbered_param};
 ghost use Rattle.function_reader.specs.View.{Stays};
-ghost use Rattle.function_reader.specs.Functions.{params_in};
+ghost use Rattle.function_reader.specs.Functions.{params_in, dotted_in, numbered_dotted, comma_dots, some_dotted_read};
 
+use crate::keeping::kept;
 use crate::numbering::{Numbering, named_id};
-use crate::types::{begins_type, value_type};
-use crate::value::local;
 use forms::{Cursor, SyntaxFault, TokenKind};
 use ir_types::{Names, Param, ValueId};
 use std::alloc::Global;
+use type_reader::{begins_type, local, value_type};
 
-/// The place of a parameter's name, which may be written behind its type.
+/// The place of a parameter's name, which may be written behind what is kept.
 #[tactic(auto, unfolding(ir_types::specs::Grammar::local_name))]
 fn param_name<'t>(
     alloc: Global,
@@ -42,7 +42,7 @@ fn param_name<'t>(
     Ok((id, tokens))
 }
 
-/// T [%name].
+/// T K [%name].
 #[tactic(auto, unfolding(ir_types::specs::Grammar::parameter))]
 fn param<'t>(
     alloc: Global,
@@ -55,8 +55,9 @@ fn param<'t>(
     ensures stays { Stays param_in names.new result }
 {
     let (ty, rest) = value_type(tokens)?;
+    let (kept, rest) = kept(alloc, rest)?;
     let (name, rest) = param_name(alloc, rest, names, numbering)?;
-    Ok((Param { ty, name }, rest))
+    Ok((Param { ty, kept, name }, rest))
 }
 
 /// A parameter behind a comma.
@@ -131,4 +132,63 @@ pub fn params<'t>(
         return some_params(alloc, tokens, names, numbering);
     }
     Ok((Vec::new(alloc), tokens))
+}
+
+/// Whether a comma and dots stand next.
+fn begins_dots(tokens: Cursor<'_>) -> bool
+    ensures { result ≡ opens (marked Comma (mark Dots)) (left tokens.entry) }
+{
+    match tokens.split_first() {
+        Some((TokenKind::Comma, _, rest)) => rest.is_next(TokenKind::Dots),
+        _ => false,
+    }
+}
+
+/// Takes a comma and dots, where they stand.
+fn comma_dots<'t>(tokens: Cursor<'t>) -> Result<(bool, Cursor<'t>), SyntaxFault>
+    ensures { Gives (λ x. (x.0, left x.1)) result (read comma_dots (left tokens.entry)) }
+{
+    if !begins_dots(tokens) {
+        return Ok((false, tokens));
+    }
+    let rest = tokens.mark(TokenKind::Comma)?;
+    let rest = rest.mark(TokenKind::Dots)?;
+    Ok((true, rest))
+}
+
+/// At least one parameter, and whether dots are behind.
+fn some_dotted<'t>(
+    alloc: Global,
+    tokens: Cursor<'t>,
+    names: &mut Names,
+    numbering: &mut Numbering,
+) -> Result<((Vec<Param>, bool), Cursor<'t>), SyntaxFault>
+    ensures grows { Extends names.old names.new }
+    ensures reads { Gives (λ x. ((dotted_in names.new x.0, numbering.new.next), left x.1)) result (some_dotted_read numbering.old.next (left tokens.entry)) }
+    ensures stays { Stays dotted_in names.new result }
+{
+    let (params, rest) = some_params(alloc, tokens, names, numbering)?;
+    let (dots, rest) = comma_dots(rest)?;
+    Ok(((params, dots), rest))
+}
+
+/// The parameters, which may be none, and whether dots stand behind them or in their place.
+pub fn dotted_params<'t>(
+    alloc: Global,
+    tokens: Cursor<'t>,
+    names: &mut Names,
+    numbering: &mut Numbering,
+) -> Result<((Vec<Param>, bool), Cursor<'t>), SyntaxFault>
+    ensures grows { Extends names.old names.new }
+    ensures reads { Gives (λ x. ((dotted_in names.new x.0, numbering.new.next), left x.1)) result (completed (numbered_dotted numbering.old.next) (read dotted_parameters (left tokens.entry))) }
+    ensures stays { Stays dotted_in names.new result }
+{
+    if tokens.is_next(TokenKind::Dots) {
+        let rest = tokens.mark(TokenKind::Dots)?;
+        return Ok(((Vec::new(alloc), true), rest));
+    }
+    if begins_param(tokens) {
+        return some_dotted(alloc, tokens, names, numbering);
+    }
+    Ok(((Vec::new(alloc), false), tokens))
 }

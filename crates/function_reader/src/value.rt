@@ -8,15 +8,15 @@ ghost use Rattle.forms.specs.Gives.{Gives, left};
 ghost use Rattle.ir_types.specs.declared.name.Name.{Name};
 ghost use Rattle.ir_types.specs.Names.{IsTable};
 ghost use Rattle.ir_types.specs.Denotes.{name_in, operand_in};
-ghost use Rattle.ir_types.specs.Grammar.{local_name, global_name, label, value, after_mark, width_of, operand_at};
+ghost use Rattle.ir_types.specs.Grammar.{local_name, value, after_mark, width_of, operand_at};
 ghost use Rattle.forms.specs.declared.TokenKind.TheVariants.{Comma};
 ghost use Rattle.function_reader.specs.View.{written_in, Stays};
 
-use crate::names::{name_before, name_behind};
 use crate::numbers::number_at;
 use forms::{Cursor, SyntaxFault, TokenKind};
-use ir_types::{Name, Names, Operand, Ty, ValueId};
+use ir_types::{Names, Operand, Ty, ValueId};
 use std::alloc::Global;
+use type_reader::local;
 
 /// A value as it is written.
 #[derive(Clone, Copy, Debug)]
@@ -26,42 +26,6 @@ pub enum Written<'t> {
     Digits(&'t [u8]),
     Yes,
     No,
-}
-
-/// The name of a local.
-#[tactic(auto, unfolding(ir_types::specs::Grammar::local_name))]
-pub fn local<'t>(alloc: Global, tokens: Cursor<'t>) -> Result<(Name, Cursor<'t>), SyntaxFault>
-    ensures { Gives (λ x. (x.0, left x.1)) result (read local_name (left tokens.entry)) }
-{
-    let (token, rest) = tokens.one(TokenKind::Local)?;
-    match name_behind(alloc, token)? {
-        Some(name) => Ok((name, rest)),
-        None => Err(tokens.refusal()),
-    }
-}
-
-/// The name of a symbol.
-#[tactic(auto, unfolding(ir_types::specs::Grammar::global_name))]
-pub fn global<'t>(alloc: Global, tokens: Cursor<'t>) -> Result<(Name, Cursor<'t>), SyntaxFault>
-    ensures { Gives (λ x. (x.0, left x.1)) result (read global_name (left tokens.entry)) }
-{
-    let (token, rest) = tokens.one(TokenKind::Global)?;
-    match name_behind(alloc, token)? {
-        Some(name) => Ok((name, rest)),
-        None => Err(tokens.refusal()),
-    }
-}
-
-/// The name of a block, before a colon.
-#[tactic(auto, unfolding(ir_types::specs::Grammar::label))]
-pub fn block_label<'t>(alloc: Global, tokens: Cursor<'t>) -> Result<(Name, Cursor<'t>), SyntaxFault>
-    ensures { Gives (λ x. (x.0, left x.1)) result (read label (left tokens.entry)) }
-{
-    let (token, rest) = tokens.one(TokenKind::Label)?;
-    match name_before(alloc, token)? {
-        Some(name) => Ok((name, rest)),
-        None => Err(tokens.refusal()),
-    }
 }
 
 /// The number of a local name, which is added to the names where it is new.
