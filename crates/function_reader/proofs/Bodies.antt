@@ -1,39 +1,20 @@
 -- Reading a function part after part is reading it whole.
-use Rattle.std.proofs.Common.{◌≡◌, ℕ, Bool, List, [], Option, Some, None, refl, sym, ap, ◌∙◌}
-use Rattle.std.specs.Prelude.{is_some}
-use Rattle.forms.specs.declared.TokenKind.TheVariants.{Comma, Dots, LeftParen, RightParen, LeftBrace, RightBrace}
-use Rattle.forms.specs.Form.{Lexeme, Form, pair, optional}
+use Rattle.std.proofs.Common.{◌≡◌, ℕ, Bool, false, List, [], Option, Some, None, refl, sym, ap, ◌∙◌}
+use Rattle.forms.specs.declared.TokenKind.TheVariants.{LeftParen, RightParen, LeftBrace, RightBrace}
+use Rattle.forms.specs.Form.{Lexeme, Form, pair}
 use Rattle.forms.specs.Reading.{◌>>=◌, read}
 use Rattle.forms.specs.Walk.{walk, completed}
-use Rattle.forms.specs.Gives.{mark}
 use Rattle.forms.specs.Kept.{attachments}
 use Rattle.forms.specs.Nested.{joined}
 use Rattle.ir_types.specs.declared.name.Name.{Name}
 use Rattle.ir_types.specs.declared.inst.Ty.{Ty}
 use Rattle.ir_types.specs.Tree.{KeptTexts, ParamTree, BlockTree, FunctionTree, WrittenParam, WrittenBlock, WrittenFunction}
-use Rattle.ir_types.specs.Grammar.{return_type, global_name, kept, parameter, dotted, dotted_parameters, marked, commas, list, some, block, between, declared_tree, declared_function, defined_tree, defined_function}
+use Rattle.ir_types.specs.Grammar.{return_type, global_name, kept, parameter, dotted_parameters, list, some, block, between, declared_tree, declared_function, defined_tree, defined_function}
 use Rattle.ir_types.specs.Numbered.{numbered_param, numbered_block, numbered_function}
 use Rattle.function_reader.specs.Threads.{between_read}
-use Rattle.function_reader.specs.Functions.{numbered_dotted, comma_dots, some_dotted_read, declared_read, defined_read}
+use Rattle.function_reader.specs.Functions.{numbered_dotted, declared_read, defined_read}
 use Rattle.function_reader.proofs.Threads.{between_is, completed_mapped, completed_alike}
 use Rattle.function_reader.proofs.Chains.{alike, first_apart, chained, then_made}
-
--- ---- parameters with dots behind them
-
-abbrev dots : Form (Option (Unit {0}))
-dots = optional (marked Comma (mark Dots))
-
-abbrev with_dots : List ParamTree × ℕ → Option (Unit {0}) → Option ((List ParamTree × Bool) × ℕ)
-with_dots p d = Some ((p.0, is_some d), p.1)
-
-pub some_dotted_is : (next : ℕ) (ts : List Lexeme) → some_dotted_read next ts ≡ completed (λ x. numbered_dotted next (dotted x)) (read (pair (commas parameter) dots) ts)
-some_dotted_is next ts =
-    alike (completed (walk numbered_param next) (read (commas parameter) ts)) _ _ (λ p. each p.0 (read dots p.1))
-    ∙ sym (chained (walk numbered_param next) with_dots (commas parameter) dots ts)
-  where
-    each : (p : List ParamTree × ℕ) (o : Option (Option (Unit {0}) × List Lexeme)) → ((o >>= λ x. Some (is_some x.0, x.1)) >>= λ d. Some (((p.0, d.0), p.1), d.1)) ≡ completed (with_dots p) o
-    each p None = refl
-    each p (Some x) = refl
 
 -- ---- declared functions
 
@@ -43,10 +24,13 @@ dotted_in_parens = between LeftParen RightParen dotted_parameters
 abbrev declared_of : KeptTexts → Ty → Name → (List ParamTree × Bool) × ℕ → KeptTexts → Option FunctionTree
 declared_of b t n p a = Some (record { name = n; before = b; ret = t; params = p.0.0; varargs = p.0.1; after = a; body = [] })
 
+abbrev beside_dots : Bool → Option (List ParamTree × ℕ) → Option ((List ParamTree × Bool) × ℕ)
+beside_dots d o = o >>= λ y. Some ((y.0, d), y.1)
+
 declared_numbers : (b : KeptTexts) (t : Ty) (n : Name) (x : (List WrittenParam × Bool) × KeptTexts) → numbered_function (declared_tree (b, (t, (n, x)))) ≡ (numbered_dotted 0 x.0 >>= λ p. declared_of b t n p x.1)
 declared_numbers b t n x = by (walk numbered_param 0 x.0.0)
   where
-    by : (o : Option (List ParamTree × ℕ)) → (o >>= λ y. declared_of b t n ((y.0, x.0.1), y.1) x.1) ≡ ((o >>= λ y. Some ((y.0, x.0.1), y.1)) >>= λ p. declared_of b t n p x.1)
+    by : (o : Option (List ParamTree × ℕ)) → (o >>= λ y. declared_of b t n ((y.0, x.0.1), y.1) x.1) ≡ (beside_dots x.0.1 o >>= λ p. declared_of b t n p x.1)
     by None = refl
     by (Some y) = refl
 

@@ -32,7 +32,7 @@ pub chained : {A B C D : Type 0} (f : A → Option C) (k : C → B → Option D)
     → completed (λ x. f x.0 >>= λ c. k c x.1) (read (pair g h) ts) ≡ (completed f (read g ts) >>= λ c. completed (k c.0) (read h c.1))
 chained {A} {B} {C} {D} f k g h ts = by (read g ts)
   where
-    refused : (o : Option (B × List Lexeme)) → completed (λ (b : B). None) o ≡ None
+    refused : (o : Option (B × List Lexeme)) → completed {B = D} (λ (b : B). None) o ≡ None
     refused None = refl
     refused (Some y) = refl
 

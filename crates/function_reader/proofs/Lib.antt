@@ -6,4 +6,5 @@ pub mod Chains
 pub mod Parts
 pub mod Starts
 pub mod Functions
+pub mod Dotted
 pub mod Bodies
