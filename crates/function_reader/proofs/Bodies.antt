@@ -11,10 +11,8 @@ use Rattle.ir_types.specs.declared.inst.Ty.{Ty}
 use Rattle.ir_types.specs.Tree.{KeptTexts, ParamTree, BlockTree, FunctionTree, WrittenParam, WrittenBlock, WrittenFunction}
 use Rattle.ir_types.specs.Grammar.{return_type, global_name, kept, parameter, dotted_parameters, list, some, block, between, declared_tree, declared_function, defined_tree, defined_function}
 use Rattle.ir_types.specs.Numbered.{numbered_param, numbered_block, numbered_function}
-use Rattle.function_reader.specs.Threads.{between_read}
-use Rattle.function_reader.specs.Functions.{numbered_dotted, declared_read, defined_read}
-use Rattle.function_reader.proofs.Threads.{between_is, completed_mapped, completed_alike}
-use Rattle.function_reader.proofs.Chains.{alike, first_apart, chained, then_made}
+use Rattle.function_reader.specs.Functions.{between_read, numbered_dotted, declared_read, defined_read}
+use Rattle.function_reader.proofs.Chains.{alike, first_apart, chained, then_made, between_is, completed_mapped, completed_alike}
 
 -- ---- declared functions
 

@@ -12,8 +12,7 @@ ghost use Rattle.ir_types.specs.Denotes.{block_in, tree_of_function};
 ghost use Rattle.ir_types.specs.Grammar.{parameter, dotted_parameters, list, some, block, declared_function, defined_function};
 ghost use Rattle.ir_types.specs.Numbered.{numbered_param, numbered_block, numbered_function};
 ghost use Rattle.function_reader.specs.View.{Stays};
-ghost use Rattle.function_reader.specs.Threads.{between_read};
-ghost use Rattle.function_reader.specs.Functions.{params_in, blocks_in, dotted_in, numbered_dotted, declared_read, defined_read};
+ghost use Rattle.function_reader.specs.Functions.{between_read, params_in, blocks_in, dotted_in, numbered_dotted, declared_read, defined_read};
 
 use crate::block::block;
 use crate::inst::Place;
