@@ -1,12 +1,10 @@
 -- Keeping a balanced list token by token, with a stack of what is awaited.
-use Rattle.std.proofs.Common.{◌≡◌, ℕ, Bool, true, false, ◌&&◌, List, [], ◌∷◌, ◌++◌, Option, Some, None, refl, sym, ap, ◌∙◌, append_assoc}
+use Rattle.std.proofs.Common.{◌≡◌, ℕ, true, false, ◌&&◌, List, [], ◌∷◌, ◌++◌, Some, None, refl, sym, ap, ◌∙◌, append_assoc}
 use Rattle.std.proofs.lemmas.List.{append-nil}
 use Rattle.forms.specs.declared.TokenKind.{TokenKind}
-use Rattle.forms.specs.Form.{Lexeme, Stops, enclosed, mapped, is_empty, step, stops_at}
-use Rattle.forms.specs.Gives.{mark}
+use Rattle.forms.specs.Form.{Lexeme, Stops, is_empty, step, stops_at}
 use Rattle.forms.specs.Machine.{behind}
-use Rattle.forms.specs.Reading.{◌>>=◌, ends, read, read_one, read_inside, read_up_to}
-use Rattle.forms.proofs.Parts.{some_is}
+use Rattle.forms.specs.Reading.{◌>>=◌, ends, read_inside, read_up_to}
 use Rattle.kept_runs.proofs.Behind.{Reads}
 
 -- a text before the others
@@ -36,10 +34,6 @@ inside_next c s u front k w ts us whole n e d so_far =
     sym here ∙ ap (λ (l : List Lexeme). behind front (read_inside c s l)) (sym n) ∙ so_far
 
 -- ---- up to a stop
-
-pub second_false : (x y : Bool) → y ≡ false → (x && y) ≡ false
-second_false true y e = e
-second_false false y e = refl
 
 pub up_to_next : (st : Stops) (s u : List TokenKind) (front : List (List ℕ)) (k : TokenKind) (w : List ℕ) (ts us : List Lexeme) (whole : Reads (List ℕ)) → ts ≡ lexeme k w ∷ us → (is_empty s && stops_at st ts) ≡ false → step s k ≡ Some u
     → behind front (read_up_to st s ts) ≡ whole → behind (front ++ w ∷ []) (read_up_to st u us) ≡ whole

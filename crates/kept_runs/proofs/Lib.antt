@@ -2,3 +2,4 @@ mod Stack
 pub mod Behind
 mod Balanced
 pub mod Takes
+pub mod Verbatim

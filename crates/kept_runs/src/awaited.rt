@@ -43,10 +43,7 @@ fn is_closer(kind: TokenKind) -> bool
 {
     matches!(
         kind,
-        TokenKind::RightParen
-            | TokenKind::RightBracket
-            | TokenKind::RightBrace
-            | TokenKind::Greater
+        TokenKind::RightParen | TokenKind::RightBracket | TokenKind::RightBrace | TokenKind::Greater
     )
 }
 

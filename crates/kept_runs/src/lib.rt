@@ -7,6 +7,8 @@ mod attachments;
 mod awaited;
 mod enclosed;
 mod pieces;
+#[cfg(test)]
+mod tests;
 mod tokens;
 mod up_to;
 

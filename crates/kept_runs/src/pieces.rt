@@ -69,10 +69,7 @@ fn keep_numbered<'t>(
 }
 
 /// Keeps `=` and a string, or nothing.
-fn perhaps_value<'t>(
-    tokens: Cursor<'t>,
-    texts: &mut Texts,
-) -> Result<Cursor<'t>, SyntaxFault>
+fn perhaps_value<'t>(tokens: Cursor<'t>, texts: &mut Texts) -> Result<Cursor<'t>, SyntaxFault>
     ensures { Gives (λ rest. (texts.new, left rest)) result (behind texts.old (read (perhaps (joined (kept_one Equal) (kept_one Quoted))) (left tokens.entry))) }
 {
     if !tokens.is_next(TokenKind::Equal) {
