@@ -66,8 +66,8 @@ block_is next ts =
     let insts = many (line operation) in
     let last = line terminator in
     alike (completed (named next) (read (optional label) ts)) _ _ (λ n.
-      alike (completed (walk numbered_inst n.0.1) (read insts n.1)) _ _ (λ i. sym (then_made (numbered_inst i.0.1) (block_of n.0.0 i.0.0) (read last i.1)))
-      ∙ sym (completed_alike (behind_name n.0) _ (read (pair insts last) n.1) (last_numbers n.0) ∙ chained (walk numbered_inst n.0.1) (with_last n.0.0) insts last n.1))
+    alike (completed (walk numbered_inst n.0.1) (read insts n.1)) _ _ (λ i. sym (then_made (numbered_inst i.0.1) (block_of n.0.0 i.0.0) (read last i.1)))
+    ∙ sym (completed_alike (behind_name n.0) _ (read (pair insts last) n.1) (last_numbers n.0) ∙ chained (walk numbered_inst n.0.1) (with_last n.0.0) insts last n.1))
     ∙ sym (completed_mapped (numbered_block next) block_tree (pair (optional label) (pair insts last)) ts ∙ chained (named next) behind_name (optional label) (pair insts last) ts)
 
 -- the parts, where each is read

@@ -192,10 +192,7 @@ pub fn declared<'t>(
 /// # Errors
 ///
 /// Where no such function stands, with the place at which reading from left to right stops, or there is no room.
-pub fn defined<'t>(
-    alloc: Global,
-    tokens: Cursor<'t>,
-) -> Result<(Function, Cursor<'t>), SyntaxFault>
+pub fn defined<'t>(alloc: Global, tokens: Cursor<'t>) -> Result<(Function, Cursor<'t>), SyntaxFault>
     ensures reads { Gives (λ x. (tree_of_function x.0, left x.1)) result (completed numbered_function (read defined_function (left tokens.entry))) }
     ensures table { IfOk result (λ x. IsTable x.0.names) }
 {

@@ -20,7 +20,7 @@ returns-clause-reads c =
     let others = c.in_ok-insts.ensures.stays n.names c.in_ok-last.ensures.grows in
     rw (all, map_push (inst_in n.names) before last, name, others)
     (block_found c.args.numbering.now.next (name_in a.names c.in_ok-name.name, a.numbering.next) (insts_in b.names before, b.numbering.next) (inst_in n.names last, n.numbering.next)
-        (left c.args.tokens) (left c.in_ok-name.rest) (left c.in_ok-insts.rest) (left c.in_ok-last.rest) c.in_ok-name.ensures.reads c.in_ok-insts.ensures.reads c.in_ok-last.ensures.reads)
+    (left c.args.tokens) (left c.in_ok-name.rest) (left c.in_ok-insts.rest) (left c.in_ok-last.rest) c.in_ok-name.ensures.reads c.in_ok-insts.ensures.reads c.in_ok-last.ensures.reads)
 
 pub returns-clause-stays : goal.returns-clause-stays
 returns-clause-stays c = λ later e.
