@@ -8,7 +8,7 @@ use Rattle.forms.specs.Kept.{attachments}
 use Rattle.forms.specs.Nested.{joined}
 use Rattle.ir_types.specs.declared.name.Name.{Name}
 use Rattle.ir_types.specs.declared.inst.Ty.{Ty}
-use Rattle.ir_types.specs.Tree.{KeptTexts, ParamTree, BlockTree, FunctionTree, WrittenParam, WrittenBlock, WrittenFunction}
+use Rattle.ir_types.specs.Tree.{KeptTexts, ParamTree, BlockTree, FunctionTree, WrittenParam, WrittenBlock}
 use Rattle.ir_types.specs.Grammar.{return_type, global_name, kept, parameter, dotted_parameters, list, some, block, between, declared_tree, declared_function, defined_tree, defined_function}
 use Rattle.ir_types.specs.Numbered.{numbered_param, numbered_block, numbered_function}
 use Rattle.function_reader.specs.Functions.{between_read, numbered_dotted, declared_read, defined_read}
