@@ -53,7 +53,7 @@ struct_length p q rest = ap length (struct_tokens p q rest) ∙ simp length-appe
 -- a depth that is enough for the struct is one more than what is enough for its members
 struct_deep : (d : ℕ) (p : Bool) (nodes : List (List TypeNode)) (pieces : List (List Piece)) (ids : List TypeId) → AllByRecursion (IsPrinted nodes pieces) ids
     → length (tokens_of (struct_head p ++ (inside (map (λ id. pieces_at pieces id.0) ids) ++ struct_end p))) ≤ d → (e : ℕ) × (d ≡ suc e) × AllByRecursion (IsSaid e nodes pieces) ids
-struct_deep zero p nodes pieces ids h le = let n = head_length p in let m = length-append {A = Lexeme} in absurd (omega (arith, ap length (tokens_of-append (struct_head p) (inside (map (λ id. pieces_at pieces id.0) ids) ++ struct_end p)), length-append {A = Lexeme}))
+struct_deep zero p nodes pieces ids h le = let n = head_length p in absurd (omega (arith, ap length (tokens_of-append (struct_head p) (inside (map (λ id. pieces_at pieces id.0) ids) ++ struct_end p)), length-append {A = Lexeme}))
 struct_deep (suc d) p nodes pieces [] h le = (d, refl, tt)
 struct_deep (suc d) p nodes pieces (id ∷ ids) h le =
     let n = head_length p in
