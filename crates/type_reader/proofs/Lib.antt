@@ -4,3 +4,4 @@ pub mod Vectors
 pub mod Places
 pub mod NodeLists
 pub mod Going
+pub mod Holding

@@ -2,6 +2,7 @@
 #![tactic(auto)]
 
 mod heads;
+mod memory;
 mod names;
 mod numbers;
 mod stack;
