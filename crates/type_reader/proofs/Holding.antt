@@ -1,5 +1,5 @@
 -- What holds of the types and frames before a step holds behind it.
-use Rattle.std.proofs.Common.{◌≡◌, ℕ, ◌<◌, ◌≤◌, ◌+◌, Bool, true, false, List, [], ◌∷◌, ◌++◌, length, map, Option, Some, None, Result, Err, refl, sym, ap, ◌∙◌, subst, true≢false, arith, length-append}
+use Rattle.std.proofs.Common.{◌≡◌, ℕ, ◌≤◌, Bool, true, false, List, [], ◌∷◌, ◌++◌, length, Option, Some, None, Err, refl, sym, ap, ◌∙◌, subst, true≢false, arith, length-append}
 use Rattle.std.proofs.lemmas.List.{map-append}
 use Rattle.std.specs.List.{AllByRecursion}
 use Rattle.forms.specs.declared.Around.{Around}
@@ -19,11 +19,11 @@ use Rattle.ir_types.specs.declared.memory_type.TypeId.{TypeId}
 use Rattle.ir_types.specs.declared.memory_type.TypeName.{TypeName}
 use Rattle.ir_types.specs.declared.memory_type.MemTy.{MemTy}
 use Rattle.ir_types.specs.declared.memory_type.MemTy.TheVariants.{One, Array, Struct, Named}
-use Rattle.ir_types.specs.TypeNodes.{TypeNode, opening, closing, nodes_from}
-use Rattle.ir_types.specs.Types.{IsBefore, IsTypeAt, AreTypes}
+use Rattle.ir_types.specs.TypeNodes.{TypeNode, nodes_from}
+use Rattle.ir_types.specs.Types.{IsBefore, IsTypeAt}
 use Rattle.ir_types.specs.Grammar.{type_parts}
 use Rattle.type_reader.specs.TypeTable.{names_of}
-use Rattle.type_reader.specs.Frames.{Frame, in_array, in_struct, around_of, innermost, with_member, closed, goes_on, AreBefore, Holds, is_refusal}
+use Rattle.type_reader.specs.Frames.{Frame, in_array, in_struct, around_of, innermost, closed, goes_on, AreBefore, Holds, is_refusal}
 use Rattle.type_reader.specs.Levels.{Adds, Closes}
 use Rattle.type_reader.specs.Heads.{IsAlone, next_nodes}
 use Rattle.type_reader.proofs.NodeLists.{types_with_names, types_push}

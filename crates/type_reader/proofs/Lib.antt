@@ -5,3 +5,4 @@ pub mod Places
 pub mod NodeLists
 pub mod Going
 pub mod Holding
+pub mod Openings

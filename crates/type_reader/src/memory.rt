@@ -11,7 +11,7 @@ ghost use Rattle.ir_types.specs.TypeNodes.{type_nodes};
 ghost use Rattle.ir_types.specs.Types.{AreTypes};
 ghost use Rattle.ir_types.specs.Grammar.{memory_type};
 ghost use Rattle.type_reader.specs.TypeTable.{names_of};
-ghost use Rattle.type_reader.specs.Frames.{innermost, goes_on, Holds, is_refusal};
+ghost use Rattle.type_reader.specs.Frames.{innermost, goes_on, Holds, is_refusal, behind_type};
 
 use crate::heads::{Begun, head, next};
 use crate::stack::Stack;
@@ -124,4 +124,18 @@ pub fn memory_type<'t>(
         done = now;
         rest = after;
     }
+}
+
+/// What is behind a memory type.
+///
+/// # Errors
+///
+/// Those of `memory_type`.
+pub fn skip_type<'t>(alloc: Global, tokens: Cursor<'t>) -> Result<Cursor<'t>, SyntaxFault>
+    ensures { (d : ℕ) → length (left tokens.entry) ≤ d → Gives (λ rest. left rest) result (behind_type d (left tokens.entry)) }
+{
+    let mut types = Vec::new(alloc);
+    let mut names = TypeNames::new(alloc);
+    let (_, rest) = memory_type(alloc, tokens, &mut types, &mut names)?;
+    Ok(rest)
 }

@@ -1,7 +1,6 @@
-use Rattle.std.proofs.Common.{◌≡◌, ◌∙◌, Bool, Some, None, List, [], ◌∷◌, length, refl, sym, ap, subst}
+use Rattle.std.proofs.Common.{[], ◌∷◌, length, refl, sym}
 use Rattle.std.proofs.lemmas.Result.{err_from_is_err_and}
 use Rattle.forms.specs.declared.cursor.Cursor.{Cursor}
-use Rattle.forms.specs.Reading.{read}
 use Rattle.forms.specs.Machine.{head}
 use Rattle.forms.specs.Gives.{left}
 use Rattle.forms.proofs.Many.{shorter}
