@@ -10,6 +10,7 @@ use Rattle.ir_types.specs.Denotes.{inst_in}
 use Rattle.ir_types.specs.Grammar.{label, line, operation, terminator}
 use Rattle.ir_types.specs.Numbered.{named, numbered_inst}
 
+-- instructions, with the names in them
 abbrev pub insts_in : List Name → List Inst → List InstTree
 insts_in ns is = map (inst_in ns) is
 

@@ -21,9 +21,11 @@ use Rattle.ir_types.specs.Numbered.{numbered_param, numbered_block}
 abbrev pub between_read : {A B : Type 0} → TokenKind → TokenKind → (A → Option B) → (List Lexeme → Option (A × List Lexeme)) → List Lexeme → Option (B × List Lexeme)
 between_read o c f r ts = read (mark o) ts >>= λ m. completed f (r m.1) >>= λ x. read (mark c) x.1 >>= λ e. Some (x.0, e.1)
 
+-- parameters, with their names
 abbrev pub params_in : List Name → List Param → List ParamTree
 params_in ns ps = map (param_in ns) ps
 
+-- blocks, with their names
 abbrev pub blocks_in : List Name → List Block → List BlockTree
 blocks_in ns bs = map (block_in ns) bs
 

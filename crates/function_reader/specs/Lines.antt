@@ -9,6 +9,7 @@ use Rattle.ir_types.specs.Grammar.{with_result, without_result, operation, termi
 use Rattle.function_reader.specs.declared.inst.Place.{Place}
 use Rattle.function_reader.specs.declared.inst.Place.TheVariants.{Inside, Last}
 
+-- a token
 abbrev pub tok : TokenKind → List ℕ → Lexeme
 tok k w = record { kind = k; text = w }
 
@@ -16,6 +17,7 @@ tok k w = record { kind = k; text = w }
 abbrev pub result_next : List Lexeme → Bool
 result_next ts = next_in (mark_then Local (any_of Equal) ∷ []) ts
 
+-- an instruction that is read, and what is left
 abbrev pub Found : Type 0
 Found = Option (InstTree × List Lexeme)
 

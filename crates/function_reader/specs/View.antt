@@ -20,6 +20,7 @@ written_in ns written.No = no
 abbrev pub entry_in : List Name → Written × ValueId → WrittenValue × Name
 entry_in ns e = (written_in ns e.0, name_in ns e.1)
 
+-- entries of a phi
 abbrev pub entries_in : List Name → List (Written × ValueId) → List (WrittenValue × Name)
 entries_in ns es = map (entry_in ns) es
 

@@ -144,7 +144,7 @@ fn begins_dots(tokens: Cursor<'_>) -> bool
     }
 }
 
-/// Takes a comma and dots, where they stand.
+/// Whether a comma and dots stand next, and what is behind them.
 fn comma_dots<'t>(tokens: Cursor<'t>) -> Result<(bool, Cursor<'t>), SyntaxFault>
     ensures { Gives (λ x. (x.0, left x.1)) result (read comma_dots (left tokens.entry)) }
 {
