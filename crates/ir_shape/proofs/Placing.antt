@@ -27,6 +27,7 @@ use Rattle.ir_types.specs.declared.memory_type.NamedType.TheVariants.{Defined, O
 use Rattle.ir_types.specs.declared.memory_type.TypeName.{TypeName}
 use Rattle.ir_types.specs.Denotes.{name_in, operand_in, inst_in, block_in, param_in, tree_of_function, type_names_of, nodes_in, named_in, type_name_in, symbol_kind_in, symbol_in, tree_of}
 use Rattle.ir_types.specs.Collected.{as_type, as_variable, as_function, of_definition, all_used, unknown, missing_name, symbol_of, symbols_from}
+use Rattle.ir_types.specs.Types.{AreTypes}
 use Rattle.ir_types.specs.TypeNodes.{TypeNode, nodes_at, nodes_from, all_nodes}
 use Rattle.ir_types.specs.Tree.{FunctionTree, NamedTree, defined, opaque, missing, SymbolKindTree, variable, function, missing_symbol, ModuleTree, Item, head_line, comdat_line, type_item, variable_item, function_item, attribute_line, metadata_line}
 use Rattle.ir_types.specs.Reads.{IsReadable}
@@ -165,18 +166,19 @@ symbol_placed m (Variable id writable) h = type_placed m id h
 symbol_placed m (symbols.Function f) h = h
 symbol_placed m symbols.Missing h = tt
 
-pub module_placed : (m : Module) → IsModule (tree_of m) → IsPlaced m
-module_placed m h =
+pub module_placed : (m : Module) → IsModule (tree_of m) → AreTypes (type_names_of m) 0 m.types → IsPlaced m
+module_placed m h t =
     let fs = filter_map as_function h.items in
     let as_long : length fs ≡ length m.functions = ap (λ (t : ModuleTree). length t.functions) h.says ∙ length-map m.functions tree_of_function in
     let types = each_append (λ t. HasNode t.ty) (filter_map as_type h.items) _ (types_known h.items h.known) (missing_known (unknown (map (λ t. t.name) (filter_map as_type h.items)) (all_used (filter_map as_type h.items) (filter_map as_variable h.items)))) in
     let places = each_append (λ s. HasPlace (length m.functions) s.kind) (map symbol_of (filter_map as_variable h.items)) _ (variables_known (length m.functions) h.items h.known) (functions_placed (length m.functions) 0 fs (omega arith)) in
     record {
       functions = each IsFunction IsFunctionPlaced tree_of_function function_placed m.functions (subst (λ (t : ModuleTree). AllByRecursion IsFunction t.functions) h.says (functions_known h.items h.known));
+      types = t;
       named = each (λ t. HasNode t.ty) (λ (n : TypeName). IsNamedPlaced m.types n.ty) (type_name_in m) (λ n. named_placed m n.ty) m.type_names (subst (λ (t : ModuleTree). AllByRecursion (λ n. HasNode n.ty) t.type_names) h.says types);
       symbols = each (λ s. HasPlace (length m.functions) s.kind) (λ (s : Symbol). IsSymbolPlaced m s.kind) (symbol_in m) (λ s. symbol_placed m s.kind) m.symbols (subst (λ (t : ModuleTree). AllByRecursion (λ s. HasPlace (length m.functions) s.kind) t.symbols) h.says places);
     }
 
 -- In a module that some text reads as, each position is one of its list.
 pub readable_placed : (m : Module) → IsReadable m → IsPlaced m
-readable_placed m r = module_placed m (readable_known m r)
+readable_placed m r = module_placed m (readable_known m r) r.1.denotes.types

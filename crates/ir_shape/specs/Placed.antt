@@ -15,6 +15,8 @@ use Rattle.ir_types.specs.declared.module.SymbolKind.{SymbolKind}
 use Rattle.ir_types.specs.declared.module.SymbolKind.TheVariants.{Variable}
 use Rattle.ir_types.specs.declared.module.SymbolKind.TheVariants as symbols
 use Rattle.ir_types.specs.declared.module.Module.{Module}
+use Rattle.ir_types.specs.Types.{AreTypes}
+use Rattle.ir_types.specs.Denotes.{type_names_of}
 use Rattle.ir_types.specs.declared.memory_type.MemTy.{MemTy}
 use Rattle.ir_types.specs.declared.memory_type.NamedType.{NamedType}
 use Rattle.ir_types.specs.declared.memory_type.NamedType.TheVariants.{Defined, Opaque, Missing}
@@ -61,8 +63,10 @@ IsSymbolPlaced m (Variable id writable) = id.0 < length m.types
 IsSymbolPlaced m (symbols.Function f) = f.0 < length m.functions
 IsSymbolPlaced m symbols.Missing = Unit {0}
 
--- a module: all its functions, names of types and symbols
+-- a module: all its functions, types, names of types and symbols
 pub record IsPlaced (m : Module) : Type 0 where
   pub functions : AllByRecursion IsFunctionPlaced m.functions
+  -- each type's parts stand before it, and it uses a name by its first place
+  pub types : AreTypes (type_names_of m) 0 m.types
   pub named : AllByRecursion (λ (n : TypeName). IsNamedPlaced m.types n.ty) m.type_names
   pub symbols : AllByRecursion (λ (s : Symbol). IsSymbolPlaced m s.kind) m.symbols

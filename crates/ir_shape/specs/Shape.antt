@@ -149,7 +149,7 @@ IsNode (array n) = n < 2 ^ 64
 IsNode (opening packed) = Unit {0}
 IsNode closing = Unit {0}
 
--- a memory type, by its nodes: there is one, and each can be written
+-- nodes of a memory type: there is one at least, and each can be written
 pub record IsMemory (nodes : List TypeNode) : Type 0 where
   pub some : 0 < length nodes
   pub each : AllByRecursion IsNode nodes

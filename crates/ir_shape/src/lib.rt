@@ -7,13 +7,15 @@ ghost use Rattle.ir_types.specs.Reads.{IsReadable};
 ghost use Rattle.ir_shape.specs.Shape.{IsModule};
 ghost use Rattle.ir_shape.specs.Placed.{IsPlaced};
 
-/// The tree of a module that some text reads as has the shape of one: its names are proper ones, its types are written, each
-/// instruction has the operands, the labels and the result of its kind, and each block ends with its one terminator.
+/// The tree of a module that some text reads as has the shape of one: it is what items are collected to, whose names are proper
+/// ones, whose types are written, and whose kept tokens are those of their forms; each instruction has the operands, the labels and the
+/// result of its kind, and each block ends with its one terminator.
 pub fn readable_has_shape()
     ensures { (m : Module) → IsReadable m → IsModule (tree_of m) }
 {}
 
-/// In a module that some text reads as, each position of a name is one in its function's table of names.
+/// In a module that some text reads as, each position is one of its list: that of a local name in its function's table of names,
+/// those of types, of their names and of functions in the module's lists; and each type stands behind its parts.
 pub fn readable_is_placed()
     ensures { (m : Module) → IsReadable m → IsPlaced m }
 {}

@@ -45,6 +45,6 @@ IsNoVariable (symbols.Function f) = Unit {0}
 IsNoVariable Missing = Unit {0}
 
 -- a module of such functions alone, without variables
-pub record IsFirst (m : Module) : Type 0 where
+pub record HasMeaning (m : Module) : Type 0 where
   pub functions : AllByRecursion IsFirstFunction m.functions
   pub symbols : AllByRecursion (λ (s : Symbol). IsNoVariable s.kind) m.symbols

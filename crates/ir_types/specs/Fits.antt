@@ -12,7 +12,8 @@ pub record Variable : Type 0 where
   pub size : ℕ
   pub constant : Bool
 
--- the variables of a module; no grammar has one yet
+-- The variables of a module to which a memory is fitted: none yet, as no instruction with a meaning touches memory. So what is said of memories
+-- that fit, and of allowing, is said of modules without variables, or as if they had none.
 abbrev pub variables_of : Module → List Variable
 variables_of m = []
 

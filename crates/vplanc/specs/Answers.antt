@@ -15,7 +15,7 @@ use Rattle.text_lex.specs.Fault.{HasNoneLeftOut}
 use Rattle.ir_types.specs.declared.module.Module.{Module}
 use Rattle.ir_types.specs.Reads.{Reads}
 use Rattle.ir_types.specs.Allows.{Allows, factor_of}
-use Rattle.ir_types.specs.First.{IsFirst}
+use Rattle.ir_types.specs.First.{HasMeaning}
 use Rattle.ir_reader.specs.Refusal.{IsRefusal, IsWithinLimits}
 use Rattle.ir_printer.specs.Print.{module_pieces}
 use Rattle.vplanc.specs.declared.answer.Which.{Which}
@@ -186,7 +186,7 @@ OutLeft (Some file) told before now status = OutHolds (told file) before now sta
 pub record IsAllowed (text printed : List ℕ) : Type 0 where
   pub file_reads : (m : Module) × Reads text m
   pub print_reads : (n : Module) × Reads printed n
-  pub allows : (m n : Module) → IsFirst m → Reads text m → Reads printed n → Allows m n (factor_of n)
+  pub allows : (m n : Module) → HasMeaning m → Reads text m → Reads printed n → Allows m n (factor_of n)
 
 -- where the file and `out` are told, `out` took a text that the file's allows
 abbrev pub TookAllowed : (told before now : Option (List ℕ)) → Type 0
