@@ -3,14 +3,14 @@
 ghost use Rattle.std.specs.Prelude.{◌≡◌, ◌<◌, ◌++◌, ◌∷◌, [], decimal, OnOk};
 ghost use Rattle.forms.specs.Lexical.{is_digit, begins_name};
 ghost use Rattle.text_lex.specs.Names.{is_plain_name};
-ghost use Rattle.ir_printer.specs.Texts.{hex_digit, is_escaped, escaped_byte, quoted, name_text};
+ghost use Rattle.type_printer.specs.Texts.{hex_digit, is_escaped, escaped_byte, quoted, name_text};
 
 use ir_types::Name;
 use itoa::Buffer;
 use std::alloc::AllocError;
 
 /// Appends a number in digits.
-pub(crate) fn put_digits(out: &mut Vec<u8>, number: u64) -> Result<(), AllocError>
+pub fn put_digits(out: &mut Vec<u8>, number: u64) -> Result<(), AllocError>
     ensures { OnOk result (out.new.items ≡ out.old.items ++ decimal number) }
 {
     let mut buffer = Buffer::new();
@@ -92,7 +92,7 @@ fn put_quoted(out: &mut Vec<u8>, text: &[u8]) -> Result<(), AllocError>
 
 /// Appends a name, without what says of what it is one.
 #[tactic(auto, unfolding(crate::specs::Texts::name_text))]
-pub(crate) fn put_name(out: &mut Vec<u8>, name: &Name) -> Result<(), AllocError>
+pub fn put_name(out: &mut Vec<u8>, name: &Name) -> Result<(), AllocError>
     ensures { OnOk result (out.new.items ≡ out.old.items ++ name_text name.now) }
 {
     match name {

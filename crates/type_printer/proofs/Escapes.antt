@@ -7,7 +7,7 @@ use Rattle.text_lex.specs.Names.{is_quotable}
 use Rattle.text_lex.proofs.Ranges.{below_all}
 use Rattle.forms.proofs.Begins.{test, or_false}
 use Rattle.ir_types.specs.Written.{hex_value, escape, unescaped_behind, unescaped, without_last}
-use Rattle.ir_printer.specs.Texts.{hex_digit, is_escaped, escaped_byte, escaped}
+use Rattle.type_printer.specs.Texts.{hex_digit, is_escaped, escaped_byte, escaped}
 
 -- a digit is one of a string's bytes that stands for its number
 is_faithful : ℕ → Bool

@@ -13,9 +13,9 @@ use Rattle.ir_types.specs.declared.name.Name.{Name}
 use Rattle.ir_types.specs.declared.name.Name.TheVariants.{Text, Number}
 use Rattle.ir_types.specs.Written.{number_of, numbered_name, name_of, name_behind, name_before}
 use Rattle.ir_shape.specs.Shape.{IsName}
-use Rattle.ir_printer.specs.Texts.{escaped, quoted, name_text}
-use Rattle.ir_printer.specs.Print.{local_token, global_token, label_token}
-use Rattle.ir_printer.proofs.Escapes.{unescaped-escaped, is_quotable-escaped, without_last-append}
+use Rattle.type_printer.specs.Texts.{escaped, quoted, name_text}
+use Rattle.type_printer.specs.Pieces.{local_token, global_token, label_token}
+use Rattle.type_printer.proofs.Escapes.{unescaped-escaped, is_quotable-escaped, without_last-append}
 
 -- ---- a name is read as it was printed
 

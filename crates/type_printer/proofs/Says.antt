@@ -7,9 +7,10 @@ use Rattle.forms.specs.declared.TokenKind.TheVariants.{Word, Comma}
 use Rattle.forms.specs.Form.{Lexeme, Form, Spells, one, ahead, pair, either, mapped, made, optional, many, by_word, entry}
 use Rattle.text_lex.specs.Layout.{Piece, gap, tokens_of}
 use Rattle.text_lex.proofs.Layouts.{tokens_of-append}
-use Rattle.ir_types.specs.Grammar.{word, behind, after_mark, between, marked, some, commas, list}
-use Rattle.ir_printer.specs.Print as print
-use Rattle.ir_printer.specs.Print.{token, each_behind, separated, with_commas}
+use Rattle.forms.specs.Gives.{mark}
+use Rattle.forms.specs.Combined.{word, behind, after_mark, between, marked, some, commas, list}
+use Rattle.type_printer.specs.Pieces as pieces_of
+use Rattle.type_printer.specs.Pieces.{token, each_behind, separated, with_commas}
 
 pub record Says {A : Type 0} (f : Form A) (a : A) (ts : List Lexeme) : Type 0 where
   pub spells : Spells f a ts
@@ -32,6 +33,9 @@ made_says a b e p = record { spells = (a, e, p.spells) }
 pub one_says : (k : TokenKind) (s : List ℕ) → Says (one k) s (token k s ∷ [])
 one_says k s = record { spells = refl }
 
+pub mark_says : (k : TokenKind) (s : List ℕ) → Says (mark k) tt (token k s ∷ [])
+mark_says k s = record { spells = (s, refl, refl) }
+
 pub word_says : {A : Type 0} (w : List ℕ) (a : A) → Says (word w a) a (token Word w ∷ [])
 word_says w a = record { spells = (tt, refl, refl) }
 
@@ -53,7 +57,7 @@ after_mark_says {A} {f} {a} {ts} k s p = record { spells = ((tt, a), refl, (toke
 pub between_says : {A : Type 0} {f : Form A} {a : A} (ts : List Lexeme) (o c : TokenKind) (s u : List ℕ) → Says f a ts → Says (between o c f) a (token o s ∷ (ts ++ token c u ∷ []))
 between_says {A} {f} {a} ts o c s u p = record { spells = ((tt, (a, tt)), refl, (token o s ∷ [], ts ++ token c u ∷ [], refl, (s, refl, refl), (ts, token c u ∷ [], refl, p.spells, (u, refl, refl)))) }
 
-marked_says : {A : Type 0} {f : Form A} {a : A} {ts : List Lexeme} (k : TokenKind) (s : List ℕ) → Says f a ts → Says (marked k f) a (token k s ∷ ts)
+pub marked_says : {A : Type 0} {f : Form A} {a : A} {ts : List Lexeme} (k : TokenKind) (s : List ℕ) → Says f a ts → Says (marked k f) a (token k s ∷ ts)
 marked_says {A} {f} {a} k s p = mapped_says (s, a) a refl (ahead_says k s p)
 
 -- ---- lists of parts, each printed as these pieces
@@ -85,7 +89,7 @@ some_says {w = w} {pieces = pieces} s says (b ∷ more) lt h =
     let q = behind_each s says more h.1 in
     record { spells = ((w b, map w more), refl, (tokens_of (pieces b), tokens_of (each_behind (gap s ∷ []) (map pieces more)), tokens_of-append (pieces b) _, (says.one b h.0).spells, q.spells)) }
 
-behind_commas : {A B : Type 0} {f : Form A} {w : B → A} {pieces : B → List Piece} {P : B → Type 0} → EachSays f w pieces P → (items : List B) → AllByRecursion P items → Says (many (marked Comma f)) (map w items) (tokens_of (each_behind (print.comma ∷ print.blank ∷ []) (map pieces items)))
+behind_commas : {A B : Type 0} {f : Form A} {w : B → A} {pieces : B → List Piece} {P : B → Type 0} → EachSays f w pieces P → (items : List B) → AllByRecursion P items → Says (many (marked Comma f)) (map w items) (tokens_of (each_behind (pieces_of.comma ∷ pieces_of.blank ∷ []) (map pieces items)))
 behind_commas {f = f} says [] h = none_says (marked Comma f)
 behind_commas {pieces = pieces} says (b ∷ more) h =
     more_says (token Comma (44 ∷ []) ∷ tokens_of (pieces b)) _ _ (ap (λ (ts : List Lexeme). token Comma (44 ∷ []) ∷ ts) (tokens_of-append (pieces b) _)) (marked_says Comma (44 ∷ []) (says.one b h.0)) (behind_commas says more h.1)
@@ -95,7 +99,7 @@ pub commas_says : {A B : Type 0} {f : Form A} {w : B → A} {pieces : B → List
 commas_says says [] lt h = absurd (omega arith)
 commas_says {w = w} {pieces = pieces} says (b ∷ more) lt h =
     let q = behind_commas says more h.1 in
-    record { spells = ((w b, map w more), refl, (tokens_of (pieces b), tokens_of (each_behind (print.comma ∷ print.blank ∷ []) (map pieces more)), tokens_of-append (pieces b) _, (says.one b h.0).spells, q.spells)) }
+    record { spells = ((w b, map w more), refl, (tokens_of (pieces b), tokens_of (each_behind (pieces_of.comma ∷ pieces_of.blank ∷ []) (map pieces more)), tokens_of-append (pieces b) _, (says.one b h.0).spells, q.spells)) }
 
 pub list_says : {A B : Type 0} {f : Form A} {w : B → A} {pieces : B → List Piece} {P : B → Type 0} → EachSays f w pieces P → (items : List B) → AllByRecursion P items → Says (list f) (map w items) (tokens_of (with_commas (map pieces items)))
 list_says says [] h = record { spells = (None, refl, refl) }

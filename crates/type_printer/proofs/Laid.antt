@@ -7,7 +7,7 @@ use Rattle.forms.specs.Form.{Lexeme}
 use Rattle.forms.specs.Lexical.{kind_of}
 use Rattle.text_lex.specs.Layout.{Piece, lexeme, AreTokens, is_mark, closed, open_, left_by, joins, end_of}
 use Rattle.text_lex.proofs.Layouts.{AreTokens-append, joins-from, joins_closed, joins_any}
-use Rattle.ir_printer.specs.Print.{token, blank, line_feed, indent, each_behind, separated}
+use Rattle.type_printer.specs.Pieces.{token, blank, line_feed, indent, each_behind, separated}
 
 -- tokens that join
 pub record IsLaid (ps : List Piece) : Type 0 where

@@ -1,0 +1,9 @@
+pub mod Escapes
+pub mod Names
+pub mod Widths
+pub mod Numbers
+pub mod Says
+pub mod Spelled
+pub mod Laid
+pub mod LaidOut
+pub mod Appended

@@ -1,0 +1,7 @@
+//! Prints names and types.
+#![tactic(auto)]
+
+pub mod name;
+#[cfg(test)]
+mod tests;
+pub mod types;
