@@ -1,6 +1,4 @@
 pub mod Numbers
-pub mod Numbering
-pub mod Spelled
-pub mod LaidOut
-pub mod Printed
 pub mod Appended
+pub mod Lines
+pub mod Grouped
