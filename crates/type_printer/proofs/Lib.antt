@@ -7,3 +7,10 @@ pub mod Spelled
 pub mod Laid
 pub mod LaidOut
 pub mod Appended
+pub mod MemorySays
+pub mod MemoryLaid
+pub mod MemoryPrinted
+pub mod MemoryRest
+pub mod TypeNames
+pub mod MemoryPlaced
+pub mod Frames

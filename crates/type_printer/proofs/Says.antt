@@ -4,7 +4,7 @@ use Rattle.std.specs.Prelude.{map}
 use Rattle.std.specs.List.{AllByRecursion}
 use Rattle.forms.specs.declared.TokenKind.{TokenKind}
 use Rattle.forms.specs.declared.TokenKind.TheVariants.{Word, Comma}
-use Rattle.forms.specs.Form.{Lexeme, Form, Spells, one, ahead, pair, either, mapped, made, optional, many, by_word, entry}
+use Rattle.forms.specs.Form.{Lexeme, Form, Spells, exactly, one, ahead, pair, either, mapped, made, optional, many, by_word, entry}
 use Rattle.text_lex.specs.Layout.{Piece, gap, tokens_of}
 use Rattle.text_lex.proofs.Layouts.{tokens_of-append}
 use Rattle.forms.specs.Gives.{mark}
@@ -32,6 +32,9 @@ made_says a b e p = record { spells = (a, e, p.spells) }
 
 pub one_says : (k : TokenKind) (s : List ℕ) → Says (one k) s (token k s ∷ [])
 one_says k s = record { spells = refl }
+
+pub exactly_says : (k : TokenKind) (s : List ℕ) → Says (exactly k s) tt (token k s ∷ [])
+exactly_says k s = record { spells = refl }
 
 pub mark_says : (k : TokenKind) (s : List ℕ) → Says (mark k) tt (token k s ∷ [])
 mark_says k s = record { spells = (s, refl, refl) }
@@ -66,10 +69,10 @@ marked_says {A} {f} {a} k s p = mapped_says (s, a) a refl (ahead_says k s p)
 pub record EachSays {A B : Type 0} (f : Form A) (w : B → A) (pieces : B → List Piece) (P : B → Type 0) : Type 0 where
   pub one : (b : B) → P b → Says f (w b) (tokens_of (pieces b))
 
-none_says : {A : Type 0} (f : Form A) → Says (many f) [] []
+pub none_says : {A : Type 0} (f : Form A) → Says (many f) [] []
 none_says f = record { spells = refl }
 
-more_says : {A : Type 0} {f : Form A} {a : A} {more : List A} (x y ts : List Lexeme) → ts ≡ x ++ y → Says f a x → Says (many f) more y → Says (many f) (a ∷ more) ts
+pub more_says : {A : Type 0} {f : Form A} {a : A} {more : List A} (x y ts : List Lexeme) → ts ≡ x ++ y → Says f a x → Says (many f) more y → Says (many f) (a ∷ more) ts
 more_says x y ts e p q = record { spells = (x, y, e, p.spells, q.spells) }
 
 -- behind white space

@@ -1,6 +1,7 @@
 //! Prints names and types.
 #![tactic(auto)]
 
+pub mod memory_type;
 pub mod name;
 #[cfg(test)]
 mod tests;

@@ -1,9 +1,10 @@
 //! Texts of names and types.
 
+use crate::memory_type::put_memory_type;
 use crate::name::put_name;
 use crate::types::put_type;
-use ir_types::{Name, Ty};
-use lists::Text;
+use ir_types::{MemTy, Name, NamedType, Ty, TypeId, TypeName};
+use lists::{Items, Text};
 use std::test::Fail;
 
 #[test]
@@ -44,5 +45,33 @@ fn types(rt: HostRuntime) -> Result<(), Fail> {
         put_type(&mut out, *ty)?;
         assert_eq!(rt; out.as_slice(), *printed);
     }
+    Ok(())
+}
+
+#[test]
+fn memory_types(rt: HostRuntime) -> Result<(), Fail> {
+    let alloc = rt.alloc();
+    let names = vec![in alloc;
+        TypeName {
+            name: Name::Text(Text::from_slice(alloc, b"t")?),
+            ty: NamedType::Opaque,
+        },
+    ]?;
+    let members = vec![in alloc; TypeId(0), TypeId(3), TypeId(4), TypeId(5)]?;
+    let types = vec![in alloc;
+        MemTy::One(Ty::Int(8)),
+        MemTy::One(Ty::Int(32)),
+        MemTy::Struct(true, Items::from_vec(vec![in alloc; TypeId(1)]?)),
+        MemTy::Array(2, TypeId(2)),
+        MemTy::Named(0),
+        MemTy::Struct(false, Items::from_vec(Vec::new(alloc))),
+        MemTy::Struct(false, Items::from_vec(members)),
+    ]?;
+    let mut out = Vec::new(alloc);
+    put_memory_type(alloc, &mut out, &types, &names, TypeId(6))?;
+    assert_eq!(rt;
+        out.as_slice(),
+        b"{ i8, [2 x <{ i32 }>], %t, {} }".as_slice()
+    );
     Ok(())
 }
