@@ -8,12 +8,12 @@ use Rattle.std.proofs.lemmas.List.{append-nil}
 use Rattle.std.proofs.lemmas.List.Elements.{filter_map-append}
 use Rattle.std.proofs.lemmas.List.Folds.{flat_map-map}
 use Rattle.forms.proofs.Begins.{test}
-use Rattle.text_lex.proofs.Lexed.{each_append}
+use Rattle.text_lex.proofs.Lexed.{each_split, each_append}
 use Rattle.ir_types.specs.declared.name.Name.{Name}
 use Rattle.ir_types.specs.TypeNodes.{TypeNode}
 use Rattle.ir_types.specs.Collected.{as_head, as_comdat, as_type, as_variable, as_function, as_attributes, as_metadata, all_used, unknown, missing_name, symbol_of, symbols_from, with_missing, collected}
 use Rattle.ir_types.specs.Tree.{KeptTexts, FunctionTree, NamedTree, defined, opaque, missing, TypeNameTree, SymbolKindTree, variable, function, missing_symbol, SymbolTree, ModuleTree, VariableTree, Item, head_line, comdat_line, type_item, variable_item, function_item, attribute_line, metadata_line}
-use Rattle.ir_shape.specs.Shape.{IsItem, IsModule}
+use Rattle.ir_shape.specs.Shape.{IsFunction, IsItem, IsModule}
 use Rattle.ir_printer.specs.Print.{is_comdat}
 use Rattle.ir_printer.proofs.Lines.{head_no_comdat, comdat_is, begins_group, group_is, metadata_is}
 
@@ -258,3 +258,16 @@ printed_known tree m =
 pub printed_collected : (tree : ModuleTree) → IsModule tree → collected (printed_items tree) ≡ tree
 printed_collected tree m =
     subst (λ (t : ModuleTree). collected (printed_items t) ≡ t) m.says (rw (printed_are_groups m.items m.known) (collected_grouped m.items))
+
+each_function : (fs : List FunctionTree) → AllByRecursion IsItem (flat_map function_items fs) → AllByRecursion IsFunction fs
+each_function [] h = tt
+each_function (f ∷ fs) h = (h.0, each_function fs h.1)
+
+pub functions_known : (tree : ModuleTree) → IsModule tree → AllByRecursion IsFunction tree.functions
+unfolding printed_items
+functions_known tree m =
+    let types = (each_split IsItem (flat_map head_items tree.head) _ (printed_known tree m)).1 in
+    let comdats = (each_split IsItem (flat_map type_items tree.type_names) _ types).1 in
+    let symbols = (each_split IsItem (flat_map comdat_items tree.head) _ comdats).1 in
+    let functions = (each_split IsItem (flat_map symbol_items tree.symbols) _ symbols).1 in
+    each_function tree.functions ((each_split IsItem (flat_map function_items tree.functions) _ functions).0)

@@ -2,3 +2,4 @@ pub mod Numbers
 pub mod Appended
 pub mod Lines
 pub mod Grouped
+pub mod KeptPrinted

@@ -4,12 +4,12 @@ use Rattle.std.specs.Prelude.{map, codes, filter}
 use Rattle.std.specs.List.{AllByRecursion}
 use Rattle.std.proofs.lemmas.Bool.{eq-eqb}
 use Rattle.forms.specs.declared.TokenKind.{TokenKind}
-use Rattle.forms.specs.declared.TokenKind.TheVariants.{Word, Comdat, Metadata}
+use Rattle.forms.specs.declared.TokenKind.TheVariants.{Word, Comdat, Metadata, Equal, Bang}
 use Rattle.forms.specs.declared.Part.{Part}
-use Rattle.forms.specs.declared.Part.TheVariants.{One}
-use Rattle.forms.specs.declared.Class.TheVariants.{Byte}
+use Rattle.forms.specs.declared.Part.TheVariants.{One, Run}
+use Rattle.forms.specs.declared.Class.TheVariants.{Byte, NameStart, NamePart, NotQuote}
 use Rattle.forms.specs.Form.{Lexeme, Form, Spells, kind_code, same_text, ahead, mapped}
-use Rattle.forms.specs.Kept.{kept_token}
+use Rattle.forms.specs.Kept.{kept_one, kept_token, perhaps, in_braces}
 use Rattle.forms.specs.Lexical.{kind_of, kind_by, spells, table}
 use Rattle.forms.specs.Nested.{joined}
 use Rattle.forms.proofs.Begins.{test}
@@ -24,7 +24,7 @@ use Rattle.ir_printer.specs.Print.{begins_comdat, is_comdat}
 -- ---- a token's first byte
 
 -- the rows of a kind
-abbrev rows_of : TokenKind → List (TokenKind × List Part) → List (TokenKind × List Part)
+rows_of : TokenKind → List (TokenKind × List Part) → List (TokenKind × List Part)
 rows_of k rows = filter (λ r. eqb (kind_code r.0) (kind_code k)) rows
 
 -- a text that one of the rows spells
@@ -33,6 +33,7 @@ IsOfRows [] w = ⊥
 IsOfRows (r ∷ rs) w = (spells r.1 w ≡ true) ⊎ IsOfRows rs w
 
 of_rows : (k : TokenKind) (rows : List (TokenKind × List Part)) (w : List ℕ) → kind_by rows w ≡ Some k → IsOfRows (rows_of k rows) w
+unfolding rows_of
 of_rows k [] w e = absurd cc
 of_rows k (r ∷ rs) w e = elim (test (spells r.1 w)) [
   | inl y ↦
@@ -48,14 +49,20 @@ of_rows k (r ∷ rs) w e = elim (test (spells r.1 w)) [
 begins_with : (b c : ℕ) (ps : List Part) (w : List ℕ) → spells (One (Byte b) ∷ ps) (c ∷ w) ≡ true → eqb c b ≡ true
 begins_with b c ps w s = elim (test (eqb c b)) [ inl y ↦ y | inr n ↦ absurd (let t : false ≡ true = rw n at s in cc) ]
 
+comdat_rows : rows_of Comdat table ≡ (Comdat, One (Byte 36) ∷ One NameStart ∷ Run NamePart ∷ []) ∷ (Comdat, One (Byte 36) ∷ One (Byte 34) ∷ Run NotQuote ∷ One (Byte 34) ∷ []) ∷ []
+unfolding rows_of table
+comdat_rows = refl
+
 -- of a comdat's name that is `$`
 comdat_begins : (w : List ℕ) → kind_of w ≡ Some Comdat → begins_comdat w ≡ true
-unfolding table
-comdat_begins [] e = absurd cc
-comdat_begins (c ∷ w) e = elim (of_rows Comdat table (c ∷ w) e) [
-  | inl s ↦ begins_with 36 c _ w s
-  | inr other ↦ elim other [ inl s ↦ begins_with 36 c _ w s | inr none ↦ absurd none ]
-]
+comdat_begins w e = of_comdats w (subst (λ (rows : List (TokenKind × List Part)). IsOfRows rows w) comdat_rows (of_rows Comdat table w e))
+  where
+    of_comdats : (w : List ℕ) → IsOfRows ((Comdat, One (Byte 36) ∷ One NameStart ∷ Run NamePart ∷ []) ∷ (Comdat, One (Byte 36) ∷ One (Byte 34) ∷ Run NotQuote ∷ One (Byte 34) ∷ []) ∷ []) w → begins_comdat w ≡ true
+    of_comdats w (inr (inr none)) = absurd none
+    of_comdats [] (inl s) = absurd cc
+    of_comdats [] (inr (inl s)) = absurd cc
+    of_comdats (c ∷ w) (inl s) = begins_with 36 c _ w s
+    of_comdats (c ∷ w) (inr (inl s)) = begins_with 36 c _ w s
 
 -- ---- lines that begin with a word
 
@@ -106,7 +113,7 @@ first_kind k f (x ∷ xs) t h =
 pub comdat_is : (xs : KeptTexts) → IsKept comdat xs → is_comdat xs ≡ true
 unfolding comdat
 comdat_is xs h =
-    let f = first_kind Comdat _ xs h.tokens h.spelled in
+    let f = first_kind Comdat (joined (kept_one Equal) (joined (kept_token Word (codes "comdat")) (kept_one Word))) xs h.tokens h.spelled in
     rw f.2 (comdat_begins f.0 f.3)
 
 -- ---- the lines of the tail
@@ -132,5 +139,5 @@ metadata_no_group w e = elim (test (same_text (codes "attributes") w)) [
 pub metadata_is : (xs : KeptTexts) → IsKept metadata xs → begins_group xs ≡ false
 unfolding metadata
 metadata_is xs h =
-    let f = first_kind Metadata _ xs h.tokens h.spelled in
+    let f = first_kind Metadata (joined (kept_one Equal) (joined (perhaps (kept_token Word (codes "distinct"))) (joined (kept_one Bang) in_braces))) xs h.tokens h.spelled in
     rw f.2 (metadata_no_group f.0 f.3)

@@ -133,7 +133,8 @@ fn put_head(out: &mut Vec<u8>, function: &Function) -> Result<(), AllocError>
     out.push(b'(')?;
     put_all_params(out, function)?;
     out.push(b')')?;
-    put_blank_then_kept(out, &function.after)
+    put_blank_then_kept(out, &function.after)?;
+    Ok(())
 }
 
 // Appends the blocks in braces, or the end of a declaration's line.
@@ -147,7 +148,8 @@ fn put_body(out: &mut Vec<u8>, names: &Names, blocks: &[Block]) -> Result<(), Al
     }
     out.extend_from_slice(b" {\n")?;
     put_blocks(out, names, blocks)?;
-    out.extend_from_slice(b"}\n")
+    out.extend_from_slice(b"}\n")?;
+    Ok(())
 }
 
 #[tactic(auto, unfolding(crate::specs::Print::function_pieces), using(type_printer::proofs::Appended::text_of_both, std::proofs::lemmas::Grind::common_steps))]

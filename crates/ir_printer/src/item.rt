@@ -1,18 +1,18 @@
 // The lines of a module, its named types and its variables.
 
-ghost use Rattle.std.specs.Prelude.{◌≡◌, ◌<◌, ◌++◌, ◌∷◌, [], map, flat_map, length, OnOk};
-ghost use Rattle.std.specs.List.{AllByRecursion};
+ghost use Rattle.std.specs.Prelude.{◌≡◌, ◌<◌, ◌++◌, ◌∷◌, [], map, flat_map, codes, length, OnOk};
 ghost use Rattle.text_lex.specs.Layout.{text_of};
 ghost use Rattle.ir_types.specs.Reads.{IsReadable};
 ghost use Rattle.ir_types.specs.Types.{AreTypes};
 ghost use Rattle.ir_types.specs.Denotes.{type_names_of};
+ghost use Rattle.ir_shape.specs.Placed.{IsNamedPlaced, IsSymbolPlaced};
+ghost use Rattle.type_printer.specs.Pieces.{local_token};
 ghost use Rattle.ir_printer.specs.Print.{type_at, definition_pieces, named_pieces, type_name_pieces, variable_word, variable_pieces, symbol_pieces, is_comdat, whole_line, head_line_pieces, comdat_line_pieces};
-ghost use Rattle.ir_printer.specs.Printable.{IsPrintable, IsNamedPrintable, IsSymbolPrintable};
 
 use crate::kept::{put_kept_behind, put_kept_then_blank, put_line};
-use crate::stub::put_memory_type;
-use ir_types::{Kept, Module, NamedType, Symbol, SymbolKind, TypeId, TypeName};
+use ir_types::{Kept, Module, Name, NamedType, Symbol, SymbolKind, TypeId, TypeName};
 use std::alloc::{AllocError, Global};
+use type_printer::memory_type::put_memory_type;
 use type_printer::name::put_name;
 
 // Whether a line at the head is that of a comdat.
@@ -22,15 +22,35 @@ fn is_comdat(line: &Kept) -> bool
     !line.is_empty() && line.at(0).starts_with(b"$".as_slice())
 }
 
+// Appends a line of the head, or nothing where it is that of a comdat.
+fn put_head_line(out: &mut Vec<u8>, line: &Kept) -> Result<(), AllocError>
+    ensures { OnOk result (out.new.items ≡ out.old.items
+        ++ text_of (head_line_pieces line.now)) }
+{
+    if is_comdat(line) {
+        return Ok(());
+    }
+    put_line(out, line)
+}
+
+// Appends the line of a comdat, or nothing where it is another line of the head.
+fn put_comdat(out: &mut Vec<u8>, line: &Kept) -> Result<(), AllocError>
+    ensures { OnOk result (out.new.items ≡ out.old.items
+        ++ text_of (comdat_line_pieces line.now)) }
+{
+    if !is_comdat(line) {
+        return Ok(());
+    }
+    put_line(out, line)
+}
+
 /// Appends the lines of the head but those of comdats.
 pub(crate) fn put_head_lines(out: &mut Vec<u8>, lines: &[Kept]) -> Result<(), AllocError>
     ensures { OnOk result (out.new.items ≡ out.old.items
         ++ text_of (flat_map head_line_pieces lines.now)) }
 {
     for line in lines {
-        if !is_comdat(line) {
-            put_line(out, line)?;
-        }
+        put_head_line(out, line)?;
     }
     Ok(())
 }
@@ -41,9 +61,7 @@ pub(crate) fn put_comdats(out: &mut Vec<u8>, lines: &[Kept]) -> Result<(), Alloc
         ++ text_of (flat_map comdat_line_pieces lines.now)) }
 {
     for line in lines {
-        if is_comdat(line) {
-            put_line(out, line)?;
-        }
+        put_comdat(out, line)?;
     }
     Ok(())
 }
@@ -62,13 +80,24 @@ pub(crate) fn put_lines(out: &mut Vec<u8>, lines: &[Kept]) -> Result<(), AllocEr
 // Appends the type at a place.
 fn put_type_at(alloc: Global, out: &mut Vec<u8>, m: &Module, id: TypeId) -> Result<(), AllocError>
     requires types { AreTypes (type_names_of m.now) 0 m.now.types }
-    requires known { IsPrintable m.now id }
+    requires place { id.0 < length m.now.types }
     ensures { OnOk result (out.new.items ≡ out.old.items ++ text_of (type_at m.now id)) }
 {
     put_memory_type(alloc, out, m.types.as_slice(), m.type_names.as_slice(), id)
 }
 
-// Appends what the name of a type stands for, on a line, or nothing where it is missing.
+// Appends `%name = type `.
+fn put_definition(out: &mut Vec<u8>, name: &Name) -> Result<(), AllocError>
+    ensures { OnOk result (out.new.items ≡ out.old.items
+        ++ ((local_token name.now).text ++ codes " = type ")) }
+{
+    out.push(b'%')?;
+    put_name(out, name)?;
+    out.extend_from_slice(b" = type ")
+}
+
+// Appends a name of a type and what it stands for, on a line, or nothing where that is missing.
+#[tactic(auto, using(crate::proofs::Appended::definition_text, std::proofs::lemmas::Grind::common_steps))]
 fn put_type_name(
     alloc: Global,
     out: &mut Vec<u8>,
@@ -76,22 +105,24 @@ fn put_type_name(
     name: &TypeName,
 ) -> Result<(), AllocError>
     requires types { AreTypes (type_names_of m.now) 0 m.now.types }
-    requires known { IsNamedPrintable m.now name.now.ty }
+    requires place { IsNamedPlaced m.now.types name.now.ty }
     ensures { OnOk result (out.new.items ≡ out.old.items
         ++ text_of (type_name_pieces m.now name.now)) }
 {
-    if name.ty == NamedType::Missing {
-        return Ok(());
-    }
-    out.push(b'%')?;
-    put_name(out, &name.name)?;
-    out.extend_from_slice(b" = type ")?;
     match name.ty {
-        NamedType::Defined(id) => put_type_at(alloc, out, m, id)?,
-        _ => out.extend_from_slice(b"opaque")?,
+        NamedType::Missing => Ok(()),
+        NamedType::Opaque => {
+            put_definition(out, &name.name)?;
+            out.extend_from_slice(b"opaque\n")?;
+            Ok(())
+        }
+        NamedType::Defined(id) => {
+            put_definition(out, &name.name)?;
+            put_type_at(alloc, out, m, id)?;
+            out.push(b'\n')?;
+            Ok(())
+        }
     }
-    out.push(b'\n')?;
-    Ok(())
 }
 
 /// Appends the named types.
@@ -126,7 +157,7 @@ fn put_variable(
     writable: bool,
 ) -> Result<(), AllocError>
     requires types { AreTypes (type_names_of m.now) 0 m.now.types }
-    requires known { IsPrintable m.now id }
+    requires place { id.0 < length m.now.types }
     ensures { OnOk result (out.new.items ≡ out.old.items
         ++ text_of (variable_pieces m.now symbol.now id writable)) }
 {
@@ -142,6 +173,24 @@ fn put_variable(
     Ok(())
 }
 
+// Appends a symbol that is a variable, and nothing for another.
+fn put_symbol(
+    alloc: Global,
+    out: &mut Vec<u8>,
+    m: &Module,
+    symbol: &Symbol,
+) -> Result<(), AllocError>
+    requires types { AreTypes (type_names_of m.now) 0 m.now.types }
+    requires place { IsSymbolPlaced m.now symbol.now.kind }
+    ensures { OnOk result (out.new.items ≡ out.old.items
+        ++ text_of (symbol_pieces m.now symbol.now)) }
+{
+    match symbol.kind {
+        SymbolKind::Variable(id, writable) => put_variable(alloc, out, m, symbol, id, writable),
+        SymbolKind::Function(_) | SymbolKind::Missing => Ok(()),
+    }
+}
+
 /// Appends the variables.
 pub(crate) fn put_variables(
     alloc: Global,
@@ -153,9 +202,7 @@ pub(crate) fn put_variables(
         ++ text_of (flat_map (symbol_pieces m.now) m.now.symbols)) }
 {
     for symbol in m.symbols.as_slice() {
-        if let SymbolKind::Variable(id, writable) = symbol.kind {
-            put_variable(alloc, out, m, symbol, id, writable)?;
-        }
+        put_symbol(alloc, out, m, symbol)?;
     }
     Ok(())
 }

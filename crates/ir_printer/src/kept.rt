@@ -27,6 +27,12 @@ fn touch(previous: &[u8], text: &[u8]) -> bool
         || is_node(previous, text)
 }
 
+fn is_equal(text: &[u8]) -> bool
+    ensures { result ≡ same_text (codes "=") text.now }
+{
+    text == b"=".as_slice()
+}
+
 // Appends what parts two neighbours.
 fn put_between(out: &mut Vec<u8>, previous: &[u8], text: &[u8]) -> Result<(), AllocError>
     ensures { OnOk result (out.new.items ≡ out.old.items
@@ -49,8 +55,9 @@ fn put_from(out: &mut Vec<u8>, kept: &Kept, start: usize) -> Result<(), AllocErr
     }
     out.extend_from_slice(kept.at(start))?;
     for place in start + 1..kept.len() {
-        put_between(out, kept.at(place - 1), kept.at(place))?;
-        out.extend_from_slice(kept.at(place))?;
+        let text = kept.at(place);
+        put_between(out, kept.at(place - 1), text)?;
+        out.extend_from_slice(text)?;
     }
     Ok(())
 }
@@ -100,9 +107,10 @@ fn put_to_equal(out: &mut Vec<u8>, line: &Kept) -> Result<usize, AllocError>
         ≡ out.old.items ++ text_of (line_pieces line.now)) }
 {
     for place in 0..line.len() {
-        out.extend_from_slice(line.at(place))?;
+        let text = line.at(place);
+        out.extend_from_slice(text)?;
         out.push(b' ')?;
-        if line.at(place) == b"=".as_slice() {
+        if is_equal(text) {
             return Ok(place + 1);
         }
     }
@@ -110,6 +118,7 @@ fn put_to_equal(out: &mut Vec<u8>, line: &Kept) -> Result<usize, AllocError>
 }
 
 /// Appends a kept line and its line feed.
+#[tactic(auto, using(type_printer::proofs::Appended::text_of_both, std::proofs::lemmas::Grind::common_steps))]
 pub(crate) fn put_line(out: &mut Vec<u8>, line: &Kept) -> Result<(), AllocError>
     ensures { OnOk result (out.new.items ≡ out.old.items ++ text_of (whole_line line.now)) }
 {

@@ -10,7 +10,6 @@ mod function;
 mod item;
 mod kept;
 mod line;
-mod stub;
 #[cfg(test)]
 mod tests;
 mod value;
