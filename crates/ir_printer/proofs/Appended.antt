@@ -8,9 +8,9 @@ use Rattle.text_lex.proofs.Layouts.{text_of-append}
 use Rattle.ir_types.specs.declared.name.Name.{Name}
 use Rattle.ir_types.specs.declared.module.Function.{Function}
 use Rattle.ir_types.specs.Denotes.{tree_of_function}
-use Rattle.ir_types.specs.Tree.{InstTree, BlockTree}
-use Rattle.type_printer.specs.Pieces.{local_token, line_feed, separated}
-use Rattle.ir_printer.specs.Print.{kind_pieces, result_pieces, inst_pieces, block_pieces, body_pieces, function_pieces, parting, functions_behind, definition_pieces}
+use Rattle.ir_types.specs.Tree.{InstTree, BlockTree, FunctionTree}
+use Rattle.type_printer.specs.Pieces.{local_token, global_token, line_feed, separated, type_pieces}
+use Rattle.ir_printer.specs.Print.{kind_pieces, result_pieces, inst_pieces, block_pieces, kept_then_blank, blank_then_kept, params_pieces, function_word, head_pieces, body_pieces, function_pieces, parting, functions_behind, definition_pieces}
 
 pub inst_text : (i : InstTree) → text_of (inst_pieces i) ≡ (text_of (result_pieces i.result) ++ text_of (kind_pieces i.kind i.ty i.args i.labels)) ++ 10 ∷ []
 unfolding inst_pieces
@@ -18,6 +18,11 @@ inst_text i = simp (text_of-append, append_assoc)
 
 pub definition_text : (n : Name) (ps : List Piece) → text_of (definition_pieces n ps) ≡ ((local_token n).text ++ codes " = type ") ++ (text_of ps ++ 10 ∷ [])
 definition_text n ps = simp (text_of-append, append_assoc)
+
+pub head_text : (f : FunctionTree) → text_of (head_pieces f)
+    ≡ function_word f.body ++ (32 ∷ (text_of (kept_then_blank f.before) ++ (text_of (type_pieces f.ret) ++ (32 ∷ ((global_token f.name).text ++ (40 ∷ (text_of (params_pieces f) ++ (41 ∷ text_of (blank_then_kept f.after)))))))))
+unfolding head_pieces
+head_text f = simp (text_of-append, append_assoc)
 
 pub body_text : (bs : List BlockTree) → eqb (length bs) 0 ≡ false → text_of (body_pieces bs) ≡ codes " {\n" ++ (text_of (separated (line_feed ∷ []) (map block_pieces bs)) ++ codes "}\n")
 body_text [] e = absurd cc

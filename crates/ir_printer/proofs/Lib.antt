@@ -1,5 +1,9 @@
 pub mod Numbers
 pub mod Appended
+pub mod KeptPrinted
 pub mod Lines
 pub mod Grouped
-pub mod KeptPrinted
+pub mod Numbering
+pub mod Spelled
+pub mod SpelledFunctions
+pub mod LaidOut

@@ -1,11 +1,11 @@
 use Rattle.std.proofs.Common.{append_assoc}
-use Rattle.text_lex.proofs.Layouts.{text_of-append}
-use Rattle.ir_printer.specs.Print.{head_pieces}
+use Rattle.ir_types.specs.Denotes.{tree_of_function}
+use Rattle.ir_printer.proofs.Appended.{head_text}
 use Rattle.ir_printer.proofs.function.put_head.Goals as goal
 
 pub returns : goal.returns
-unfolding head_pieces
 returns c = rw (
+  head_text (tree_of_function c.args.function.now),
   c.in_ok-put_blank_then_kept.ensures,
   c.in_ok-push-3.ensures.items,
   c.in_ok-put_all_params.ensures,
@@ -17,4 +17,4 @@ returns c = rw (
   c.in_ok-push.ensures.items,
   c.in_ok-extend_from_slice.ensures.items,
   c.word_of_function.ensures,
-) (simp (text_of-append, append_assoc))
+) (simp append_assoc)
