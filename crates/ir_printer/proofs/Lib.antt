@@ -6,4 +6,7 @@ pub mod Grouped
 pub mod Numbering
 pub mod Spelled
 pub mod SpelledFunctions
+pub mod SpelledItems
 pub mod LaidOut
+pub mod LaidItems
+pub mod Printing

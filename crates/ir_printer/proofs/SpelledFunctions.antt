@@ -115,11 +115,24 @@ defined_says f b bs e h =
     (pair_says (in_parens (tokens_of (params_pieces f))) _ (between_says (tokens_of (params_pieces f)) kinds.LeftParen kinds.RightParen _ _ params)
     (pair_says (map token_of f.after) _ (kept_says after) (between_says (blocks_tokens (b ∷ bs)) kinds.LeftBrace kinds.RightBrace _ _ (some_says (10 ∷ []) block_says (b ∷ bs) (omega arith) blocks)))))))
 
+abbrev up_to_params : FunctionTree → List Lexeme → List Lexeme
+up_to_params f ts = map token_of f.before ++ (tokens_of (type_pieces f.ret) ++ (global_token f.name ∷ (in_parens (tokens_of (params_pieces f)) ++ ts)))
+
+declared_tokens : (f : FunctionTree) → f.body ≡ [] → tokens_of (function_pieces f) ≡ token kinds.Word (codes "declare") ∷ up_to_params f (map token_of f.after)
+declared_tokens f e =
+    function_tokens f ∙ ap (λ (bs : List BlockTree). token kinds.Word (function_word bs) ∷ up_to_params f (map token_of f.after ++ tokens_of (body_pieces bs))) e
+    ∙ ap (λ (ts : List Lexeme). token kinds.Word (codes "declare") ∷ up_to_params f ts) (append-nil (map token_of f.after))
+
+defined_tokens : (f : FunctionTree) (b : BlockTree) (bs : List BlockTree) → f.body ≡ b ∷ bs → tokens_of (function_pieces f) ≡ token kinds.Word (codes "define") ∷ up_to_params f (map token_of f.after ++ in_braces (blocks_tokens (b ∷ bs)))
+defined_tokens f b bs e =
+    function_tokens f ∙ ap (λ (cs : List BlockTree). token kinds.Word (function_word cs) ∷ up_to_params f (map token_of f.after ++ tokens_of (body_pieces cs))) e
+    ∙ ap (λ (ts : List Lexeme). token kinds.Word (codes "define") ∷ up_to_params f (map token_of f.after ++ ts)) (body_tokens b bs)
+
 -- What is printed of a function spells it as an item, whatever memory types are.
 pub function_says : (m : Form (List TypeNode)) (f : FunctionTree) → IsFunction f → Says (item m) (function_item (written_function f)) (tokens_of (function_pieces f))
 unfolding item item_words
 function_says m f h = by_body f.body refl
   where
     by_body : (bs : List BlockTree) → f.body ≡ bs → Says (item m) (function_item (written_function f)) (tokens_of (function_pieces f))
-    by_body [] e = rw (function_tokens f, e, append-nil (map token_of f.after)) (left_says (by_word_says (codes "declare") items.Declare refl (mapped_says (written_function f) _ refl (declared_says f e h))))
-    by_body (b ∷ bs) e = rw (function_tokens f, e, body_tokens b bs) (left_says (by_word_says (codes "define") items.Define refl (mapped_says (written_function f) _ refl (defined_says f b bs e h))))
+    by_body [] e = rw (declared_tokens f e) (left_says (by_word_says (codes "declare") items.Declare refl (mapped_says (written_function f) _ refl (declared_says f e h))))
+    by_body (b ∷ bs) e = rw (defined_tokens f b bs e) (left_says (by_word_says (codes "define") items.Define refl (mapped_says (written_function f) _ refl (defined_says f b bs e h))))
