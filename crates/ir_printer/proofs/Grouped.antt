@@ -48,7 +48,7 @@ abbrev pub tail_items : KeptTexts → List (Item FunctionTree)
 tail_items xs = cond (begins_group xs) (attribute_line xs) (metadata_line xs) ∷ []
 
 -- all, in the printed order
-pub printed_items : ModuleTree → List (Item FunctionTree)
+unfoldable pub printed_items : ModuleTree → List (Item FunctionTree)
 printed_items tree =
     flat_map head_items tree.head ++ (flat_map type_items tree.type_names ++ (flat_map comdat_items tree.head ++ (flat_map symbol_items tree.symbols ++ (flat_map function_items tree.functions ++ flat_map tail_items tree.tail))))
 

@@ -10,3 +10,4 @@ pub mod SpelledItems
 pub mod LaidOut
 pub mod LaidItems
 pub mod Printing
+pub mod Printed

@@ -24,17 +24,26 @@ use Rattle.ir_types.specs.Denotes.{type_names_of, nodes_in, named_in, type_name_
 use Rattle.ir_types.specs.Grammar.{memory_type, item}
 use Rattle.ir_types.specs.Tree.{KeptTexts, FunctionTree, Item, function_item, head_line, comdat_line, attribute_line, metadata_line}
 use Rattle.ir_shape.specs.Shape.{IsName, IsMemory, IsItem}
-use Rattle.type_printer.specs.Pieces.{line_feed, each_behind, separated}
+use Rattle.type_printer.specs.Pieces.{word, line_feed, each_behind, separated}
 use Rattle.type_printer.proofs.Says.{Says, none_says, more_says}
-use Rattle.type_printer.proofs.Laid.{IsLaid, loose, feed_laid}
+use Rattle.type_printer.proofs.Laid.{IsLaid, loose, nothing_behind, feed_laid}
 use Rattle.type_printer.proofs.MemoryPrinted.{memory_says, memory_laid}
 use Rattle.ir_printer.specs.Print.{function_pieces, parting, functions_behind, type_at, definition_pieces, named_pieces, type_name_pieces, variable_pieces, kind_of_symbol_pieces, symbol_pieces, is_comdat, whole_line, head_line_pieces, comdat_line_pieces, front_pieces, module_pieces}
 use Rattle.ir_printer.proofs.Lines.{begins_group}
 use Rattle.ir_printer.proofs.Grouped.{head_items, comdat_items, named_items, type_items, kind_items, symbol_items, function_items, tail_items, printed_items}
 use Rattle.ir_printer.proofs.Numbering.{written_item}
 use Rattle.ir_printer.proofs.SpelledFunctions.{function_says}
-use Rattle.ir_printer.proofs.SpelledItems.{head_says, comdat_says, group_says, metadata_says, defined_says, opaque_says, variable_says}
+use Rattle.ir_printer.proofs.SpelledItems.{head_says, comdat_says, group_says, metadata_says, defined_says, definition_within, opaque_says, variable_says, variable_within}
 use Rattle.ir_printer.proofs.LaidItems.{EndsLine, line_laid, function_laid, opaque_laid, definition_laid, variable_laid}
+
+-- the items that stand before the functions
+abbrev front_items : Module → List (Item FunctionTree)
+front_items m = flat_map head_items m.head ++ (flat_map (λ n. type_items (type_name_in m n)) m.type_names ++ (flat_map comdat_items m.head ++ flat_map (λ s. symbol_items (symbol_in m s)) m.symbols))
+
+-- in the printed order these are the first, and then those of the functions and of the tail
+items_parted : (m : Module) → printed_items (tree_of m) ≡ front_items m ++ (flat_map function_items (map tree_of_function m.functions) ++ flat_map tail_items m.tail)
+unfolding printed_items
+items_parted m = rw (flat_map-map type_items (type_name_in m) m.type_names, flat_map-map symbol_items (symbol_in m) m.symbols) (simp append_assoc)
 
 -- ---- pieces of items
 
@@ -72,11 +81,11 @@ behind_feed : (d : ℕ) (xs : List (Item FunctionTree)) (ps : List Piece) → Pr
 behind_feed d xs ps p = record { says = p.says; laid = record { before = λ qs g. loose (feed_laid (p.laid.before qs g)) } }
 
 -- for each of some parts, its items by its pieces
-all : {A : Type 0} (d : ℕ) (r : A → List (Item FunctionTree)) (pieces : A → List Piece) → ((a : A) → AllByRecursion IsItem (r a) → Prints d (r a) (pieces a)) → (as : List A) → AllByRecursion IsItem (flat_map r as) → Prints d (flat_map r as) (flat_map pieces as)
+all : {A : Type 0} (d : ℕ) (r : A → List (Item FunctionTree)) (pieces : A → List Piece) → ((a : A) → AllByRecursion IsItem (r a) → Prints d (r a) (pieces a)) → (parts : List A) → AllByRecursion IsItem (flat_map r parts) → Prints d (flat_map r parts) (flat_map pieces parts)
 all d r pieces each [] h = nothing d
-all d r pieces each (a ∷ as) h =
-    let k = each_split IsItem (r a) (flat_map r as) h in
-    both d (r a) (flat_map r as) (pieces a) (flat_map pieces as) (each a k.0) (all d r pieces each as k.1)
+all d r pieces each (a ∷ parts) h =
+    let k = each_split IsItem (r a) (flat_map r parts) h in
+    both d (r a) (flat_map r parts) (pieces a) (flat_map pieces parts) (each a k.0) (all d r pieces each parts k.1)
 
 -- ---- lines
 
@@ -116,13 +125,13 @@ module _ (m : Module) (listed : AreTypes (type_names_of m) 0 m.types) where
   type_laid_at id h = memory_laid (type_names_of m) m.types id listed h
 
   named_prints : (d : ℕ) (n : Name) (t : NamedType) → AllByRecursion IsItem (named_items n (named_in m t)) → Prints d (named_items n (named_in m t)) (named_pieces m n t)
-  named_prints d n (Defined id) h = one d _ (definition_pieces n (type_at m id)) (λ le. defined_says (memory_type d) n (nodes_in m id) (type_at m id) h.0.0 (type_printed d id h.0.1 ?)) (definition_laid n (type_at m id) h.0.0 (type_laid_at id h.0.1))
-  named_prints d n Opaque h = one d _ (definition_pieces n _) (λ le. opaque_says (memory_type d) n h.0.0) (definition_laid n _ h.0.0 opaque_laid)
+  named_prints d n (Defined id) h = one d _ (definition_pieces n (type_at m id)) (λ le. defined_says (memory_type d) n (nodes_in m id) (type_at m id) h.0.0 (type_printed d id h.0.1 (definition_within n (type_at m id) d le))) (definition_laid n (type_at m id) h.0.0 (type_laid_at id h.0.1))
+  named_prints d n Opaque h = one d _ (definition_pieces n (word (codes "opaque") ∷ [])) (λ le. opaque_says (memory_type d) n h.0.0) (definition_laid n (word (codes "opaque") ∷ []) h.0.0 opaque_laid)
   named_prints d n Missing h = nothing d
 
   kind_prints : (d : ℕ) (s : Symbol) (k : SymbolKind) → AllByRecursion IsItem (kind_items (symbol_in m s) (symbol_kind_in m k)) → Prints d (kind_items (symbol_in m s) (symbol_kind_in m k)) (kind_of_symbol_pieces m s k)
   kind_prints d s (Variable id writable) h =
-      one d _ (variable_pieces m s id writable) (λ le. variable_says m s id writable (memory_type d) (nodes_in m id) h.0.name h.0.before h.0.after (type_printed d id h.0.ty ?))
+      one d _ (variable_pieces m s id writable) (λ le. variable_says m s id writable (memory_type d) (nodes_in m id) h.0.name h.0.before h.0.after (type_printed d id h.0.ty (variable_within m s id writable d le)))
       (variable_laid m s id writable h.0.name h.0.before.tokens h.0.after.tokens (type_laid_at id h.0.ty))
   kind_prints d s (symbols.Function f) h = nothing d
   kind_prints d s symbols.Missing h = nothing d
@@ -143,3 +152,36 @@ parted_prints d (c ∷ cs) xs ps p = behind_feed d xs ps p
 functions_print : (d : ℕ) (text : List ℕ) (fs : List FunctionTree) → AllByRecursion IsItem (flat_map function_items fs) → Prints d (flat_map function_items fs) (functions_behind text (map function_pieces fs))
 functions_print d text [] h = nothing d
 functions_print d text (f ∷ fs) h = parted_prints d text _ (separated (line_feed ∷ []) (map function_pieces (f ∷ fs))) (both d (function_items f) _ (function_pieces f) _ (function_prints d f (h.0, tt)) (each_prints d fs h.1))
+
+-- ---- the whole
+
+front_prints : (d : ℕ) (m : Module) → AreTypes (type_names_of m) 0 m.types → AllByRecursion IsItem (front_items m) → Prints d (front_items m) (front_pieces m)
+unfolding front_pieces
+front_prints d m listed h =
+    let heads = each_split IsItem (flat_map head_items m.head) _ h in
+    let types = each_split IsItem (flat_map (λ n. type_items (type_name_in m n)) m.type_names) _ heads.1 in
+    let comdats = each_split IsItem (flat_map comdat_items m.head) _ types.1 in
+    both d _ _ (flat_map head_line_pieces m.head) _ (all d head_items head_line_pieces (head_prints d) m.head heads.0)
+    (both d _ _ (flat_map (type_name_pieces m) m.type_names) _ (all d (λ n. type_items (type_name_in m n)) (type_name_pieces m) (λ n. named_prints m listed d n.name n.ty) m.type_names types.0)
+    (both d _ _ (flat_map comdat_line_pieces m.head) _ (all d comdat_items comdat_line_pieces (comdat_prints d) m.head comdats.0)
+    (all d (λ s. symbol_items (symbol_in m s)) (symbol_pieces m) (λ s. kind_prints m listed d s s.kind) m.symbols comdats.1)))
+
+pub record IsPrinted (m : Module) : Type 0 where
+  pub says : Says (many (item (memory_type (length (tokens_of (module_pieces m)))))) (map written_item (printed_items (tree_of m))) (tokens_of (module_pieces m))
+  pub laid : IsLaid (module_pieces m)
+
+whole_prints : (d : ℕ) (m : Module) → AreTypes (type_names_of m) 0 m.types → AllByRecursion IsItem (printed_items (tree_of m)) → Prints d (printed_items (tree_of m)) (module_pieces m)
+unfolding module_pieces
+whole_prints d m listed h =
+    let k : AllByRecursion IsItem (front_items m ++ (flat_map function_items (map tree_of_function m.functions) ++ flat_map tail_items m.tail)) = rw (items_parted m) at h in
+    let front = each_split IsItem (front_items m) _ k in
+    let functions = each_split IsItem (flat_map function_items (map tree_of_function m.functions)) _ front.1 in
+    rw (items_parted m) (both d _ _ (front_pieces m) _ (front_prints d m listed front.0)
+    (both d _ _ (functions_behind (text_of (front_pieces m)) (map function_pieces (map tree_of_function m.functions))) _ (functions_print d (text_of (front_pieces m)) (map tree_of_function m.functions) functions.0)
+    (all d tail_items whole_line (tail_prints d) m.tail functions.1)))
+
+-- What is printed of a module spells its items and joins.
+pub module_printed : (m : Module) → AreTypes (type_names_of m) 0 m.types → AllByRecursion IsItem (printed_items (tree_of m)) → IsPrinted m
+module_printed m listed h =
+    let p = whole_prints (length (tokens_of (module_pieces m))) m listed h in
+    record { says = p.says (omega arith); laid = subst IsLaid (append-nil (module_pieces m)) (p.laid.before [] (loose nothing_behind)) }

@@ -1,5 +1,5 @@
 -- The tokens that lines, named types and variables are printed as spell them as items.
-use Rattle.std.proofs.Common.{◌≡◌, ◌<◌, ◌≤◌, ℕ, Bool, true, false, List, [], ◌∷◌, ◌++◌, length, Option, Some, None, refl, sym, ap, ◌∙◌, subst, append_assoc, arith, inl, inr}
+use Rattle.std.proofs.Common.{◌≡◌, ◌<◌, ◌≤◌, ℕ, Bool, true, false, List, [], ◌∷◌, ◌++◌, length, Option, Some, None, refl, sym, ap, ◌∙◌, subst, append_assoc, arith, inl, inr, length-append}
 use Rattle.std.specs.Prelude.{map, codes}
 use Rattle.std.proofs.lemmas.List.{append-nil}
 use Rattle.forms.specs.declared.TokenKind.TheVariants as kinds
@@ -62,6 +62,10 @@ unfolding item type_definition
 defined_says m n nodes ps h p =
     rw (definition_tokens n ps) (right_says (right_says (right_says (left_says (made_says _ _ (rw (local_again n h) refl) (ahead_says kinds.Local _ (after_mark_says kinds.Equal _ (behind_says (codes "type") (left_says (mapped_says nodes _ refl p))))))))))
 
+-- a type has no more tokens than its definition
+pub definition_within : (n : Name) (ps : List Piece) (d : ℕ) → length (tokens_of (definition_pieces n ps)) ≤ d → length (tokens_of ps) ≤ d
+definition_within n ps d le = omega (arith, ap length (definition_tokens n ps))
+
 pub opaque_says : (m : Form (List TypeNode)) (n : Name) → IsName n → Says (item m) (type_item n None) (tokens_of (definition_pieces n (word (codes "opaque") ∷ [])))
 unfolding item type_definition
 opaque_says m n h =
@@ -87,3 +91,8 @@ unfolding item variable_definition
 variable_says m s id writable f nodes h before after p =
     rw (variable_tokens m s id writable) (right_says (right_says (right_says (right_says (made_says (64 ∷ name_text s.name, (s.before, (writable, (nodes, s.after)))) _ (rw (global_again s.name h) refl) (ahead_says kinds.Global _ (after_mark_says kinds.Equal _
     (pair_says (map token_of s.before) _ (kept_says before) (pair_says (token kinds.Word (print.variable_word writable) ∷ []) _ (word_tokens writable) (pair_says (tokens_of (type_at m id)) _ p (kept_says after)))))))))))
+
+-- nor has that of a variable
+pub variable_within : (m : Module) (s : Symbol) (id : TypeId) (writable : Bool) (d : ℕ) → length (tokens_of (variable_pieces m s id writable)) ≤ d → length (tokens_of (type_at m id)) ≤ d
+variable_within m s id writable d le =
+    omega (arith, ap length (variable_tokens m s id writable), length-append (map token_of s.before) (token kinds.Word (print.variable_word writable) ∷ (tokens_of (type_at m id) ++ map token_of s.after)), length-append (tokens_of (type_at m id)) (map token_of s.after))

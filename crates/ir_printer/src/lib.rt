@@ -36,7 +36,7 @@ fn put_front(alloc: Global, m: &Module, out: &mut Vec<u8>) -> Result<(), AllocEr
 /// # Errors
 ///
 /// Where there is no room for the text; then nothing is appended.
-#[tactic(auto, unfolding(crate::specs::Print::module_pieces), using(ir_shape::proofs::Known::readable_known))]
+#[tactic(auto, unfolding(crate::specs::Print::module_pieces), using(crate::proofs::Printed::readable_functions, crate::proofs::Printed::printed_reads, type_printer::proofs::Appended::text_of_both, std::proofs::lemmas::Grind::common_steps))]
 pub fn print_module(alloc: Global, m: &Module, out: &mut Vec<u8>) -> Result<(), AllocError>
     requires { IsReadable m.now }
     ensures text { OnOk result (out.new.items ≡ out.old.items

@@ -1,0 +1,41 @@
+-- What is printed of a module that some text reads as reads as that module.
+use Rattle.std.proofs.Common.{◌≡◌, Some, refl, ap}
+use Rattle.std.specs.Prelude.{map}
+use Rattle.std.specs.List.{AllByRecursion}
+use Rattle.text_lex.specs.Layout.{text_of, tokens_of}
+use Rattle.text_lex.proofs.Layouts.{pieces_lexed}
+use Rattle.ir_types.specs.declared.module.Module.{Module}
+use Rattle.ir_types.specs.Denotes.{tree_of, tree_of_function}
+use Rattle.ir_types.specs.Grammar.{SpellsModule, module_form}
+use Rattle.ir_types.specs.Reads.{Reads, IsReadable}
+use Rattle.ir_shape.specs.Shape.{IsFunction, IsModule}
+use Rattle.ir_shape.proofs.Known.{readable_known}
+use Rattle.ir_printer.specs.Print.{module_pieces}
+use Rattle.ir_printer.proofs.Grouped.{printed_items, printed_known, printed_collected, functions_known}
+use Rattle.ir_printer.proofs.Numbering.{written_item, numbered_again}
+use Rattle.ir_printer.proofs.Printing.{IsPrinted, module_printed}
+
+spells_module : (m : Module) → IsPrinted m → SpellsModule (map written_item (printed_items (tree_of m))) (tokens_of (module_pieces m))
+unfolding module_form
+spells_module m p = p.says.spells
+
+pub printed_reads : (m : Module) → IsReadable m → Reads (text_of (module_pieces m)) m
+printed_reads m (text, r) =
+    let shape : IsModule (tree_of m) = readable_known m (text, r) in
+    let known = printed_known (tree_of m) shape in
+    let printed = module_printed m r.denotes.types known in
+    record {
+      tokens = tokens_of (module_pieces m);
+      written = map written_item (printed_items (tree_of m));
+      numbered = printed_items (tree_of m);
+      resolved = tree_of m;
+      lexes = pieces_lexed (module_pieces m) printed.laid.tokens printed.laid.joined;
+      spelled = spells_module m printed;
+      numbers = numbered_again (printed_items (tree_of m)) known;
+      resolves = ap Some (printed_collected (tree_of m) shape);
+      denotes = record { says = refl; tables = r.denotes.tables; types = r.denotes.types; extents = r.denotes.extents };
+    }
+
+-- Each of its functions has the shape of one.
+pub readable_functions : (m : Module) → IsReadable m → AllByRecursion IsFunction (map tree_of_function m.functions)
+readable_functions m r = functions_known (tree_of m) (readable_known m r)
