@@ -126,11 +126,7 @@ fn put_type_name(
 }
 
 /// Appends the named types.
-pub(crate) fn put_type_names(
-    alloc: Global,
-    out: &mut Vec<u8>,
-    m: &Module,
-) -> Result<(), AllocError>
+pub(crate) fn put_type_names(alloc: Global, out: &mut Vec<u8>, m: &Module) -> Result<(), AllocError>
     requires { IsReadable m.now }
     ensures { OnOk result (out.new.items ≡ out.old.items
         ++ text_of (flat_map (type_name_pieces m.now) m.now.type_names)) }
@@ -192,11 +188,7 @@ fn put_symbol(
 }
 
 /// Appends the variables.
-pub(crate) fn put_variables(
-    alloc: Global,
-    out: &mut Vec<u8>,
-    m: &Module,
-) -> Result<(), AllocError>
+pub(crate) fn put_variables(alloc: Global, out: &mut Vec<u8>, m: &Module) -> Result<(), AllocError>
     requires { IsReadable m.now }
     ensures { OnOk result (out.new.items ≡ out.old.items
         ++ text_of (flat_map (symbol_pieces m.now) m.now.symbols)) }
