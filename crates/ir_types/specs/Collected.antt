@@ -66,7 +66,7 @@ has_name n names = list_any (same_name n) names
 -- those of some names that are not known, each once, in their order
 abbrev pub unknown : (known names : List Name) → List Name
 unknown known [] = []
-unknown known (n ∷ ns) = if has_name n known then unknown known ns else n ∷ unknown (n ∷ known) ns
+unknown known (n ∷ ns) = if has_name n known then unknown known ns else n ∷ unknown (known ++ n ∷ []) ns
 
 -- the names that types and then variables use
 abbrev pub all_used : List TypeNameTree → List VariableTree → List Name

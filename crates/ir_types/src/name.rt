@@ -2,7 +2,7 @@
 ghost use Rattle.std.specs.Prelude.{◌≡◌, ◌<◌, ◌^◌, ◌==◌, [], IfOk, OnOk, OnErr, length, slice_get};
 
 use indexmap::IndexSet;
-use lists::Text;
+use lists::{Copies, Text};
 use std::alloc::{AllocError, Global};
 use std::marker::Model;
 
@@ -13,6 +13,15 @@ pub enum Name {
     Text(Text),
     /// A number, which is another name than the text of its digits.
     Number(u32),
+}
+
+impl Copies for Name {
+    fn copy(&self) -> Result<Self, AllocError> {
+        match self {
+            Name::Text(text) => Ok(Name::Text(text.copy()?)),
+            Name::Number(number) => Ok(Name::Number(*number)),
+        }
+    }
 }
 
 /// The place of a name in its table of names, the first of which stands at 0.
@@ -87,6 +96,17 @@ impl Names {
         }
         let (place, _) = self.set.insert_full(name)?;
         Ok(ValueId(place as u32))
+    }
+}
+
+impl Copies for Names {
+    fn copy(&self) -> Result<Self, AllocError> {
+        let mut copy = Names::new(*self.set.allocator());
+        for place in 0..self.len() {
+            let name = self.get(ValueId(place as u32)).copy()?;
+            copy.add(name)?;
+        }
+        Ok(copy)
     }
 }
 

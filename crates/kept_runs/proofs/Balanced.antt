@@ -1,12 +1,10 @@
 -- Keeping a balanced list token by token, with a stack of what is awaited.
-use Rattle.std.proofs.Common.{◌≡◌, ℕ, Bool, true, false, ◌&&◌, List, [], ◌∷◌, ◌++◌, Option, Some, None, refl, sym, ap, ◌∙◌, append_assoc}
+use Rattle.std.proofs.Common.{◌≡◌, ℕ, true, false, ◌&&◌, List, [], ◌∷◌, ◌++◌, Some, None, refl, sym, ap, ◌∙◌, append_assoc}
 use Rattle.std.proofs.lemmas.List.{append-nil}
 use Rattle.forms.specs.declared.TokenKind.{TokenKind}
-use Rattle.forms.specs.Form.{Lexeme, Stops, enclosed, mapped, is_empty, step, stops_at}
-use Rattle.forms.specs.Gives.{mark}
+use Rattle.forms.specs.Form.{Lexeme, Stops, is_empty, step, stops_at}
 use Rattle.forms.specs.Machine.{behind}
-use Rattle.forms.specs.Reading.{◌>>=◌, ends, read, read_one, read_inside, read_up_to}
-use Rattle.forms.proofs.Parts.{some_is}
+use Rattle.forms.specs.Reading.{◌>>=◌, ends, read_inside, read_up_to}
 use Rattle.kept_runs.proofs.Behind.{Reads}
 
 -- a text before the others

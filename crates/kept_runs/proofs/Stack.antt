@@ -1,5 +1,5 @@
 -- A stack with its top at the end of a list.
-use Rattle.std.proofs.Common.{◌≡◌, Bool, true, false, cond, ◌&&◌, List, [], ◌∷◌, ◌++◌, reverse, eqb, Option, Some, None, refl, sym, ap, ◌∙◌, inl, inr}
+use Rattle.std.proofs.Common.{◌≡◌, Bool, true, cond, ◌&&◌, List, [], ◌∷◌, ◌++◌, reverse, eqb, Option, Some, None, refl, sym, ap, ◌∙◌, inl, inr}
 use Rattle.std.proofs.lemmas.List.{reverse-append}
 use Rattle.std.specs.List.{list_any}
 use denote.Enum.Bare.{sameb, same_true, same_false}
@@ -7,7 +7,7 @@ use Rattle.forms.specs.declared.TokenKind.{TokenKind}
 use Rattle.forms.specs.contracts.TokenKind.{the_type}
 use Rattle.forms.specs.Form.{kind_code, closed, is_empty, has_kind}
 use Rattle.forms.specs.Reading.{ends}
-use Rattle.forms.proofs.Begins.{test, not_both}
+use Rattle.forms.proofs.Begins.{test}
 use Rattle.forms.proofs.Tokens.{same_kind, kind_is}
 
 -- the code's test of two kinds

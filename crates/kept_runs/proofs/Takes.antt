@@ -1,6 +1,6 @@
 -- A piece of a run takes a token, and so does an attachment.
 use Rattle.std.proofs.Common.{◌≡◌, ℕ, List, false, refl}
-use Rattle.forms.specs.Kept.{kept_piece, metadata_node, attachment}
+use Rattle.forms.specs.Kept.{kept_piece, attachment}
 use Rattle.forms.specs.Reading.{nullable}
 
 pub piece_takes : (excluded : List (List ℕ)) → nullable (kept_piece excluded) ≡ false

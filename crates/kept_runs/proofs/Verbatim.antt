@@ -1,12 +1,12 @@
 -- What is kept is what stands in the text.
-use Rattle.std.proofs.Common.{◌≡◌, ℕ, Bool, List, [], ◌∷◌, ◌++◌, codes, Option, Some, None, refl, sym, ap, ◌∙◌, inl, inr}
+use Rattle.std.proofs.Common.{◌≡◌, ℕ, Bool, List, [], ◌∷◌, ◌++◌, codes, Option, Some, None, sym, ap, ◌∙◌, inl, inr}
 use Rattle.std.proofs.lemmas.List.{map-append}
 use Rattle.std.proofs.lemmas.Option.{cond_some}
 use Rattle.forms.specs.declared.TokenKind.{TokenKind}
-use Rattle.forms.specs.declared.TokenKind.TheVariants.{Quoted, Word, Number, Comma, Metadata, AttributeGroup, Bang, Equal, LeftParen, RightParen, LeftBrace, RightBrace}
+use Rattle.forms.specs.declared.TokenKind.TheVariants.{Quoted, Word, Number, Metadata, AttributeGroup, Bang, Equal, LeftParen, RightParen, LeftBrace, RightBrace}
 use Rattle.forms.specs.Combined.{or_none}
-use Rattle.forms.specs.Form.{Lexeme, Form, Stops, exactly, one, one_but, ahead, enclosed, up_to, pair, either, mapped, made, optional, many, Spells, InOrder, IfThere, texts}
-use Rattle.forms.specs.Kept.{kept_one, kept_token, kept_if, kept_such, perhaps, in_parens, in_braces, kept_word, kept_numbered, kept_string, kept_piece, kept_run, is_numbered, is_named, metadata_node, attachment, attachments, kept_behind_comma}
+use Rattle.forms.specs.Form.{Lexeme, Form, Stops, one_but, enclosed, up_to, either, mapped, many, Spells, InOrder, IfThere, texts}
+use Rattle.forms.specs.Kept.{kept_one, kept_token, kept_such, perhaps, in_parens, in_braces, kept_word, kept_numbered, kept_string, kept_piece, kept_run, is_numbered, is_named, metadata_node, attachment, attachments, kept_behind_comma}
 use Rattle.forms.specs.Lexical.{kind_of, LexesTo, here, space, comment, token}
 use Rattle.forms.specs.Nested.{concat, joined}
 use Rattle.forms.proofs.MarkTexts.{left_paren, right_paren, left_brace, right_brace}

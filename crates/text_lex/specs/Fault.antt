@@ -7,7 +7,7 @@ use Rattle.forms.specs.Lexical.{Lexes, Places, StopsAt}
 use Rattle.forms.specs.View.{lexeme_in, lexemes}
 use Rattle.text_lex.specs.declared.TheConstants.{TEXT_LIMIT}
 use Rattle.text_lex.specs.declared.fault.TextFault.{TextFault}
-use Rattle.text_lex.specs.declared.fault.TextFault.TheVariants.{BadToken, LeftOut, TextLimit, NoReading, Memory}
+use Rattle.text_lex.specs.declared.fault.TextFault.TheVariants.{BadToken, LeftOut, TextLimit, NoReading, CountLimit, Memory}
 
 -- the text has tokens, and this word, which starts here, is the first of them that is left out
 pub record IsLeftOutAt (text word : List ℕ) (offset : ℕ) : Type 0 where
@@ -28,10 +28,11 @@ pub record HasNoneLeftOut (text : List ℕ) : Type 0 where
   pub none : NoneLeftOut tokens
 
 -- the fault is one of the text: more bytes than the limit, the first place where no token begins, or the first token that is left out; that
--- nothing is read is no fault that finding the tokens has
+-- nothing is read, or that a module is too large, is no fault that finding the tokens has
 abbrev pub IsFaultOf : List ℕ → TextFault → Type 0
 IsFaultOf text (BadToken place) = (length text ≤ TEXT_LIMIT) × StopsAt text place
 IsFaultOf text (LeftOut word offset) = (length text ≤ TEXT_LIMIT) × IsLeftOutAt text word offset
 IsFaultOf text (TextLimit size) = (size ≡ length text) × (TEXT_LIMIT < length text)
 IsFaultOf text (NoReading place) = ⊥
+IsFaultOf text (CountLimit count n) = ⊥
 IsFaultOf text Memory = Unit {0}

@@ -7,6 +7,19 @@ use lists::Text;
 use std::alloc::{AllocError, AllocFailed};
 use thiserror::Error;
 
+/// What of a module is counted, against a limit for each.
+#[derive(Clone, Copy, Debug, PartialEq, Eq)]
+pub enum Count {
+    /// Its functions, defined and declared: at most 4,096.
+    Functions,
+    /// The blocks of all functions: at most 65,536.
+    Blocks,
+    /// The instructions of all functions: at most 1,000,000.
+    Instructions,
+    /// The bytes of a name that isn't a number: at most 255.
+    Name,
+}
+
 /// Why nothing is made of a text: no list of tokens, or none of what the tokens are read as.
 #[derive(Debug, Drop, PartialEq, Eq, Error)]
 pub enum TextFault {
@@ -22,6 +35,9 @@ pub enum TextFault {
     /// Reading stopped at this place.
     #[error("reading stopped here")]
     NoReading(u32),
+    /// The module has so many of these, or a name of so many bytes, which is above the limit.
+    #[error("a limit is passed")]
+    CountLimit(Count, u64),
     /// There was no memory for what is made of the text.
     #[error("out of memory")]
     Memory,

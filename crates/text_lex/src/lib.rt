@@ -20,7 +20,7 @@ mod table;
 mod tests;
 
 use crate::blanks::blank;
-pub use crate::fault::TextFault;
+pub use crate::fault::{Count, TextFault};
 use crate::left_out::refuse_left_out;
 use crate::names::{NameRun, run_at};
 use crate::table::token_at;

@@ -1,5 +1,5 @@
 -- The pieces that a memory type is printed as are tokens and join.
-use Rattle.std.proofs.Common.{◌≡◌, ◌<◌, ◌^◌, ℕ, Bool, true, false, List, [], ◌∷◌, ◌++◌, refl, arith}
+use Rattle.std.proofs.Common.{◌<◌, ◌^◌, ℕ, Bool, true, false, List, [], ◌∷◌, ◌++◌, refl, arith}
 use Rattle.std.specs.Prelude.{map, codes, decimal}
 use Rattle.std.specs.List.{AllByRecursion}
 use Rattle.forms.specs.declared.TokenKind.TheVariants as kinds

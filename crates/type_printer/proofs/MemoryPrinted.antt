@@ -1,5 +1,5 @@
 -- What is printed of a memory type are tokens that spell its nodes.
-use Rattle.std.proofs.Common.{◌≡◌, ◌<◌, ◌+◌, ◌^◌, ◌≤◌, ℕ, zero, suc, Bool, true, false, List, [], ◌∷◌, ◌++◌, length, length-append, below_more, refl, sym, ap, ◌∙◌, subst, arith, inl, inr}
+use Rattle.std.proofs.Common.{◌≡◌, ◌<◌, ◌+◌, ◌^◌, ◌≤◌, ℕ, zero, suc, Bool, true, false, List, [], ◌∷◌, ◌++◌, length, length-append, below_more, refl, ap, ◌∙◌, subst, arith}
 use Rattle.std.specs.Prelude.{map}
 use Rattle.std.specs.List.{AllByRecursion}
 use Rattle.std.proofs.Math.ListN.{get_or-append}
@@ -14,10 +14,10 @@ use Rattle.ir_types.specs.declared.memory_type.MemTy.{MemTy}
 use Rattle.ir_types.specs.declared.memory_type.MemTy.TheVariants.{One, Array, Struct, Named}
 use Rattle.ir_types.specs.Names.{name_at}
 use Rattle.ir_types.specs.Types.{IsBefore, IsTypeAt, AreTypes}
-use Rattle.ir_types.specs.TypeNodes.{TypeNode, scalar, called, array, opening, closing, nodes_at, nodes_from, all_nodes, type_nodes}
+use Rattle.ir_types.specs.TypeNodes.{TypeNode, array, opening, closing, nodes_at, nodes_from, all_nodes, type_nodes}
 use Rattle.ir_types.specs.Grammar.{memory_leaf, memory_type}
 use Rattle.ir_shape.specs.Shape.{IsNode, IsMemory}
-use Rattle.type_printer.specs.Pieces.{comma, blank, right_bracket, each_behind, local_token, type_pieces}
+use Rattle.type_printer.specs.Pieces.{blank, right_bracket}
 use Rattle.type_printer.specs.MemoryPieces.{pieces_at, array_head, struct_head, struct_end, inside, memory_pieces_from, all_memory_pieces, memory_pieces}
 use Rattle.type_printer.proofs.Says.{Says, left_says, right_says, mapped_says}
 use Rattle.type_printer.proofs.Spelled.{local_says, type_says}
@@ -53,7 +53,7 @@ struct_length p q rest = ap length (struct_tokens p q rest) ∙ simp length-appe
 -- a depth that is enough for the struct is one more than what is enough for its members
 struct_deep : (d : ℕ) (p : Bool) (nodes : List (List TypeNode)) (pieces : List (List Piece)) (ids : List TypeId) → AllByRecursion (IsPrinted nodes pieces) ids
     → length (tokens_of (struct_head p ++ (inside (map (λ id. pieces_at pieces id.0) ids) ++ struct_end p))) ≤ d → (e : ℕ) × (d ≡ suc e) × AllByRecursion (IsSaid e nodes pieces) ids
-struct_deep zero p nodes pieces ids h le = let n = head_length p in let m = length-append {A = Lexeme} in absurd (omega (arith, ap length (tokens_of-append (struct_head p) (inside (map (λ id. pieces_at pieces id.0) ids) ++ struct_end p)), length-append {A = Lexeme}))
+struct_deep zero p nodes pieces ids h le = let n = head_length p in absurd (omega (arith, ap length (tokens_of-append (struct_head p) (inside (map (λ id. pieces_at pieces id.0) ids) ++ struct_end p)), length-append {A = Lexeme}))
 struct_deep (suc d) p nodes pieces [] h le = (d, refl, tt)
 struct_deep (suc d) p nodes pieces (id ∷ ids) h le =
     let n = head_length p in

@@ -1,24 +1,20 @@
 -- What is still to be printed of memory types that are begun.
-use Rattle.std.proofs.Common.{◌≡◌, ◌<◌, ◌+◌, ◌≤◌, ℕ, zero, suc, Bool, true, false, List, [], ◌∷◌, ◌++◌, length, length-append, Some, None, below_more, get_or, drop, add-one, refl, sym, ap, ◌∙◌, subst, append_assoc, arith}
+use Rattle.std.proofs.Common.{◌≡◌, ◌<◌, ◌+◌, ◌≤◌, ℕ, zero, suc, true, false, List, [], ◌∷◌, ◌++◌, length, Some, None, get_or, drop, refl, ap, subst, append_assoc, arith}
 use Rattle.std.specs.Prelude.{map, nat_lt, slice_get}
 use Rattle.std.specs.List.{AllByRecursion}
-use Rattle.std.proofs.Math.ListN.{get_or-append}
-use Rattle.std.proofs.Math.Seq.{get_or-append_seam}
-use Rattle.std.proofs.lemmas.List.{append-nil, drop_all}
+use Rattle.std.proofs.lemmas.List.{drop_all}
 use Rattle.std.proofs.lemmas.Option.{slice_get_within}
 use Rattle.std.proofs.lemmas.Bool.Decides.{nat_tests}
-use Rattle.text_lex.specs.Layout.{Piece, text_of}
-use Rattle.text_lex.proofs.Layouts.{text_of-append}
+use Rattle.text_lex.specs.Layout.{Piece}
 use Rattle.ir_types.specs.declared.name.Name.{Name}
 use Rattle.ir_types.specs.declared.inst.Ty.TheVariants.{Void}
 use Rattle.ir_types.specs.declared.memory_type.TypeId.{TypeId}
 use Rattle.ir_types.specs.declared.memory_type.MemTy.{MemTy}
 use Rattle.ir_types.specs.declared.memory_type.MemTy.TheVariants.{One, Array, Struct, Named}
 use Rattle.ir_types.specs.Types.{IsBefore, IsTypeAt, AreTypes}
-use Rattle.type_printer.specs.declared.memory_type.Frame.{Frame}
 use Rattle.type_printer.specs.Pieces.{comma, blank, each_behind}
-use Rattle.type_printer.specs.MemoryPieces.{pieces_at, array_head, struct_head, struct_end, memory_pieces_from, all_memory_pieces, memory_pieces}
-use Rattle.type_printer.specs.Parts.{HasItsName, parts_of, front_pieces, end_pieces, up_to_part}
+use Rattle.type_printer.specs.MemoryPieces.{pieces_at, struct_head, struct_end, memory_pieces_from}
+use Rattle.type_printer.specs.Parts.{HasItsName, parts_of, end_pieces, up_to_part}
 
 -- ---- a type, of which so many parts are printed
 

@@ -1,9 +1,7 @@
 -- What a memory type is printed as spells its nodes.
-use Rattle.std.proofs.Common.{◌≡◌, ◌<◌, ◌+◌, ◌^◌, ◌≤◌, ℕ, zero, suc, Bool, true, false, List, [], ◌∷◌, ◌++◌, length, Some, refl, sym, ap, ◌∙◌, subst, append_assoc, arith, inl, inr}
+use Rattle.std.proofs.Common.{◌≡◌, ◌<◌, ◌^◌, ℕ, zero, suc, Bool, true, false, List, [], ◌∷◌, ◌++◌, Some, refl, sym, ap, append_assoc, arith}
 use Rattle.std.specs.Prelude.{map, codes, decimal, nat_lt}
 use Rattle.std.specs.List.{AllByRecursion}
-use Rattle.std.proofs.Math.ListN.{get_or-append}
-use Rattle.std.proofs.Math.Seq.{get_or-append_seam}
 use Rattle.std.proofs.lemmas.List.{append-nil}
 use Rattle.std.proofs.lemmas.Bool.Decides.{nat_tests}
 use Rattle.forms.specs.declared.TokenKind.TheVariants as kinds
@@ -14,23 +12,15 @@ use Rattle.text_lex.specs.Names.{is_digits}
 use Rattle.text_lex.specs.Layout.{Piece, tokens_of}
 use Rattle.text_lex.proofs.Decimals.{decimal_digits, number_of-decimal}
 use Rattle.text_lex.proofs.Layouts.{tokens_of-append}
-use Rattle.ir_types.specs.declared.name.Name.{Name}
-use Rattle.ir_types.specs.declared.inst.Ty.{Ty}
 use Rattle.ir_types.specs.declared.memory_type.TypeId.{TypeId}
-use Rattle.ir_types.specs.declared.memory_type.MemTy.{MemTy}
-use Rattle.ir_types.specs.declared.memory_type.MemTy.TheVariants.{One, Array, Struct, Named}
-use Rattle.ir_types.specs.Names.{name_at}
 use Rattle.ir_types.specs.Written.{number_of}
-use Rattle.ir_types.specs.Types.{IsBefore, IsTypeAt, AreTypes, IsType}
-use Rattle.ir_types.specs.TypeNodes.{TypeNode, scalar, called, array, opening, closing, nodes_at, nodes_from, all_nodes, type_nodes}
+use Rattle.ir_types.specs.TypeNodes.{TypeNode, array, opening, closing, nodes_at}
 use Rattle.ir_types.specs.Grammar.{elements_of, memory_leaf, array_begin, type_parts, memory_type}
-use Rattle.ir_shape.specs.Shape.{IsName, IsNode, IsMemory}
-use Rattle.type_printer.specs.Pieces.{token, comma, blank, right_bracket, local_token, each_behind, with_commas, type_pieces}
+use Rattle.type_printer.specs.Pieces.{token, comma, blank, right_bracket, each_behind}
 use Rattle.type_printer.specs.MemoryPieces as pieces_of
 use Rattle.type_printer.specs.MemoryPieces.{pieces_at, array_head, inside, memory_pieces_from, all_memory_pieces, memory_pieces}
 use Rattle.type_printer.proofs.Numbers.{no_sign}
 use Rattle.type_printer.proofs.Says.{Says, none_says, more_says, pair_says, left_says, right_says, mapped_says, made_says, one_says, exactly_says, mark_says, ahead_says, after_mark_says}
-use Rattle.type_printer.proofs.Spelled.{local_says, type_says}
 
 -- ---- the parts of the form
 

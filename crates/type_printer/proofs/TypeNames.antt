@@ -1,7 +1,6 @@
 -- The name at a place of a list of named things.
 use Rattle.std.proofs.Common.{◌≡◌, ◌<◌, ℕ, zero, suc, List, [], ◌∷◌, length, get_or, sym, ap, arith}
 use Rattle.std.specs.Prelude.{map}
-use Rattle.ir_types.specs.declared.name.Name.{Name}
 use Rattle.ir_types.specs.declared.memory_type.TypeName.{TypeName}
 use Rattle.ir_types.specs.Names.{name_at}
 

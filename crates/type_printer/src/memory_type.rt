@@ -34,11 +34,7 @@ fn parts(ty: &MemTy) -> &[TypeId]
 }
 
 /// Appends `%name` for a place in the list of type names.
-pub fn put_type_name(
-    out: &mut Vec<u8>,
-    names: &[TypeName],
-    name: u32,
-) -> Result<(), AllocError>
+pub fn put_type_name(out: &mut Vec<u8>, names: &[TypeName], name: u32) -> Result<(), AllocError>
     requires { name < length names.now }
     ensures { OnOk result (out.new.items ≡ out.old.items
         ++ (local_token (name_at (map (λ n. n.name) names.now) name)).text) }
@@ -136,16 +132,17 @@ pub fn put_memory_type(
     while let Some(frame) = frames.pop() {
         let ty = &types[frame.id.0 as usize];
         put_up_to_part(out, names, ty, frame.printed)?;
-        if let Some(part) = parts(ty).get(frame.printed) {
-            frames.push(Frame {
-                printed: frame.printed + 1,
-                ..frame
-            })?;
-            frames.push(Frame {
-                id: *part,
-                printed: 0,
-            })?;
-        }
+        let Some(part) = parts(ty).get(frame.printed) else {
+            continue;
+        };
+        frames.push(Frame {
+            printed: frame.printed + 1,
+            ..frame
+        })?;
+        frames.push(Frame {
+            id: *part,
+            printed: 0,
+        })?;
     }
     Ok(())
 }

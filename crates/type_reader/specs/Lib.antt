@@ -1,0 +1,5 @@
+pub mod Vectors
+pub mod TypeTable
+pub mod Frames
+pub mod Heads
+pub mod Levels
