@@ -1,5 +1,5 @@
 -- Tokens that are kept as they stand: the value of each of these forms is the list of its tokens' texts.
-use Rattle.std.specs.Prelude.{ℕ, Bool, true, false, not, List, [], ◌∷◌, ◌++◌, codes, Option, Some, None, if◌then◌else◌}
+use Rattle.std.specs.Prelude.{ℕ, Bool, true, false, not, ◌==◌, List, [], ◌∷◌, ◌++◌, codes, Option, Some, None, if◌then◌else◌}
 use Rattle.forms.specs.declared.TokenKind.{TokenKind}
 use Rattle.forms.specs.declared.TokenKind.TheVariants.{Quoted, Word, Number, Comma, Metadata, AttributeGroup, Bang, Equal, LeftParen, RightParen, LeftBrace, RightBrace}
 use Rattle.forms.specs.Form.{Form, exactly, one, one_but, ahead, enclosed, either, mapped, made, optional, many}
@@ -41,9 +41,14 @@ in_braces = mapped (λ xs. codes "{" ∷ (xs ++ codes "}" ∷ [])) (enclosed Lef
 abbrev pub kept_word : List (List ℕ) → Form (List (List ℕ))
 kept_word excluded = joined (mapped (λ w. w ∷ []) (one_but Word excluded)) (perhaps in_parens)
 
--- a word that may also be followed by a number
+-- digits without a sign
+abbrev pub is_unsigned : List ℕ → Bool
+is_unsigned [] = false
+is_unsigned (c ∷ ds) = not (c == 45)
+
+-- a word that may also be followed by a number without a sign
 abbrev pub kept_numbered : List ℕ → Form (List (List ℕ))
-kept_numbered w = joined (kept_token Word w) (perhaps (either (kept_one Number) in_parens))
+kept_numbered w = joined (kept_token Word w) (perhaps (either (kept_such Number is_unsigned) in_parens))
 
 -- a string, alone or followed by `=` and a string
 abbrev pub kept_string : Form (List (List ℕ))

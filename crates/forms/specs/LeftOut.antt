@@ -32,6 +32,7 @@ is_other_width [] = false
 is_other_width (c ∷ []) = false
 is_other_width (c ∷ d ∷ digits) = (c == 105) && (list_all is_digit (d ∷ digits) && not (is_one_of widths (d ∷ digits)))
 
+-- the text begins with these bytes
 abbrev pub begins_with : List ℕ → List ℕ → Bool
 begins_with front text = starts_with nat_eq text front
 

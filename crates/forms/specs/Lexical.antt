@@ -1,5 +1,6 @@
 -- Which tokens a text has: the table of tokens, the longest token at a place, and the tokens of a text from left to right.
 use Rattle.std.specs.Prelude.{◌≡◌, ◌≤◌, ◌<◌, ◌+◌, ℕ, Bool, true, false, not, ◌&&◌, ◌||◌, ◌==◌, nat_le, List, [], ◌∷◌, ◌++◌, length, drop, Option, Some, None, if◌then◌else◌}
+use Rattle.std.specs.List.{AllByRecursion}
 use Rattle.forms.specs.declared.TokenKind.{TokenKind}
 use Rattle.forms.specs.declared.TokenKind.TheVariants.{Quoted, Local, Global, Comdat, Label, Word, Number, TextConstant, Metadata, AttributeGroup, Dots, Equal, Comma, LeftParen, RightParen, LeftBracket, RightBracket, LeftBrace, RightBrace, Less, Greater, Star, Bang, Colon, Bar, Decimal, Hexadecimal, NamedGroup}
 use Rattle.forms.specs.Form.{Lexeme}
@@ -165,6 +166,10 @@ kind_by (r ∷ rs) w = if spells r.1 w then Some r.0 else kind_by rs w
 -- the kind of the one token that a text is
 abbrev pub kind_of : List ℕ → Option TokenKind
 kind_of w = kind_by table w
+
+-- each token is of the kind of its text
+abbrev pub AreLexed : List Lexeme → Type 0
+AreLexed ts = AllByRecursion (λ t. kind_of t.text ≡ Some t.kind) ts
 
 -- the longest front of the text that is a token
 pub record Longest (text : List ℕ) (kind : TokenKind) (word rest : List ℕ) : Type 0 where

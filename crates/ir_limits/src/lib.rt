@@ -3,6 +3,8 @@
 
 mod counts;
 mod names;
+#[cfg(test)]
+mod tests;
 
 pub use counts::passed;
 pub use names::{long_name, long_name_of_function};

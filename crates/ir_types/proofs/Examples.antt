@@ -1,6 +1,7 @@
 -- Worked examples of what names, numbers and texts stand for.
 use Rattle.std.specs.List.{filter_map}
-use Rattle.std.proofs.Common.{◌≡◌, ℕ, true, false, length, ◌+◌, ◌%◌, ◌^◌, List, [], ◌∷◌, ◌++◌, map, codes, Option, Some, None, if◌then◌else◌, eqb, refl}
+use Rattle.std.proofs.Common.{◌≡◌, ℕ, true, false, length, take, ◌+◌, ◌%◌, ◌^◌, List, [], ◌∷◌, ◌++◌, map, codes, Option, Some, None, if◌then◌else◌, eqb, refl, Bool}
+use Rattle.std.specs.Prelude.{is_some}
 use Rattle.forms.specs.declared.TokenKind.{TokenKind}
 use Rattle.forms.specs.Form.{Lexeme}
 use Rattle.forms.specs.Lexical.{kind_of, table}
@@ -9,17 +10,18 @@ use Rattle.forms.specs.LeftOut.{left_out_words}
 use Rattle.forms.specs.Reading.{◌>>=◌, read_whole}
 use Rattle.ir_types.specs.declared.name.Name.{Name}
 use Rattle.ir_types.specs.declared.name.Name.TheVariants.{Text, Number}
-use Rattle.ir_types.specs.declared.inst.Ty.TheVariants.{Int, Void}
+use Rattle.ir_types.specs.declared.inst.Ty.TheVariants.{Int, Vector, Void}
 use Rattle.ir_types.specs.declared.inst.Pred.TheVariants.{Slt}
 use Rattle.ir_types.specs.declared.inst.InstKind.TheVariants.{Compare, Phi, Jump, Branch, Return, ReturnVoid}
 use Rattle.ir_types.specs.Written.{number_of, number_at, unescaped, name_behind, name_before}
 use Rattle.ir_types.specs.TypeNodes.{TypeNode, scalar, called, array, opening, closing}
 use Rattle.ir_types.specs.Tree.{local, number, InstTree, BlockTree, FunctionTree, WrittenFunction, TypeNameTree, defined, opaque, missing, ModuleTree, Item, head_line, comdat_line, type_item, variable_item, function_item, metadata_line}
 use Rattle.ir_types.specs.Grammar.{local_name, global_name, label, width, vector_type, value_type, return_type, value, binary, predicates, compared, compare, entry_of_phi, phi, target, branch, ret, operation_words, operation, terminator_words, terminator, block, type_words, value_words, item_words, instruction_words, excluded_words, kept, memory_leaf, array_begin, type_parts, parameter, dotted_parameters, declared_function, defined_function, target_line, attribute_group, comdat, metadata, type_definition, initialiser_stops, extra_behind, behind_type, variable_word, variable_definition, item, module_form}
+use Rattle.ir_types.specs.Sizes.{Layout, value_size, struct_layout}
 use Rattle.ir_types.specs.Numbered.{numbered_module}
 use Rattle.ir_types.specs.Collected.{as_function, resolved_module}
 
--- a string with a backslash and a quotation mark, which a literal here cannot have
+-- a backslash, and a string between quotation marks
 abbrev slash : ℕ
 slash = 92
 
@@ -116,6 +118,9 @@ read_items ts = read_whole (module_form (length ts)) ts
 abbrev reading : List ℕ → Option (List (Item WrittenFunction))
 reading s = read_items (tokens [] s)
 
+abbrev is_read : List ℕ → Bool
+is_read s = is_some (reading s)
+
 -- ---- how things without a name are numbered: the names of the parameters, then of each block and of its results
 
 abbrev result_names : List InstTree → List Name
@@ -190,7 +195,6 @@ record Readings : Type 0 where
   no_entries : reading (codes "define i32 @f ( ) { phi i32 ret i32 1 }") ≡ None
   -- `br i1` has two targets
   one_target : reading (codes "define i32 @f ( i1 %c ) { br i1 %c , label %a }") ≡ None
-  -- a type is i1 or i32, and a value no decimal fraction
   -- three lanes are none of the counts, and a count has no sign
   three_lanes : reading (codes "define void @f ( < 3 x i8 > ) { ret void }") ≡ None
   signed_lanes : reading (codes "define void @f ( < -4 x i8 > ) { ret void }") ≡ None
@@ -260,7 +264,12 @@ record Items : Type 0 where
   dots_behind : names_in (codes "declare void @f ( i8 noundef , ... ) #0") ≡ Some ((Number 0 ∷ []) ∷ [])
   dots_comma : reading (codes "declare void @f ( , ... )") ≡ None
   dots_defined : reading (codes "define void @f ( ... ) { ret void }") ≡ None
-  two_sections : reading (codes "@v = global i8 0 , section s , section s") ≡ None
+  two_sections : reading (codes "@v = global i8 0 , section \"s\" , section \"s\"") ≡ None
+  one_section : is_read (codes "@v = global i8 0 , section \"s\" , align 4") ≡ true
+  signed_kept : reading (codes "declare void @f ( ptr align -8 )") ≡ None
+  unsigned_kept : is_read (codes "declare void @f ( ptr align 8 cc 10 dereferenceable ( 8 ) \"a\" = \"b\" #0 )") ≡ true
+  -- an initialiser ends where an item begins
+  two_variables : is_read (codes "@a = global i32 0 @b = global i32 1 !n = ! { } %t = type i8 $k = comdat any declare void @f ( )") ≡ true
   signed_alignment : reading (codes "@v = global i8 0 , align -4") ≡ None
   -- an array of 2^64 elements, one with a sign, and a vector of arrays
   great_array : reading (codes "%a = type [ 18446744073709551616 x i8 ]") ≡ None
@@ -272,4 +281,44 @@ record Items : Type 0 where
 
 items : Items
 unfolding table local_name global_name label width vector_type value_type return_type value binary predicates compared compare entry_of_phi phi target branch ret operation_words operation terminator_words terminator block kept_piece kept_run metadata_node attachment attachments left_out_words type_words value_words item_words instruction_words excluded_words kept memory_leaf array_begin type_parts parameter dotted_parameters declared_function defined_function target_line attribute_group comdat metadata type_definition initialiser_stops extra_behind behind_type variable_word variable_definition item module_form
-items = record { several = refl; named = refl; dots_alone = refl; dots_behind = refl; dots_comma = refl; dots_defined = refl; two_sections = refl; signed_alignment = refl; great_array = refl; signed_array = refl; vector_of_arrays = refl; excluded = refl; unclosed = refl }
+items = record { several = refl; named = refl; dots_alone = refl; dots_behind = refl; dots_comma = refl; dots_defined = refl; two_sections = refl; one_section = refl; signed_kept = refl; unsigned_kept = refl; two_variables = refl; signed_alignment = refl; great_array = refl; signed_array = refl; vector_of_arrays = refl; excluded = refl; unclosed = refl }
+
+-- ---- the order of what is collected
+
+abbrev collected_of : List ℕ → Option ModuleTree
+collected_of s = reading s >>= numbered_module >>= resolved_module
+
+abbrev mixed : List ℕ
+mixed = codes "!1 = ! { } define void @f ( ) { ret void } $k = comdat any @v = global i8 0 attributes #0 = { } declare void @g ( ) target triple = \"t\" @w = global i8 1 !0 = ! { }"
+
+abbrev kept_lines : (ModuleTree → List (List (List ℕ))) → Option (List (List (List ℕ)))
+kept_lines part = collected_of mixed >>= λ m. Some (map (λ xs. take 2 xs) (part m))
+
+record Orders : Type 0 where
+  head : kept_lines (λ m. m.head) ≡ Some ((codes "target" ∷ codes "triple" ∷ []) ∷ (codes "$k" ∷ codes "=" ∷ []) ∷ [])
+  tail : kept_lines (λ m. m.tail) ≡ Some ((codes "attributes" ∷ codes "#0" ∷ []) ∷ (codes "!1" ∷ codes "=" ∷ []) ∷ (codes "!0" ∷ codes "=" ∷ []) ∷ [])
+  symbols : (collected_of mixed >>= λ m. Some (map (λ s. s.name) m.symbols)) ≡ Some (Text (codes "v") ∷ Text (codes "w") ∷ Text (codes "f") ∷ Text (codes "g") ∷ [])
+  functions : (collected_of mixed >>= λ m. Some (map (λ f. f.name) m.functions)) ≡ Some (Text (codes "f") ∷ Text (codes "g") ∷ [])
+
+orders : Orders
+unfolding table local_name global_name label width vector_type value_type return_type value binary predicates compared compare entry_of_phi phi target branch ret operation_words operation terminator_words terminator block kept_piece kept_run metadata_node attachment attachments left_out_words type_words value_words item_words instruction_words excluded_words kept memory_leaf array_begin type_parts parameter dotted_parameters declared_function defined_function target_line attribute_group comdat metadata type_definition initialiser_stops extra_behind behind_type variable_word variable_definition item module_form
+orders = record { head = refl; tail = refl; symbols = refl; functions = refl }
+
+-- ---- sizes
+
+abbrev scalar_layout : ℕ → Layout
+scalar_layout n = record { size = n; align = n }
+
+record SizesOf : Type 0 where
+  bits : value_size (Vector 4 1) ≡ 1
+  lanes : value_size (Vector 4 32) ≡ 16
+  -- { i8, i32, i16 }, the same packed, none, and { i8, <4 x i1>, i64 }
+  gaps : struct_layout false (scalar_layout 1 ∷ scalar_layout 4 ∷ scalar_layout 2 ∷ []) ≡ record { size = 12; align = 4 }
+  packed : struct_layout true (scalar_layout 1 ∷ scalar_layout 4 ∷ scalar_layout 2 ∷ []) ≡ record { size = 7; align = 1 }
+  none : struct_layout false [] ≡ record { size = 0; align = 1 }
+  bytes : struct_layout false (scalar_layout 1 ∷ scalar_layout 1 ∷ scalar_layout 8 ∷ []) ≡ record { size = 16; align = 8 }
+  -- { i8, [0 x i64] }
+  behind_nothing : struct_layout false (scalar_layout 1 ∷ record { size = 0; align = 8 } ∷ []) ≡ record { size = 8; align = 8 }
+
+sizesOf : SizesOf
+sizesOf = record { bits = refl; lanes = refl; gaps = refl; packed = refl; none = refl; bytes = refl; behind_nothing = refl }

@@ -25,6 +25,7 @@ use Rattle.ir_types.specs.declared.opcode.Terminator.TheVariants as terminators
 pub use Rattle.ir_types.specs.Types.{lane_counts}
 use Rattle.ir_types.specs.Written.{number_of, number_at, name_behind, name_before}
 use Rattle.forms.specs.Nested.{TypeParts, memory, concat, joined}
+pub use Rattle.forms.specs.Kept.{is_unsigned}
 use Rattle.forms.specs.Kept.{kept_one, kept_token, kept_such, perhaps, in_braces, kept_run, attachment, attachments}
 use Rattle.forms.specs.LeftOut.{left_out_words}
 use Rattle.ir_types.specs.TypeNodes.{TypeNode, scalar, called, array, opening, closing}
@@ -48,7 +49,7 @@ label = made name_before (one Label)
 unfoldable pub width : Form ℕ
 width = either (word (codes "i1") 1) (either (word (codes "i8") 8) (either (word (codes "i16") 16) (either (word (codes "i32") 32) (word (codes "i64") 64))))
 
--- the number of lanes that is written so: digits without a sign, for one of those powers
+-- the number of lanes that is written so: digits without a sign, for one of the powers of two from 2 to 512
 abbrev pub lanes_of : List ℕ → Option ℕ
 lanes_of [] = None
 lanes_of (c ∷ ds) = if c == 45 then None else find (λ n. n == number_of (c ∷ ds)) lane_counts
@@ -376,11 +377,6 @@ type_definition m = made named_type (ahead Local (after_mark Equal (behind (code
 -- where a variable's initialiser ends, outside brackets: at a comma, and where an item begins
 unfoldable pub initialiser_stops : Stops
 initialiser_stops = record { kinds = Comma ∷ []; words = map (λ e. e.0) item_words; before_equal = Local ∷ Global ∷ Comdat ∷ Metadata ∷ [] }
-
--- digits without a sign
-abbrev pub is_unsigned : List ℕ → Bool
-is_unsigned [] = false
-is_unsigned (c ∷ ds) = not (c == 45)
 
 -- section string | comdat [ ($name) ] | align n | an attachment
 unfoldable pub extra_behind : Form (Extra × KeptTexts)

@@ -6,7 +6,7 @@ use Rattle.forms.specs.declared.TokenKind.{TokenKind}
 use Rattle.forms.specs.declared.TokenKind.TheVariants.{Quoted, Word, Number, Metadata, AttributeGroup, Bang, Equal, LeftParen, RightParen, LeftBrace, RightBrace}
 use Rattle.forms.specs.Combined.{or_none}
 use Rattle.forms.specs.Form.{Lexeme, Form, Stops, one_but, enclosed, up_to, either, mapped, many, Spells, InOrder, IfThere, texts}
-use Rattle.forms.specs.Kept.{kept_one, kept_token, kept_such, perhaps, in_parens, in_braces, kept_word, kept_numbered, kept_string, kept_piece, kept_run, is_numbered, is_named, metadata_node, attachment, attachments, kept_behind_comma}
+use Rattle.forms.specs.Kept.{kept_one, kept_token, kept_such, perhaps, in_parens, in_braces, kept_word, kept_numbered, kept_string, kept_piece, kept_run, is_unsigned, is_numbered, is_named, metadata_node, attachment, attachments, kept_behind_comma}
 use Rattle.forms.specs.Lexical.{kind_of, LexesTo, here, space, comment, token}
 use Rattle.forms.specs.Nested.{concat, joined}
 use Rattle.forms.proofs.MarkTexts.{left_paren, right_paren, left_brace, right_brace}
@@ -118,8 +118,8 @@ verbatim_word ws = verbatim_joined (mapped (λ w. w ∷ []) (one_but Word ws)) (
 
 verbatim_numbered : (w : List ℕ) → Verbatim (kept_numbered w)
 verbatim_numbered w =
-    let number = either (kept_one Number) in_parens in
-    verbatim_joined (kept_token Word w) (perhaps number) (verbatim_token Word w) (verbatim_perhaps number (verbatim_either (kept_one Number) in_parens (verbatim_one Number) verbatim_parens))
+    let number = either (kept_such Number is_unsigned) in_parens in
+    verbatim_joined (kept_token Word w) (perhaps number) (verbatim_token Word w) (verbatim_perhaps number (verbatim_either (kept_such Number is_unsigned) in_parens (verbatim_such Number is_unsigned) verbatim_parens))
 
 verbatim_string : Verbatim kept_string
 verbatim_string =

@@ -14,6 +14,6 @@ mod up_to;
 
 pub use attachments::{begins_attachment, keep_attachment, keep_attachments, keep_node};
 pub use enclosed::{keep_braces, keep_parens};
-pub use pieces::{begins_run, keep_run};
+pub use pieces::{begins_run, keep_run, keep_unsigned};
 pub use tokens::{keep, keep_word};
 pub use up_to::{Stops, keep_up_to};

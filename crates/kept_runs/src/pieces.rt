@@ -4,7 +4,7 @@ ghost use Rattle.std.specs.Prelude.{◌≡◌, map, codes};
 ghost use Rattle.forms.specs.declared.TokenKind.TheVariants.{Word, Number, Equal, Quoted, AttributeGroup};
 ghost use Rattle.forms.specs.Form.{either};
 ghost use Rattle.forms.specs.Gives.{Gives, left};
-ghost use Rattle.forms.specs.Kept.{kept_one, perhaps, in_parens, kept_word, kept_numbered, kept_string, kept_piece, kept_run};
+ghost use Rattle.forms.specs.Kept.{is_unsigned, kept_one, kept_such, perhaps, in_parens, kept_word, kept_numbered, kept_string, kept_piece, kept_run};
 ghost use Rattle.forms.specs.Machine.{behind};
 ghost use Rattle.forms.specs.Nested.{joined};
 ghost use Rattle.forms.specs.Reading.{read, opens};
@@ -41,16 +41,45 @@ fn keep_any_word<'t>(
     perhaps_parens(alloc, rest, texts)
 }
 
+/// Whether the text has a byte, and no sign at its begin.
+fn is_unsigned(text: &[u8]) -> bool
+    ensures { result ≡ is_unsigned text.now }
+{
+    match text {
+        [first, ..] => *first != b'-',
+        [] => false,
+    }
+}
+
+/// Keeps a number without a sign.
+///
+/// # Errors
+///
+/// Where none stands next, or there is no room.
+pub fn keep_unsigned<'t>(
+    tokens: Cursor<'t>,
+    texts: &mut Texts,
+) -> Result<Cursor<'t>, SyntaxFault>
+    ensures { Gives (λ rest. (texts.new, left rest)) result (behind texts.old (read (kept_such Number is_unsigned) (left tokens.entry))) }
+{
+    let (text, rest) = tokens.one(TokenKind::Number)?;
+    if !is_unsigned(text) {
+        return Err(tokens.refusal());
+    }
+    texts.push(text)?;
+    Ok(rest)
+}
+
 /// Keeps a number or a balanced list in parentheses, or nothing.
 fn perhaps_number<'t>(
     alloc: Global,
     tokens: Cursor<'t>,
     texts: &mut Texts,
 ) -> Result<Cursor<'t>, SyntaxFault>
-    ensures { Gives (λ rest. (texts.new, left rest)) result (behind texts.old (read (perhaps (either (kept_one Number) in_parens)) (left tokens.entry))) }
+    ensures { Gives (λ rest. (texts.new, left rest)) result (behind texts.old (read (perhaps (either (kept_such Number is_unsigned) in_parens)) (left tokens.entry))) }
 {
     if tokens.is_next(TokenKind::Number) {
-        return keep(tokens, TokenKind::Number, texts);
+        return keep_unsigned(tokens, texts);
     }
     perhaps_parens(alloc, tokens, texts)
 }

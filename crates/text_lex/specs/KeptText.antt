@@ -1,10 +1,10 @@
 -- How tokens are laid out that were kept as their texts.
 use Rattle.std.specs.Prelude.{◌≡◌, ℕ, Bool, ◌&&◌, ◌||◌, List, [], ◌∷◌, ◌++◌, codes, Some, if◌then◌else◌}
-use Rattle.std.specs.List.{AllByRecursion}
 use Rattle.forms.specs.declared.TokenKind.{TokenKind}
 use Rattle.forms.specs.declared.TokenKind.TheVariants.{Word}
 use Rattle.forms.specs.Form.{Lexeme, same_text, is_one_of}
 use Rattle.forms.specs.Lexical.{kind_of, and_then}
+pub use Rattle.forms.specs.Lexical.{AreLexed}
 use Rattle.text_lex.specs.Layout.{Piece, gap, lexeme, begins_quoted}
 
 -- the token with this text: of the text's kind, or a word where the text is no token
@@ -14,10 +14,6 @@ token_of w = record { kind = and_then (kind_of w) (λ k. k) Word; text = w }
 -- the text is that of a token
 abbrev pub IsToken : List ℕ → Type 0
 IsToken w = (k : TokenKind) × (kind_of w ≡ Some k)
-
--- each token is of the kind of its text
-abbrev pub AreLexed : List Lexeme → Type 0
-AreLexed ts = AllByRecursion (λ t. kind_of t.text ≡ Some t.kind) ts
 
 -- before these texts stands no space
 abbrev pub no_space_before : List (List ℕ)
