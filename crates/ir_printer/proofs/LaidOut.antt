@@ -1,4 +1,4 @@
--- The pieces that a module is printed as are tokens and join.
+-- The pieces that a block is printed as are tokens and join.
 use Rattle.std.proofs.Common.{◌≡◌, ◌<◌, ◌^◌, ℕ, eqb, List, [], ◌∷◌, ◌++◌, Option, Some, None, refl, append_assoc, arith, inl, inr}
 use Rattle.std.specs.Prelude.{map, codes, decimal}
 use Rattle.std.specs.List.{AllByRecursion}
@@ -18,21 +18,21 @@ use Rattle.ir_types.specs.declared.inst.Pred.TheVariants.{Eq, Ne, Ugt, Uge, Ult,
 use Rattle.ir_types.specs.declared.inst.InstKind.{InstKind}
 use Rattle.ir_types.specs.declared.inst.InstKind.TheVariants.{Binary, Compare, Phi, Jump, Branch, Return, ReturnVoid}
 use Rattle.ir_types.specs.Grammar.{width_of}
-use Rattle.ir_types.specs.Tree.{OperandTree, local, number, InstTree, BlockTree, ParamTree, FunctionTree, ModuleTree}
-use Rattle.ir_shape.specs.Shape.{IsName, IsOneOf, widths, IsType, IsReturnType, IsOperand, operand_type, IsResult, IsInst, IsBlock, IsParam, IsFunction, IsModule}
+use Rattle.ir_types.specs.Tree.{OperandTree, local, number, InstTree, BlockTree}
+use Rattle.ir_shape.specs.Shape.{IsName, IsOneOf, widths, IsType, IsReturnType, IsOperand, operand_type, IsResult, IsInst, IsBlock}
 use Rattle.type_printer.specs.Pieces.{token, blank, indent, line_feed, right_paren, left_brace, right_brace, with_commas, global_token, label_token, type_pieces}
 use Rattle.type_printer.proofs.Names.{local_kind, global_kind, label_kind}
 use Rattle.type_printer.proofs.Widths.{type_within}
 use Rattle.type_printer.proofs.Laid.{IsLaid, IsBehind, loose, nothing_behind, blank_laid, feed_laid, mark_laid, token_laid, laid-append, behind-append, each_laid, separated_laid, all_laid}
 use Rattle.type_printer.proofs.LaidOut.{comma_laid, equal_laid, bracket_kinds, commas_part, feeds_part, indents_part, local_laid, word_laid, type_laid, type_returned, spaced_laid}
-use Rattle.ir_printer.specs.Print.{number_token, operand_token, operand_pieces, predicate_word, operator_word, typed_pieces, target_pieces, targets_pieces, entry_pieces, entries_of, kind_pieces, result_pieces, inst_pieces, block_pieces, param_pieces, function_pieces, module_pieces}
+use Rattle.ir_printer.specs.Print.{number_token, operand_token, operand_pieces, predicate_word, operator_word, typed_pieces, target_pieces, targets_pieces, entry_pieces, entries_of, kind_pieces, result_pieces, inst_pieces, block_pieces}
 use Rattle.ir_printer.proofs.Numbers.{signed_kind}
 
 -- ---- words
 
-word_kinds : (kind_of (codes "label") ≡ Some kinds.Word) × (kind_of (codes "icmp") ≡ Some kinds.Word) × (kind_of (codes "phi") ≡ Some kinds.Word) × (kind_of (codes "br") ≡ Some kinds.Word) × (kind_of (codes "ret") ≡ Some kinds.Word) × (kind_of (codes "define") ≡ Some kinds.Word)
+word_kinds : (kind_of (codes "label") ≡ Some kinds.Word) × (kind_of (codes "icmp") ≡ Some kinds.Word) × (kind_of (codes "phi") ≡ Some kinds.Word) × (kind_of (codes "br") ≡ Some kinds.Word) × (kind_of (codes "ret") ≡ Some kinds.Word)
 unfolding table
-word_kinds = (refl, refl, refl, refl, refl, refl)
+word_kinds = (refl, refl, refl, refl, refl)
 
 predicate_kind : (p : Pred) → kind_of (predicate_word p) ≡ Some kinds.Word
 unfolding table predicate_word
@@ -106,32 +106,8 @@ inst_laid : (i : InstTree) → IsInst i → IsLaid (inst_pieces i)
 unfolding inst_pieces
 inst_laid i h = result_laid i.ty i.result _ h.result (laid-append _ _ (kind_laid i.kind i.ty i.args i.labels h.body.at h.body.args h.body.labels) (feed_laid (loose nothing_behind)))
 
--- ---- blocks, functions and modules
+-- ---- blocks
 
-block_laid : (b : BlockTree) → IsBlock b → IsLaid (block_pieces b)
+pub block_laid : (b : BlockTree) → IsBlock b → IsLaid (block_pieces b)
 unfolding block_pieces
 block_laid b h = token_laid (label_token b.name) (label_kind b.name h.name) (feed_laid (loose (each_laid _ _ indents_part (all_laid IsInst inst_pieces inst_laid b.insts h.insts))))
-
-param_laid : (p : ParamTree) → IsParam p → IsLaid (param_pieces p)
-unfolding param_pieces
-param_laid p h = spaced_laid p.ty (type_returned p.ty h.ty) (local_laid p.name h.name nothing_behind)
-
--- what closes the parameters, and the body
-body_laid : (ps bs : List Piece) → IsLaid ps → IsLaid bs → IsLaid ((ps ++ (right_paren ∷ blank ∷ left_brace ∷ line_feed ∷ [])) ++ (bs ++ (right_brace ∷ line_feed ∷ [])))
-body_laid ps bs h g =
-    let closing = mark_laid kinds.RightBrace (codes "}") refl bracket_kinds.5 (loose (feed_laid (loose nothing_behind))) in
-    let body = laid-append bs _ g closing in
-    rw (append_assoc ps) (laid-append ps _ h (mark_laid kinds.RightParen (codes ")") refl bracket_kinds.1 (loose (blank_laid (loose (mark_laid kinds.LeftBrace (codes "{") refl bracket_kinds.4 (loose (feed_laid body))))))))
-
-function_laid : (f : FunctionTree) → IsFunction f → IsLaid (function_pieces f)
-unfolding function_pieces
-function_laid f h =
-    let params = separated_laid _ _ commas_part (all_laid IsParam param_pieces param_laid f.params h.params) in
-    let blocks = separated_laid _ _ feeds_part (all_laid IsBlock block_pieces block_laid f.body h.blocks) in
-    word_laid _ word_kinds.5 (blank_laid (rw (append_assoc (type_pieces f.ret)) (spaced_laid f.ret h.ret (token_laid (global_token f.name) (global_kind f.name h.name)
-    (mark_laid kinds.LeftParen (codes "(") refl bracket_kinds.0 (body_laid _ _ params blocks))))))
-
--- What is printed are tokens that join.
-pub module_laid : (m : ModuleTree) → IsModule m → IsLaid (module_pieces m)
-unfolding module_pieces
-module_laid m h = separated_laid _ _ feeds_part (all_laid IsFunction function_pieces function_laid m.functions h)

@@ -1,6 +1,13 @@
 pub mod Numbers
+pub mod Appended
+pub mod KeptPrinted
+pub mod Lines
+pub mod Grouped
 pub mod Numbering
 pub mod Spelled
+pub mod SpelledFunctions
+pub mod SpelledItems
 pub mod LaidOut
+pub mod LaidItems
+pub mod Printing
 pub mod Printed
-pub mod Appended

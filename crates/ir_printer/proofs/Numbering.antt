@@ -1,4 +1,4 @@
--- A module with all its names is numbered as it stands.
+-- Items with all their names are numbered as they stand.
 use Rattle.std.proofs.Common.{◌≡◌, ℕ, List, [], ◌∷◌, Option, Some, None, refl, sym, ap, ◌∙◌}
 use Rattle.std.specs.Prelude.{map}
 use Rattle.std.specs.List.{AllByRecursion}
@@ -6,22 +6,28 @@ use Rattle.forms.specs.Walk.{walk}
 use Rattle.ir_types.specs.declared.name.Name.{Name}
 use Rattle.ir_types.specs.declared.inst.Ty.{Ty}
 use Rattle.ir_types.specs.declared.inst.Ty.TheVariants.{Int, Ptr, Vector, Void}
-use Rattle.ir_types.specs.Tree.{InstTree, BlockTree, ParamTree, FunctionTree, ModuleTree, WrittenParam, WrittenBlock, WrittenFunction, WrittenModule}
-use Rattle.ir_types.specs.Numbered.{next_after, named_result, numbered_inst, numbered_block, numbered_param, numbered_function, numbered_module}
-use Rattle.ir_shape.specs.Shape.{IsResult, IsInst, IsBlock, IsParam, IsFunction, IsModule}
+use Rattle.ir_types.specs.Tree.{InstTree, BlockTree, ParamTree, FunctionTree, WrittenParam, WrittenBlock, WrittenFunction, Item, head_line, comdat_line, type_item, variable_item, function_item, attribute_line, metadata_line}
+use Rattle.ir_types.specs.Numbered.{next_after, named_result, numbered_inst, numbered_block, numbered_param, numbered_function, numbered_item, numbered_module}
+use Rattle.ir_shape.specs.Shape.{IsResult, IsInst, IsBlock, IsParam, IsFunction, IsItem}
 
 abbrev pub written_param : ParamTree → WrittenParam
-written_param p = record { ty = p.ty; name = Some p.name }
+written_param p = record { ty = p.ty; kept = p.kept; name = Some p.name }
 
 abbrev pub written_block : BlockTree → WrittenBlock
 written_block b = record { label = Some b.name; insts = b.insts }
 
 abbrev pub written_function : FunctionTree → WrittenFunction
-written_function f = record { name = f.name; ret = f.ret; params = map written_param f.params; body = map written_block f.body }
+written_function f = record { name = f.name; before = f.before; ret = f.ret; params = map written_param f.params; varargs = f.varargs; after = f.after; body = map written_block f.body }
 
--- the module with each name written
-abbrev pub written_of : ModuleTree → WrittenModule
-written_of m = record { functions = map written_function m.functions }
+-- the item with each name written
+abbrev pub written_item : Item FunctionTree → Item WrittenFunction
+written_item (head_line xs) = head_line xs
+written_item (comdat_line xs) = comdat_line xs
+written_item (type_item n t) = type_item n t
+written_item (variable_item v) = variable_item v
+written_item (function_item f) = function_item (written_function f)
+written_item (attribute_line xs) = attribute_line xs
+written_item (metadata_line xs) = metadata_line xs
 
 -- a walk that changes nothing
 walk_same : {S A B : Type 0} (P : B → Type 0) (f : B → A) (step : S → A → Option (B × S)) → ((s : S) (b : B) → P b → (t : S) × (step s (f b) ≡ Some (b, t))) → (s : S) (items : List B) → AllByRecursion P items → (t : S) × (walk step s (map f items) ≡ Some (items, t))
@@ -57,12 +63,21 @@ same_block next b h =
 same_param : (next : ℕ) (p : ParamTree) → IsParam p → (after : ℕ) × (numbered_param next (written_param p) ≡ Some (p, after))
 same_param next p h = (next_after next p.name, refl)
 
-same_function : (u : Unit {0}) (f : FunctionTree) → IsFunction f → (v : Unit {0}) × (numbered_function u (written_function f) ≡ Some (f, v))
-same_function u f h =
+same_function : (f : FunctionTree) → IsFunction f → numbered_function (written_function f) ≡ Some f
+same_function f h =
     let p = walk_same IsParam written_param numbered_param same_param 0 f.params h.params in
     let b = walk_same IsBlock written_block numbered_block same_block p.0 f.body h.blocks in
-    (u, rw (p.1, b.1) refl)
+    rw (p.1, b.1) refl
 
--- The names of a module that is written with all its names are its names.
-pub numbered_again : (m : ModuleTree) → IsModule m → numbered_module (written_of m) ≡ Some m
-numbered_again m h = let w = walk_same IsFunction written_function numbered_function same_function tt m.functions h in rw w.1 refl
+same_item : (u : Unit {0}) (i : Item FunctionTree) → IsItem i → (v : Unit {0}) × (numbered_item u (written_item i) ≡ Some (i, v))
+same_item u (head_line xs) h = (u, refl)
+same_item u (comdat_line xs) h = (u, refl)
+same_item u (type_item n t) h = (u, refl)
+same_item u (variable_item v) h = (u, refl)
+same_item u (function_item f) h = (u, rw (same_function f h) refl)
+same_item u (attribute_line xs) h = (u, refl)
+same_item u (metadata_line xs) h = (u, refl)
+
+-- The names of items that are written with all their names are their names.
+pub numbered_again : (items : List (Item FunctionTree)) → AllByRecursion IsItem items → numbered_module (map written_item items) ≡ Some items
+numbered_again items h = let w = walk_same IsItem written_item numbered_item same_item tt items h in rw w.1 refl

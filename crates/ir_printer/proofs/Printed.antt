@@ -1,38 +1,41 @@
 -- What is printed of a module that some text reads as reads as that module.
-use Rattle.std.proofs.Common.{refl}
+use Rattle.std.proofs.Common.{◌≡◌, Some, refl, ap}
+use Rattle.std.specs.Prelude.{map}
 use Rattle.std.specs.List.{AllByRecursion}
 use Rattle.text_lex.specs.Layout.{text_of, tokens_of}
 use Rattle.text_lex.proofs.Layouts.{pieces_lexed}
 use Rattle.ir_types.specs.declared.module.Module.{Module}
-use Rattle.ir_types.specs.Names.{IsTable}
-use Rattle.ir_types.specs.Denotes.{tree_of}
+use Rattle.ir_types.specs.Denotes.{tree_of, tree_of_function}
+use Rattle.ir_types.specs.Grammar.{SpellsModule, module_form}
 use Rattle.ir_types.specs.Reads.{Reads, IsReadable}
-use Rattle.ir_shape.specs.Shape.{IsModule}
+use Rattle.ir_shape.specs.Shape.{IsFunction, IsModule}
 use Rattle.ir_shape.proofs.Known.{readable_known}
 use Rattle.ir_printer.specs.Print.{module_pieces}
-use Rattle.ir_printer.proofs.Numbering.{written_of, numbered_again}
-use Rattle.ir_printer.proofs.Spelled.{printed_spells}
-use Rattle.ir_printer.proofs.LaidOut.{module_laid}
+use Rattle.ir_printer.proofs.Grouped.{printed_items, printed_known, printed_collected, functions_known}
+use Rattle.ir_printer.proofs.Numbering.{written_item, numbered_again}
+use Rattle.ir_printer.proofs.Printing.{IsPrinted, module_printed}
 
--- What is printed of a module that can be printed, and whose names are tables, reads as it.
-reads_again : (m : Module) → IsModule (tree_of m) → AllByRecursion (λ f. IsTable f.names) m.functions → Reads (text_of (module_pieces (tree_of m))) m
-reads_again m known tables =
-    let laid = module_laid (tree_of m) known in
+spells_module : (m : Module) → IsPrinted m → SpellsModule (map written_item (printed_items (tree_of m))) (tokens_of (module_pieces m))
+unfolding module_form
+spells_module m p = p.says.spells
+
+pub printed_reads : (m : Module) → IsReadable m → Reads (text_of (module_pieces m)) m
+printed_reads m (text, r) =
+    let shape : IsModule (tree_of m) = readable_known m (text, r) in
+    let known = printed_known (tree_of m) shape in
+    let printed = module_printed m r.denotes.types known in
     record {
-      tokens = tokens_of (module_pieces (tree_of m));
-      written = written_of (tree_of m);
-      numbered = tree_of m;
+      tokens = tokens_of (module_pieces m);
+      written = map written_item (printed_items (tree_of m));
+      numbered = printed_items (tree_of m);
       resolved = tree_of m;
-      lexes = pieces_lexed (module_pieces (tree_of m)) laid.tokens laid.joined;
-      spelled = printed_spells (tree_of m) known;
-      numbers = numbered_again (tree_of m) known;
-      resolves = refl;
-      denotes = record { says = refl; tables = tables };
+      lexes = pieces_lexed (module_pieces m) printed.laid.tokens printed.laid.joined;
+      spelled = spells_module m printed;
+      numbers = numbered_again (printed_items (tree_of m)) known;
+      resolves = ap Some (printed_collected (tree_of m) shape);
+      denotes = record { says = refl; tables = r.denotes.tables; types = r.denotes.types; extents = r.denotes.extents };
     }
 
-pub printed_reads : (m : Module) → IsReadable m → Reads (text_of (module_pieces (tree_of m))) m
-printed_reads m r = reads_again m (readable_known m r) r.1.denotes.tables
-
--- Some text reads as a module that can be printed.
-pub readable_from : (m : Module) → IsModule (tree_of m) → AllByRecursion (λ f. IsTable f.names) m.functions → IsReadable m
-readable_from m known tables = (text_of (module_pieces (tree_of m)), reads_again m known tables)
+-- Each of its functions has the shape of one.
+pub readable_functions : (m : Module) → IsReadable m → AllByRecursion IsFunction (map tree_of_function m.functions)
+readable_functions m r = functions_known (tree_of m) (readable_known m r)

@@ -1,4 +1,4 @@
--- The tokens that a module is printed as spell the module.
+-- The tokens that a block is printed as spell the block.
 use Rattle.std.proofs.Common.{◌≡◌, ◌<◌, ◌^◌, ◌≤◌, ℕ, zero, suc, true, false, eqb, List, [], ◌∷◌, ◌++◌, length, Option, Some, None, cond, lit<, lit≤, refl, sym, ap, ◌∙◌, append_assoc, arith, inl, inr}
 use Rattle.std.specs.Prelude.{map, codes, find, decimal}
 use Rattle.std.specs.List.{AllByRecursion}
@@ -23,9 +23,9 @@ use Rattle.ir_types.specs.declared.inst.InstKind.TheVariants.{Binary, Compare, P
 use Rattle.ir_types.specs.declared.opcode.Operation.TheVariants as operations
 use Rattle.ir_types.specs.declared.opcode.Terminator.TheVariants as terminators
 use Rattle.ir_types.specs.Written.{number_of}
-use Rattle.ir_types.specs.Tree.{OperandTree, local, number, InstTree, FunctionTree, ModuleTree}
-use Rattle.ir_types.specs.Grammar.{local_name, global_name, label, width, lane_counts, lanes_of, vector_type, value_type, return_type, WrittenValue, named, digits, yes, no, value, width_of, bits_for, operand_at, two_values, binary, predicates, compared, compare, entry_of_phi, phi, target, branch, void_tree, ret, operation_words, operation, terminator_words, terminator, line, block, parameter, function, module_form}
-use Rattle.ir_shape.specs.Shape.{IsName, IsOneOf, widths, IsType, IsReturnType, IsOperand, IsBody, IsInst, IsResult, IsTerminator, EndsOnce, IsBlock, IsParam, IsFunction, IsModule}
+use Rattle.ir_types.specs.Tree.{OperandTree, local, number, InstTree}
+use Rattle.ir_types.specs.Grammar.{local_name, global_name, label, width, lane_counts, lanes_of, vector_type, value_type, return_type, WrittenValue, named, digits, yes, no, value, width_of, bits_for, operand_at, two_values, binary, predicates, compared, compare, entry_of_phi, phi, target, branch, void_tree, ret, operation_words, operation, terminator_words, terminator, line, block}
+use Rattle.ir_shape.specs.Shape.{IsName, IsOneOf, widths, IsType, IsReturnType, IsOperand, IsBody, IsInst, IsResult, IsTerminator, EndsOnce, IsBlock}
 use Rattle.ir_shape.proofs.Among.{of_each}
 use Rattle.type_printer.specs.Texts.{signed_text}
 use Rattle.type_printer.specs.Pieces as pieces_of
@@ -35,9 +35,9 @@ use Rattle.type_printer.proofs.Widths.{type_within}
 use Rattle.type_printer.proofs.Says.{Says, pair_says, left_says, right_says, mapped_says, made_says, one_says, word_says, ahead_says, by_word_says, there_says, behind_says, after_mark_says, between_says, EachSays, some_says, commas_says, list_says, separated_says}
 use Rattle.type_printer.proofs.Spelled.{local_says, global_says, label_says, decimals, type_says, return_type_says}
 use Rattle.ir_printer.specs.Print as print
-use Rattle.ir_printer.specs.Print.{number_token, operand_token, operand_pieces, predicate_word, operator_word, typed_pieces, target_pieces, targets_pieces, entry_pieces, entries_of, kind_pieces, inst_pieces, block_pieces, param_pieces, function_pieces, module_pieces}
+use Rattle.ir_printer.specs.Print.{number_token, operand_token, operand_pieces, predicate_word, operator_word, typed_pieces, target_pieces, targets_pieces, entry_pieces, entries_of, kind_pieces, inst_pieces, block_pieces}
 use Rattle.ir_printer.proofs.Numbers.{signed_again}
-use Rattle.ir_printer.proofs.Numbering.{written_param, written_block, written_function, written_of}
+use Rattle.ir_printer.proofs.Numbering.{written_block}
 
 -- ---- values
 
@@ -248,7 +248,7 @@ operation_line i h = rw (line_tokens i) (with_name i.kind i.ty i.args i.labels o
 terminator_line : (i : InstTree) → IsInst i → IsTerminator i.kind → Says (line terminator) i (tokens_of (inst_pieces i))
 terminator_line i h g = rw (line_tokens i) (with_name i.kind i.ty i.args i.labels terminator _ (terminator_says i.kind i.ty i.args i.labels (stripped i h.body) g) i.result h.result)
 
--- ---- blocks, functions and modules
+-- ---- blocks
 
 cons_says : {A B : Type 0} {f : Form A} {g : Form B} {a : A} {more : List A} {b : B} (x ts : List Lexeme) → Says f a x → Says (pair (many f) g) (more, b) ts → Says (pair (many f) g) (a ∷ more, b) (x ++ ts)
 cons_says x ts p q =
@@ -279,60 +279,10 @@ lines_say (i ∷ j ∷ insts) h e =
       says = rw (tokens_of-append (inst_pieces i) (pieces_of.each_behind (pieces_of.indent ∷ []) (map inst_pieces (j ∷ insts)))) (cons_says (tokens_of (inst_pieces i)) _ (operation_line i (record { inst = h.0; goes_on = e.0 })) rest.says);
     }
 
-block_says : EachSays block written_block block_pieces IsBlock
+pub block_says : EachSays block written_block block_pieces IsBlock
 unfolding block block_pieces
 block_says = record {
   one = λ b h.
       let lines = lines_say b.insts h.insts h.ending in
       mapped_says (Some b.name, (lines.front, lines.last)) _ (rw (lines.parts) refl) (pair_says (label_token b.name ∷ []) _ (there_says (label_says b.name h.name)) lines.says);
 }
-
-param_says : EachSays parameter written_param param_pieces IsParam
-unfolding parameter param_pieces
-param_says = record {
-  one = λ p h. mapped_says (p.ty, Some p.name) _ refl (rw (tokens_of-append (type_pieces p.ty) (pieces_of.blank ∷ _)) (pair_says (tokens_of (type_pieces p.ty)) _ (type_says p.ty h.ty) (there_says (local_says p.name h.name))));
-}
-
-abbrev params_tokens : FunctionTree → List Lexeme
-params_tokens f = tokens_of (with_commas (map param_pieces f.params))
-
-abbrev blocks_tokens : FunctionTree → List Lexeme
-blocks_tokens f = tokens_of (pieces_of.separated (pieces_of.line_feed ∷ []) (map block_pieces f.body))
-
-abbrev in_parens : List Lexeme → List Lexeme
-in_parens ts = token kinds.LeftParen (codes "(") ∷ (ts ++ token kinds.RightParen (codes ")") ∷ [])
-
-abbrev in_braces : List Lexeme → List Lexeme
-in_braces ts = token kinds.LeftBrace (codes "{") ∷ (ts ++ token kinds.RightBrace (codes "}") ∷ [])
-
--- parameters and what closes them, and the blocks and what closes those
-parts_tokens : (ps bs : List Piece) → tokens_of ((ps ++ (pieces_of.right_paren ∷ pieces_of.blank ∷ pieces_of.left_brace ∷ pieces_of.line_feed ∷ [])) ++ (bs ++ (pieces_of.right_brace ∷ pieces_of.line_feed ∷ [])))
-    ≡ (tokens_of ps ++ token kinds.RightParen (codes ")") ∷ []) ++ in_braces (tokens_of bs)
-parts_tokens ps bs =
-    simp (tokens_of-append, append_assoc)
-
-named_tokens : (f : FunctionTree) → tokens_of (print.name_pieces f ++ (pieces_of.separated (pieces_of.line_feed ∷ []) (map block_pieces f.body) ++ (pieces_of.right_brace ∷ pieces_of.line_feed ∷ []))) ≡ global_token f.name ∷ (in_parens (params_tokens f) ++ in_braces (blocks_tokens f))
-named_tokens f = ap (λ (ts : List Lexeme). global_token f.name ∷ token kinds.LeftParen (codes "(") ∷ ts) (parts_tokens (with_commas (map param_pieces f.params)) (pieces_of.separated (pieces_of.line_feed ∷ []) (map block_pieces f.body)))
-
-function_tokens : (f : FunctionTree) → tokens_of (function_pieces f) ≡ token kinds.Word (codes "define") ∷ (tokens_of (type_pieces f.ret) ++ global_token f.name ∷ (in_parens (params_tokens f) ++ in_braces (blocks_tokens f)))
-unfolding function_pieces
-function_tokens f =
-    let behind = pieces_of.separated (pieces_of.line_feed ∷ []) (map block_pieces f.body) ++ (pieces_of.right_brace ∷ pieces_of.line_feed ∷ []) in
-    ap (λ (ts : List Lexeme). token kinds.Word (codes "define") ∷ ts)
-    (ap tokens_of (append_assoc (type_pieces f.ret) (pieces_of.blank ∷ print.name_pieces f) behind)
-    ∙ tokens_of-append (type_pieces f.ret) (pieces_of.blank ∷ (print.name_pieces f ++ behind))
-    ∙ ap (λ (ts : List Lexeme). tokens_of (type_pieces f.ret) ++ ts) (named_tokens f))
-
-function_says : EachSays function written_function function_pieces IsFunction
-unfolding function
-function_says = record {
-  one = λ f h. rw (function_tokens f) (mapped_says (f.ret, (f.name, (map written_param f.params, map written_block f.body))) _ refl
-      (behind_says (codes "define") (pair_says (tokens_of (type_pieces f.ret)) _ (return_type_says f.ret h.ret) (pair_says (global_token f.name ∷ []) _ (global_says f.name h.name)
-      (pair_says (in_parens (params_tokens f)) _ (between_says (params_tokens f) kinds.LeftParen kinds.RightParen _ _ (list_says param_says f.params h.params))
-      (between_says (blocks_tokens f) kinds.LeftBrace kinds.RightBrace _ _ (some_says (10 ∷ []) block_says f.body h.some h.blocks)))))));
-}
-
--- What is printed spells the module, with each name written.
-pub printed_spells : (m : ModuleTree) → IsModule m → Spells module_form (written_of m) (tokens_of (module_pieces m))
-unfolding module_form module_pieces
-printed_spells m h = (map written_function m.functions, refl, (separated_says (10 ∷ []) function_says m.functions h).spells)

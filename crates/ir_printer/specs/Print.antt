@@ -1,9 +1,10 @@
 -- The text that a module is printed as, in pieces: its tokens and the white space between them.
-use Rattle.std.specs.Prelude.{ℕ, ◌==◌, List, [], ◌∷◌, ◌++◌, map, codes, Option, Some, None, if◌then◌else◌}
+use Rattle.std.specs.Prelude.{ℕ, Bool, true, false, ◌==◌, List, [], ◌∷◌, ◌++◌, map, flat_map, codes, Option, Some, None, if◌then◌else◌}
 use Rattle.forms.specs.declared.TokenKind.{TokenKind}
 use Rattle.forms.specs.declared.TokenKind.TheVariants as kinds
 use Rattle.forms.specs.Form.{Lexeme}
-use Rattle.text_lex.specs.Layout.{Piece, lexeme}
+use Rattle.text_lex.specs.Layout.{Piece, lexeme, text_of}
+use Rattle.text_lex.specs.KeptText.{kept_behind, kept_pieces, line_pieces}
 use Rattle.ir_types.specs.declared.name.Name.{Name}
 use Rattle.ir_types.specs.declared.inst.Ty.{Ty}
 use Rattle.ir_types.specs.declared.inst.Ty.TheVariants.{Int}
@@ -13,10 +14,26 @@ use Rattle.ir_types.specs.declared.inst.Pred.{Pred}
 use Rattle.ir_types.specs.declared.inst.Pred.TheVariants.{Eq, Ne, Ugt, Uge, Ult, Ule, Sgt, Sge, Slt, Sle}
 use Rattle.ir_types.specs.declared.inst.InstKind.{InstKind}
 use Rattle.ir_types.specs.declared.inst.InstKind.TheVariants.{Binary, Compare, Phi, Jump, Branch, Return, ReturnVoid}
+use Rattle.ir_types.specs.declared.memory_type.TypeId.{TypeId}
+use Rattle.ir_types.specs.declared.memory_type.TypeName.{TypeName}
+use Rattle.ir_types.specs.declared.memory_type.NamedType.{NamedType}
+use Rattle.ir_types.specs.declared.memory_type.NamedType.TheVariants.{Defined, Opaque, Missing}
+use Rattle.ir_types.specs.declared.module.Symbol.{Symbol}
+use Rattle.ir_types.specs.declared.module.SymbolKind.{SymbolKind}
+use Rattle.ir_types.specs.declared.module.SymbolKind.TheVariants.{Variable}
+use Rattle.ir_types.specs.declared.module.SymbolKind.TheVariants as symbols
+use Rattle.ir_types.specs.declared.module.Module.{Module}
+use Rattle.ir_types.specs.Denotes.{type_names_of, tree_of_function}
 use Rattle.ir_types.specs.Grammar.{width_of}
-use Rattle.ir_types.specs.Tree.{OperandTree, local, number, InstTree, BlockTree, ParamTree, FunctionTree, ModuleTree}
+use Rattle.ir_types.specs.Tree.{KeptTexts, OperandTree, local, number, InstTree, BlockTree, ParamTree, FunctionTree}
 use Rattle.type_printer.specs.Texts.{signed_text}
+use Rattle.type_printer.specs.MemoryPieces.{memory_pieces}
 use Rattle.type_printer.specs.Pieces.{token, word, comma, equal, left_paren, right_paren, left_bracket, right_bracket, left_brace, right_brace, blank, line_feed, indent, each_behind, separated, with_commas, local_token, global_token, label_token, type_pieces}
+
+-- ---- tokens
+
+abbrev pub dots : Piece
+dots = lexeme (token kinds.Dots (codes "..."))
 
 -- ---- values
 
@@ -94,29 +111,133 @@ result_pieces (Some n) = lexeme (local_token n) ∷ blank ∷ equal ∷ blank �
 unfoldable pub inst_pieces : InstTree → List Piece
 inst_pieces i = result_pieces i.result ++ (kind_pieces i.kind i.ty i.args i.labels ++ (line_feed ∷ []))
 
--- ---- blocks, functions and modules
+-- ---- blocks
 
 -- the label on a line, and a line for each instruction
 unfoldable pub block_pieces : BlockTree → List Piece
 block_pieces b = lexeme (label_token b.name) ∷ line_feed ∷ each_behind (indent ∷ []) (map inst_pieces b.insts)
 
--- T %name
+-- ---- what is kept
+
+-- K and a space, or nothing
+abbrev pub kept_then_blank : KeptTexts → List Piece
+kept_then_blank [] = []
+kept_then_blank (w ∷ ws) = kept_pieces (w ∷ ws) ++ (blank ∷ [])
+
+-- a space and K, or nothing
+abbrev pub blank_then_kept : KeptTexts → List Piece
+blank_then_kept [] = []
+blank_then_kept (w ∷ ws) = blank ∷ kept_pieces (w ∷ ws)
+
+-- a kept line
+abbrev pub whole_line : KeptTexts → List Piece
+whole_line xs = line_pieces xs ++ (line_feed ∷ [])
+
+-- ---- functions
+
+-- T K %name
 unfoldable pub param_pieces : ParamTree → List Piece
-param_pieces p = type_pieces p.ty ++ (blank ∷ lexeme (local_token p.name) ∷ [])
+param_pieces p = type_pieces p.ty ++ (blank_then_kept p.kept ++ (blank ∷ lexeme (local_token p.name) ∷ []))
 
--- @name(T %name, ..) {
-abbrev pub name_pieces : FunctionTree → List Piece
-name_pieces f =
-    lexeme (global_token f.name) ∷ left_paren ∷ (with_commas (map param_pieces f.params) ++ (right_paren ∷ blank ∷ left_brace ∷ line_feed ∷ []))
+-- `...`, behind a comma where there is a parameter
+abbrev pub dots_pieces : List ParamTree → List Piece
+dots_pieces [] = dots ∷ []
+dots_pieces (p ∷ ps) = comma ∷ blank ∷ dots ∷ []
 
--- define T @name(T %name, ..) {
-abbrev pub head_pieces : FunctionTree → List Piece
-head_pieces f = word (codes "define") ∷ blank ∷ (type_pieces f.ret ++ (blank ∷ name_pieces f))
+-- T K %name, .. [, ...]
+abbrev pub params_pieces : FunctionTree → List Piece
+params_pieces f = with_commas (map param_pieces f.params) ++ (if f.varargs then dots_pieces f.params else [])
 
--- the head, the blocks with empty lines between them, and the last brace on a line
+-- the word with which a function begins, declared where it has no block
+abbrev pub function_word : List BlockTree → List ℕ
+function_word [] = codes "declare"
+function_word (b ∷ bs) = codes "define"
+
+-- define K R @name(T K %name, ..) K
+unfoldable pub head_pieces : FunctionTree → List Piece
+head_pieces f =
+    word (function_word f.body) ∷ blank ∷ (kept_then_blank f.before ++ (type_pieces f.ret ++ (blank ∷ lexeme (global_token f.name) ∷ left_paren ∷ (params_pieces f ++ (right_paren ∷ blank_then_kept f.after)))))
+
+-- the blocks with empty lines between them in braces, the last on a line of its own; without a block nothing but the line's end
+abbrev pub body_pieces : List BlockTree → List Piece
+body_pieces [] = line_feed ∷ []
+body_pieces (b ∷ bs) = blank ∷ left_brace ∷ line_feed ∷ (separated (line_feed ∷ []) (map block_pieces (b ∷ bs)) ++ (right_brace ∷ line_feed ∷ []))
+
 unfoldable pub function_pieces : FunctionTree → List Piece
-function_pieces f = head_pieces f ++ (separated (line_feed ∷ []) (map block_pieces f.body) ++ (right_brace ∷ line_feed ∷ []))
+function_pieces f = head_pieces f ++ body_pieces f.body
 
--- the functions with empty lines between them
-unfoldable pub module_pieces : ModuleTree → List Piece
-module_pieces m = separated (line_feed ∷ []) (map function_pieces m.functions)
+-- an empty line, behind a text that isn't empty
+abbrev pub parting : List ℕ → List Piece
+parting [] = []
+parting (c ∷ cs) = line_feed ∷ []
+
+-- functions behind a text, each behind an empty line, but for the first where the text is empty
+abbrev pub functions_behind : List ℕ → List (List Piece) → List Piece
+functions_behind text [] = []
+functions_behind text (f ∷ fs) = parting text ++ separated (line_feed ∷ []) (f ∷ fs)
+
+-- ---- named types
+
+-- a type at its place
+abbrev pub type_at : Module → TypeId → List Piece
+type_at m id = memory_pieces (type_names_of m) m.types id
+
+-- %name = type M
+abbrev pub definition_pieces : Name → List Piece → List Piece
+definition_pieces n ps = lexeme (local_token n) ∷ blank ∷ equal ∷ blank ∷ word (codes "type") ∷ blank ∷ (ps ++ (line_feed ∷ []))
+
+-- the definition of a name, `opaque` where nothing is known of the type, and nothing where it is missing
+abbrev pub named_pieces : Module → Name → NamedType → List Piece
+named_pieces m n (Defined id) = definition_pieces n (type_at m id)
+named_pieces m n Opaque = definition_pieces n (word (codes "opaque") ∷ [])
+named_pieces m n Missing = []
+
+abbrev pub type_name_pieces : Module → TypeName → List Piece
+type_name_pieces m n = named_pieces m n.name n.ty
+
+-- ---- variables
+
+-- the word that says whether a variable may be written
+abbrev pub variable_word : Bool → List ℕ
+variable_word true = codes "global"
+variable_word false = codes "constant"
+
+-- @name = K global M ..
+abbrev pub variable_pieces : Module → Symbol → TypeId → Bool → List Piece
+variable_pieces m s id writable =
+    lexeme (global_token s.name) ∷ blank ∷ equal ∷ blank ∷ (kept_then_blank s.before ++ (word (variable_word writable) ∷ blank ∷ (type_at m id ++ (kept_behind [] s.after ++ (line_feed ∷ [])))))
+
+-- of the symbols only variables are printed by themselves
+abbrev pub kind_of_symbol_pieces : Module → Symbol → SymbolKind → List Piece
+kind_of_symbol_pieces m s (Variable id writable) = variable_pieces m s id writable
+kind_of_symbol_pieces m s (symbols.Function f) = []
+kind_of_symbol_pieces m s symbols.Missing = []
+
+abbrev pub symbol_pieces : Module → Symbol → List Piece
+symbol_pieces m s = kind_of_symbol_pieces m s s.kind
+
+-- ---- lines, and the whole
+
+-- the text begins with `$`
+abbrev pub begins_comdat : List ℕ → Bool
+begins_comdat [] = false
+begins_comdat (c ∷ cs) = c == 36
+
+-- the first text does: of the lines at the head only those of comdats
+abbrev pub is_comdat : KeptTexts → Bool
+is_comdat [] = false
+is_comdat (w ∷ ws) = begins_comdat w
+
+abbrev pub head_line_pieces : KeptTexts → List Piece
+head_line_pieces xs = if is_comdat xs then [] else whole_line xs
+
+abbrev pub comdat_line_pieces : KeptTexts → List Piece
+comdat_line_pieces xs = if is_comdat xs then whole_line xs else []
+
+-- what stands before the functions: the lines of the head, the types, the comdats and the variables
+unfoldable pub front_pieces : Module → List Piece
+front_pieces m = flat_map head_line_pieces m.head ++ (flat_map (type_name_pieces m) m.type_names ++ (flat_map comdat_line_pieces m.head ++ flat_map (symbol_pieces m) m.symbols))
+
+-- behind these the functions, and the lines of the tail
+unfoldable pub module_pieces : Module → List Piece
+module_pieces m = front_pieces m ++ (functions_behind (text_of (front_pieces m)) (map function_pieces (map tree_of_function m.functions)) ++ flat_map whole_line m.tail)

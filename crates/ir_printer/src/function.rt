@@ -1,13 +1,14 @@
 // Blocks and functions.
 
-ghost use Rattle.std.specs.Prelude.{◌≡◌, ◌++◌, ◌∷◌, [], map, OnOk};
+ghost use Rattle.std.specs.Prelude.{◌≡◌, ◌++◌, ◌∷◌, [], map, codes, OnOk, if◌then◌else◌};
 ghost use Rattle.std.specs.List.{AllByRecursion};
 ghost use Rattle.text_lex.specs.Layout.{text_of};
 ghost use Rattle.ir_types.specs.Denotes.{inst_in, block_in, param_in, tree_of_function};
 ghost use Rattle.ir_shape.specs.Shape.{IsInst, IsBlock, IsParam, IsFunction};
 ghost use Rattle.type_printer.specs.Pieces.{line_feed, indent, each_behind, separated, with_commas};
-ghost use Rattle.ir_printer.specs.Print.{inst_pieces, block_pieces, param_pieces, head_pieces, function_pieces};
+ghost use Rattle.ir_printer.specs.Print.{inst_pieces, block_pieces, param_pieces, dots_pieces, params_pieces, function_word, head_pieces, body_pieces, function_pieces, parting, functions_behind};
 
+use crate::kept::{put_blank_then_kept, put_kept_then_blank};
 use crate::line::put_inst;
 use ir_types::{Block, Function, Inst, Names, Param};
 use std::alloc::AllocError;
@@ -56,17 +57,17 @@ fn put_blocks(out: &mut Vec<u8>, names: &Names, blocks: &[Block]) -> Result<(), 
 }
 
 #[tactic(auto, unfolding(crate::specs::Print::param_pieces), using(type_printer::proofs::Appended::text_of_both, std::proofs::lemmas::Grind::common_steps))]
-fn put_param(out: &mut Vec<u8>, names: &Names, param: Param) -> Result<(), AllocError>
-    requires { IsParam (param_in names.now param) }
+fn put_param(out: &mut Vec<u8>, names: &Names, param: &Param) -> Result<(), AllocError>
+    requires { IsParam (param_in names.now param.now) }
     ensures { OnOk result (out.new.items ≡ out.old.items
-        ++ text_of (param_pieces (param_in names.now param))) }
+        ++ text_of (param_pieces (param_in names.now param.now))) }
 {
     put_type(out, param.ty)?;
+    put_blank_then_kept(out, &param.kept)?;
     out.push(b' ')?;
     put_local(out, names, param.name)
 }
 
-#[tactic(auto, using(type_printer::proofs::Appended::text_of_both, std::proofs::lemmas::Grind::common_steps))]
 fn put_params(out: &mut Vec<u8>, names: &Names, params: &[Param]) -> Result<(), AllocError>
     requires { AllByRecursion IsParam (map (param_in names.now) params.now) }
     ensures { OnOk result (out.new.items ≡ out.old.items
@@ -75,53 +76,113 @@ fn put_params(out: &mut Vec<u8>, names: &Names, params: &[Param]) -> Result<(), 
     let [first, rest @ ..] = params else {
         return Ok(());
     };
-    put_param(out, names, *first)?;
+    put_param(out, names, first)?;
     for param in rest {
         out.extend_from_slice(b", ")?;
-        put_param(out, names, *param)?;
+        put_param(out, names, param)?;
     }
     Ok(())
 }
 
+// Appends the dots for further arguments.
+fn put_dots(out: &mut Vec<u8>, names: &Names, params: &[Param]) -> Result<(), AllocError>
+    ensures { OnOk result (out.new.items ≡ out.old.items
+        ++ text_of (dots_pieces (map (param_in names.now) params.now))) }
+{
+    if !params.is_empty() {
+        out.extend_from_slice(b", ")?;
+    }
+    out.extend_from_slice(b"...")
+}
+
+// Appends what stands between the parentheses behind a function's name.
+fn put_all_params(out: &mut Vec<u8>, function: &Function) -> Result<(), AllocError>
+    requires { IsFunction (tree_of_function function.now) }
+    ensures { OnOk result (out.new.items ≡ out.old.items
+        ++ text_of (params_pieces (tree_of_function function.now))) }
+{
+    put_params(out, &function.names, function.params.as_slice())?;
+    if function.varargs {
+        put_dots(out, &function.names, function.params.as_slice())?;
+    }
+    Ok(())
+}
+
+fn word_of_function(function: &Function) -> &'static [u8]
+    ensures { result.now ≡ function_word (tree_of_function function.now).body }
+{
+    if function.body.is_empty() {
+        b"declare"
+    } else {
+        b"define"
+    }
+}
+
 // Appends what stands before the blocks.
-#[tactic(auto, using(type_printer::proofs::Appended::text_of_both, std::proofs::lemmas::Grind::common_steps))]
 fn put_head(out: &mut Vec<u8>, function: &Function) -> Result<(), AllocError>
     requires { IsFunction (tree_of_function function.now) }
     ensures { OnOk result (out.new.items ≡ out.old.items
         ++ text_of (head_pieces (tree_of_function function.now))) }
 {
-    out.extend_from_slice(b"define ")?;
+    out.extend_from_slice(word_of_function(function))?;
+    out.push(b' ')?;
+    put_kept_then_blank(out, &function.before)?;
     put_type(out, function.ret)?;
     out.extend_from_slice(b" @")?;
     put_name(out, &function.name)?;
     out.push(b'(')?;
-    put_params(out, &function.names, function.params.as_slice())?;
-    out.extend_from_slice(b") {\n")?;
+    put_all_params(out, function)?;
+    out.push(b')')?;
+    put_blank_then_kept(out, &function.after)?;
     Ok(())
 }
 
-#[tactic(auto, using(crate::proofs::Appended::function_text, std::proofs::lemmas::Grind::common_steps))]
+// Appends the blocks in braces, or the end of a declaration's line.
+fn put_body(out: &mut Vec<u8>, names: &Names, blocks: &[Block]) -> Result<(), AllocError>
+    requires { AllByRecursion IsBlock (map (block_in names.now) blocks.now) }
+    ensures { OnOk result (out.new.items ≡ out.old.items
+        ++ text_of (body_pieces (map (block_in names.now) blocks.now))) }
+{
+    if blocks.is_empty() {
+        return out.extend_from_slice(b"\n");
+    }
+    out.extend_from_slice(b" {\n")?;
+    put_blocks(out, names, blocks)?;
+    out.extend_from_slice(b"}\n")?;
+    Ok(())
+}
+
+#[tactic(auto, unfolding(crate::specs::Print::function_pieces), using(type_printer::proofs::Appended::text_of_both, std::proofs::lemmas::Grind::common_steps))]
 fn put_function(out: &mut Vec<u8>, function: &Function) -> Result<(), AllocError>
     requires { IsFunction (tree_of_function function.now) }
     ensures { OnOk result (out.new.items ≡ out.old.items
         ++ text_of (function_pieces (tree_of_function function.now))) }
 {
     put_head(out, function)?;
-    put_blocks(out, &function.names, function.body.as_slice())?;
-    out.extend_from_slice(b"}\n")?;
+    put_body(out, &function.names, function.body.as_slice())
+}
+
+// Appends an empty line where something is printed already.
+fn part_from(out: &mut Vec<u8>) -> Result<(), AllocError>
+    ensures { OnOk result (out.new.items ≡ out.old.items ++ text_of (parting out.old.items)) }
+{
+    if !out.is_empty() {
+        out.push(b'\n')?;
+    }
     Ok(())
 }
 
-/// Appends functions, parted by empty lines.
+/// Appends functions, each behind an empty line, but for the first where nothing is printed before it.
 pub(crate) fn put_functions(out: &mut Vec<u8>, functions: &[Function]) -> Result<(), AllocError>
     requires { AllByRecursion IsFunction (map tree_of_function functions.now) }
     ensures { OnOk result (out.new.items ≡ out.old.items
-        ++ text_of (separated (line_feed ∷ [])
+        ++ text_of (functions_behind out.old.items
         (map function_pieces (map tree_of_function functions.now)))) }
 {
     let [first, rest @ ..] = functions else {
         return Ok(());
     };
+    part_from(out)?;
     put_function(out, first)?;
     for function in rest {
         out.push(b'\n')?;

@@ -3,34 +3,50 @@
 
 ghost use Rattle.std.specs.Prelude.{◌≡◌, ◌++◌, OnOk, OnErr};
 ghost use Rattle.text_lex.specs.Layout.{text_of};
-ghost use Rattle.ir_types.specs.Denotes.{tree_of};
 ghost use Rattle.ir_types.specs.Reads.{Reads, IsReadable};
-ghost use Rattle.ir_printer.specs.Print.{module_pieces};
+ghost use Rattle.ir_printer.specs.Print.{front_pieces, module_pieces};
 
 mod function;
+mod item;
+mod kept;
 mod line;
 #[cfg(test)]
 mod tests;
 mod value;
 
 use crate::function::put_functions;
+use crate::item::{put_comdats, put_head_lines, put_lines, put_type_names, put_variables};
 use ir_types::Module;
 use std::alloc::{AllocError, Global};
+
+// Appends what stands before the functions.
+#[tactic(auto, unfolding(crate::specs::Print::front_pieces), using(type_printer::proofs::Appended::text_of_both, std::proofs::lemmas::Grind::common_steps))]
+fn put_front(alloc: Global, m: &Module, out: &mut Vec<u8>) -> Result<(), AllocError>
+    requires { IsReadable m.now }
+    ensures { OnOk result (out.new.items ≡ out.old.items ++ text_of (front_pieces m.now)) }
+{
+    put_head_lines(out, m.head.as_slice())?;
+    put_type_names(alloc, out, m)?;
+    put_comdats(out, m.head.as_slice())?;
+    put_variables(alloc, out, m)
+}
 
 /// Appends the text of a module, which is first made in memory of its own.
 ///
 /// # Errors
 ///
 /// Where there is no room for the text; then nothing is appended.
-#[tactic(auto, unfolding(crate::specs::Print::module_pieces), using(ir_shape::proofs::Known::readable_known, crate::proofs::Printed::printed_reads))]
+#[tactic(auto, unfolding(crate::specs::Print::module_pieces), using(crate::proofs::Printed::readable_functions, crate::proofs::Printed::printed_reads, type_printer::proofs::Appended::text_of_both, std::proofs::lemmas::Grind::common_steps))]
 pub fn print_module(alloc: Global, m: &Module, out: &mut Vec<u8>) -> Result<(), AllocError>
     requires { IsReadable m.now }
     ensures text { OnOk result (out.new.items ≡ out.old.items
-        ++ text_of (module_pieces (tree_of m.now))) }
-    ensures reads { OnOk result (Reads (text_of (module_pieces (tree_of m.now))) m.now) }
+        ++ text_of (module_pieces m.now)) }
+    ensures reads { OnOk result (Reads (text_of (module_pieces m.now)) m.now) }
     ensures err { OnErr result (out.new.items ≡ out.old.items) }
 {
     let mut text = Vec::new(alloc);
+    put_front(alloc, m, &mut text)?;
     put_functions(&mut text, m.functions.as_slice())?;
+    put_lines(&mut text, m.tail.as_slice())?;
     out.extend_from_slice(&text)
 }

@@ -1,7 +1,9 @@
-//! Texts of numbers.
+//! Texts of numbers and of what is kept.
 
+use crate::kept::{put_blank_then_kept, put_kept_behind, put_kept_then_blank, put_line};
 use crate::value::put_number;
-use ir_types::Ty;
+use ir_types::{Kept, Ty};
+use std::alloc::{AllocError, Global};
 use std::test::Fail;
 
 #[test]
@@ -43,6 +45,81 @@ fn wide_numbers(rt: HostRuntime) -> Result<(), Fail> {
     assert_eq!(rt;
         out.as_slice(),
         b"9223372036854775807 -9223372036854775808 -1 -2 255".as_slice()
+    );
+    Ok(())
+}
+
+fn kept_of(alloc: Global, texts: &[&[u8]]) -> Result<Kept, AllocError> {
+    let mut kept = Kept::new(alloc);
+    for text in texts {
+        kept.push(*text)?;
+    }
+    Ok(kept)
+}
+
+#[test]
+fn kept_lines(rt: HostRuntime) -> Result<(), Fail> {
+    let triple = kept_of(
+        rt.alloc(),
+        &[b"target".as_slice(), b"triple", b"=", b"\"x86_64\""],
+    )?;
+    let node = kept_of(
+        rt.alloc(),
+        &[
+            b"!0".as_slice(),
+            b"=",
+            b"!",
+            b"{",
+            b"!1",
+            b",",
+            b"i32",
+            b"7",
+            b"}",
+        ],
+    )?;
+    let mut out = Vec::new(rt.alloc());
+    put_line(&mut out, &triple)?;
+    put_line(&mut out, &node)?;
+    assert_eq!(rt;
+        out.as_slice(),
+        b"target triple = \"x86_64\"\n!0 = !{!1, i32 7}\n".as_slice()
+    );
+    Ok(())
+}
+
+#[test]
+fn kept_runs(rt: HostRuntime) -> Result<(), Fail> {
+    let run = kept_of(
+        rt.alloc(),
+        &[
+            b"noundef".as_slice(),
+            b"align",
+            b"8",
+            b"memory",
+            b"(",
+            b"none",
+            b")",
+        ],
+    )?;
+    let behind = kept_of(
+        rt.alloc(),
+        &[b"zeroinitializer".as_slice(), b",", b"align", b"4"],
+    )?;
+    let extra = kept_of(rt.alloc(), &[b",".as_slice(), b"align", b"4"])?;
+    let none = Kept::new(rt.alloc());
+    let mut out = Vec::new(rt.alloc());
+    put_kept_then_blank(&mut out, &run)?;
+    put_kept_then_blank(&mut out, &none)?;
+    out.push(b'|')?;
+    put_blank_then_kept(&mut out, &run)?;
+    put_blank_then_kept(&mut out, &none)?;
+    out.push(b'|')?;
+    put_kept_behind(&mut out, &behind)?;
+    put_kept_behind(&mut out, &extra)?;
+    put_kept_behind(&mut out, &none)?;
+    assert_eq!(rt;
+        out.as_slice(),
+        b"noundef align 8 memory(none) | noundef align 8 memory(none)| zeroinitializer, align 4, align 4".as_slice()
     );
     Ok(())
 }

@@ -1,9 +1,10 @@
-use Rattle.std.proofs.Common.{arith, ◌∷◌, []}
+use Rattle.std.proofs.Common.{◌≡◌, ◌++◌, arith, ◌∷◌, []}
 use Rattle.ir_types.specs.Denotes.{tree_of_function}
 use Rattle.ir_shape.specs.Shape.{IsFunction}
 use Rattle.type_printer.specs.Pieces.{line_feed}
 use Rattle.ir_printer.specs.Print.{function_pieces}
 use Rattle.type_printer.proofs.Appended.{behind_first, known_from, printed_next, printed_separated}
+use Rattle.ir_printer.proofs.Appended.{functions_text}
 use Rattle.ir_printer.proofs.function.put_functions.Goals as goal
 
 pub loop-function-preserved : goal.loop-function-preserved
@@ -13,4 +14,6 @@ loop-function-preserved c = record {
 }
 
 pub returns : goal.returns
-returns c = printed_separated tree_of_function function_pieces (line_feed ∷ []) c.args.functions.now c.first-item.result c.loop-function.function-index _ _ _ (omega arith) c.first-item.is (omega arith) c.in_ok-put_function.ensures c.loop-function.invariant.printed
+returns c =
+    functions_text c.args.out.now.items c.part_from.new.out.items c.loop-function.out.items c.args.functions.now (omega arith) c.in_ok-part_from.ensures
+    (printed_separated tree_of_function function_pieces (line_feed ∷ []) c.args.functions.now c.first-item.result c.loop-function.function-index _ _ _ (omega arith) c.first-item.is (omega arith) c.in_ok-put_function.ensures c.loop-function.invariant.printed)

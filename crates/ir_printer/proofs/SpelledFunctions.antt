@@ -1,0 +1,138 @@
+-- The tokens that a function is printed as spell the function.
+use Rattle.std.proofs.Common.{◌≡◌, ◌<◌, ℕ, Bool, true, false, cond, List, [], ◌∷◌, ◌++◌, length, Option, Some, None, refl, sym, ap, ◌∙◌, subst, append_assoc, arith, inl, inr}
+use Rattle.std.specs.Prelude.{map, codes}
+use Rattle.std.specs.List.{AllByRecursion}
+use Rattle.std.proofs.lemmas.List.{append-nil}
+use Rattle.forms.specs.declared.TokenKind.TheVariants as kinds
+use Rattle.forms.specs.Form.{Lexeme, Form}
+use Rattle.forms.proofs.Begins.{test}
+use Rattle.text_lex.specs.KeptText.{token_of, kept_pieces}
+use Rattle.text_lex.specs.Layout.{Piece, lexeme, tokens_of}
+use Rattle.text_lex.proofs.KeptTexts.{kept_tokens}
+use Rattle.text_lex.proofs.Layouts.{tokens_of-append}
+use Rattle.ir_types.specs.declared.opcode.ItemWord.TheVariants as items
+use Rattle.ir_types.specs.TypeNodes.{TypeNode}
+use Rattle.ir_types.specs.Tree.{KeptTexts, BlockTree, ParamTree, FunctionTree, WrittenParam, Item, function_item}
+use Rattle.ir_types.specs.Grammar.{list, parameter, dotted_parameters, declared_function, defined_function, item_words, item}
+use Rattle.ir_shape.specs.Shape.{IsKept, before_form, after_form, IsBlock, IsParam, IsFunction}
+use Rattle.type_printer.specs.Pieces as pieces_of
+use Rattle.type_printer.specs.Pieces.{token, global_token, local_token, type_pieces, with_commas}
+use Rattle.type_printer.proofs.Says.{Says, pair_says, left_says, right_says, mapped_says, mark_says, by_word_says, there_says, marked_says, between_says, EachSays, some_says, commas_says, list_says}
+use Rattle.type_printer.proofs.Spelled.{local_says, global_says, type_says, return_type_says}
+use Rattle.ir_printer.specs.Print as print
+use Rattle.ir_printer.specs.Print.{kept_then_blank, blank_then_kept, block_pieces, param_pieces, dots_pieces, params_pieces, function_word, head_pieces, body_pieces, function_pieces}
+use Rattle.ir_printer.proofs.Numbering.{written_param, written_block, written_function}
+use Rattle.ir_printer.proofs.Spelled.{block_says}
+
+-- ---- what is kept
+
+pub kept_says : {f : Form KeptTexts} {xs : KeptTexts} → IsKept f xs → Says f xs (map token_of xs)
+kept_says h = record { spells = h.spelled }
+
+pub then_blank_tokens : (xs : KeptTexts) → tokens_of (kept_then_blank xs) ≡ map token_of xs
+then_blank_tokens [] = refl
+then_blank_tokens (w ∷ ws) = tokens_of-append (kept_pieces (w ∷ ws)) _ ∙ append-nil _ ∙ kept_tokens (w ∷ ws)
+
+blank_then_tokens : (xs : KeptTexts) → tokens_of (blank_then_kept xs) ≡ map token_of xs
+blank_then_tokens [] = refl
+blank_then_tokens (w ∷ ws) = kept_tokens (w ∷ ws)
+
+-- ---- parameters
+
+param_tokens : (p : ParamTree) → tokens_of (param_pieces p) ≡ tokens_of (type_pieces p.ty) ++ (map token_of p.kept ++ local_token p.name ∷ [])
+unfolding param_pieces
+param_tokens p = rw (tokens_of-append (type_pieces p.ty), tokens_of-append (blank_then_kept p.kept), blank_then_tokens p.kept) refl
+
+param_says : EachSays parameter written_param param_pieces IsParam
+unfolding parameter
+param_says = record {
+  one = λ p h. rw (param_tokens p) (mapped_says (p.ty, (p.kept, Some p.name)) _ refl
+      (pair_says (tokens_of (type_pieces p.ty)) _ (type_says p.ty h.ty) (pair_says (map token_of p.kept) _ (kept_says h.kept_texts) (there_says (local_says p.name h.name)))));
+}
+
+further_says : (params : List ParamTree) (further : Bool) → AllByRecursion IsParam params → Says dotted_parameters (map written_param params, further) (tokens_of (with_commas (map param_pieces params)) ++ tokens_of (cond further (dots_pieces params) []))
+unfolding dotted_parameters
+further_says [] false h = mapped_says None _ refl (record { spells = refl })
+further_says [] true h = mapped_says (Some ([], true)) _ refl (there_says (left_says (mapped_says tt _ refl (mark_says kinds.Dots (codes "...")))))
+further_says (p ∷ ps) false h = mapped_says (Some (map written_param (p ∷ ps), false)) _ refl (there_says (right_says (mapped_says (map written_param (p ∷ ps), None) _ refl (pair_says (tokens_of (with_commas (map param_pieces (p ∷ ps)))) [] (commas_says param_says (p ∷ ps) (omega arith) h) (record { spells = refl })))))
+further_says (p ∷ ps) true h = mapped_says (Some (map written_param (p ∷ ps), true)) _ refl (there_says (right_says (mapped_says (map written_param (p ∷ ps), Some tt) _ refl (pair_says (tokens_of (with_commas (map param_pieces (p ∷ ps)))) _ (commas_says param_says (p ∷ ps) (omega arith) h) (there_says (marked_says kinds.Comma (codes ",") (mark_says kinds.Dots (codes "..."))))))))
+
+params_tokens : (f : FunctionTree) → tokens_of (params_pieces f) ≡ tokens_of (with_commas (map param_pieces f.params)) ++ tokens_of (cond f.varargs (dots_pieces f.params) [])
+params_tokens f = tokens_of-append (with_commas (map param_pieces f.params)) _
+
+-- ---- functions
+
+abbrev in_parens : List Lexeme → List Lexeme
+in_parens ts = token kinds.LeftParen (codes "(") ∷ (ts ++ token kinds.RightParen (codes ")") ∷ [])
+
+abbrev in_braces : List Lexeme → List Lexeme
+in_braces ts = token kinds.LeftBrace (codes "{") ∷ (ts ++ token kinds.RightBrace (codes "}") ∷ [])
+
+abbrev blocks_tokens : List BlockTree → List Lexeme
+blocks_tokens bs = tokens_of (pieces_of.separated (pieces_of.line_feed ∷ []) (map block_pieces bs))
+
+-- a function's parts and their tokens
+parts_tokens : (w : List ℕ) (before ret params after body : List Piece) (n : Lexeme) → tokens_of ((pieces_of.word w ∷ pieces_of.blank ∷ (before ++ (ret ++ (pieces_of.blank ∷ lexeme n ∷ pieces_of.left_paren ∷ (params ++ (pieces_of.right_paren ∷ after)))))) ++ body)
+    ≡ token kinds.Word w ∷ (tokens_of before ++ (tokens_of ret ++ (n ∷ (in_parens (tokens_of params) ++ (tokens_of after ++ tokens_of body)))))
+parts_tokens w before ret params after body n = simp (tokens_of-append, append_assoc)
+
+function_tokens : (f : FunctionTree) → tokens_of (function_pieces f)
+    ≡ token kinds.Word (function_word f.body) ∷ (map token_of f.before ++ (tokens_of (type_pieces f.ret) ++ (global_token f.name ∷ (in_parens (tokens_of (params_pieces f)) ++ (map token_of f.after ++ tokens_of (body_pieces f.body))))))
+unfolding function_pieces head_pieces
+function_tokens f =
+    parts_tokens (function_word f.body) (kept_then_blank f.before) (type_pieces f.ret) (params_pieces f) (blank_then_kept f.after) (body_pieces f.body) (global_token f.name)
+    ∙ ap (λ (ts : List Lexeme). token kinds.Word (function_word f.body) ∷ (ts ++ (tokens_of (type_pieces f.ret) ++ (global_token f.name ∷ (in_parens (tokens_of (params_pieces f)) ++ (tokens_of (blank_then_kept f.after) ++ tokens_of (body_pieces f.body))))))) (then_blank_tokens f.before)
+    ∙ ap (λ (ts : List Lexeme). token kinds.Word (function_word f.body) ∷ (map token_of f.before ++ (tokens_of (type_pieces f.ret) ++ (global_token f.name ∷ (in_parens (tokens_of (params_pieces f)) ++ (ts ++ tokens_of (body_pieces f.body))))))) (blank_then_tokens f.after)
+
+body_tokens : (b : BlockTree) (bs : List BlockTree) → tokens_of (body_pieces (b ∷ bs)) ≡ in_braces (blocks_tokens (b ∷ bs))
+body_tokens b bs = ap (λ (ts : List Lexeme). token kinds.LeftBrace (codes "{") ∷ ts) (tokens_of-append (pieces_of.separated (pieces_of.line_feed ∷ []) (map block_pieces (b ∷ bs))) _)
+
+declared_says : (f : FunctionTree) → f.body ≡ [] → IsFunction f → Says declared_function (written_function f) (map token_of f.before ++ (tokens_of (type_pieces f.ret) ++ (global_token f.name ∷ (in_parens (tokens_of (params_pieces f)) ++ map token_of f.after))))
+unfolding declared_function
+declared_says f e h =
+    let before = subst (λ (bs : List BlockTree). IsKept (before_form bs) f.before) e h.before in
+    let after = subst (λ (bs : List BlockTree). IsKept (after_form bs) f.after) e h.after in
+    let params : Says dotted_parameters (map written_param f.params, f.varargs) (tokens_of (params_pieces f)) = rw (params_tokens f) (further_says f.params f.varargs h.params) in
+    mapped_says (f.before, (f.ret, (f.name, ((map written_param f.params, f.varargs), f.after)))) _ (rw e refl)
+    (pair_says (map token_of f.before) _ (kept_says before) (pair_says (tokens_of (type_pieces f.ret)) _ (return_type_says f.ret h.ret) (pair_says (global_token f.name ∷ []) _ (global_says f.name h.name)
+    (pair_says (in_parens (tokens_of (params_pieces f))) _ (between_says (tokens_of (params_pieces f)) kinds.LeftParen kinds.RightParen _ _ params) (kept_says after)))))
+
+-- only a declared function takes further arguments
+no_further : (f : FunctionTree) (b : BlockTree) (bs : List BlockTree) → f.body ≡ b ∷ bs → IsFunction f → f.varargs ≡ false
+no_further f b bs e h = elim (test f.varargs) [ inr n ↦ n | inl y ↦ absurd (let none = h.fixed y in cc) ]
+
+defined_says : (f : FunctionTree) (b : BlockTree) (bs : List BlockTree) → f.body ≡ b ∷ bs → IsFunction f → Says defined_function (written_function f) (map token_of f.before ++ (tokens_of (type_pieces f.ret) ++ (global_token f.name ∷ (in_parens (tokens_of (params_pieces f)) ++ (map token_of f.after ++ in_braces (blocks_tokens (b ∷ bs)))))))
+unfolding defined_function
+defined_says f b bs e h =
+    let before = subst (λ (cs : List BlockTree). IsKept (before_form cs) f.before) e h.before in
+    let after = subst (λ (cs : List BlockTree). IsKept (after_form cs) f.after) e h.after in
+    let blocks = subst (AllByRecursion IsBlock) e h.blocks in
+    let fixed = no_further f b bs e h in
+    let no_dots : tokens_of (params_pieces f) ≡ tokens_of (with_commas (map param_pieces f.params)) = params_tokens f ∙ rw fixed (append-nil _) in
+    let params : Says (list parameter) (map written_param f.params) (tokens_of (params_pieces f)) = rw no_dots (list_says param_says f.params h.params) in
+    mapped_says (f.before, (f.ret, (f.name, (map written_param f.params, (f.after, map written_block (b ∷ bs)))))) _ (rw (e, fixed) refl)
+    (pair_says (map token_of f.before) _ (kept_says before) (pair_says (tokens_of (type_pieces f.ret)) _ (return_type_says f.ret h.ret) (pair_says (global_token f.name ∷ []) _ (global_says f.name h.name)
+    (pair_says (in_parens (tokens_of (params_pieces f))) _ (between_says (tokens_of (params_pieces f)) kinds.LeftParen kinds.RightParen _ _ params)
+    (pair_says (map token_of f.after) _ (kept_says after) (between_says (blocks_tokens (b ∷ bs)) kinds.LeftBrace kinds.RightBrace _ _ (some_says (10 ∷ []) block_says (b ∷ bs) (omega arith) blocks)))))))
+
+abbrev up_to_params : FunctionTree → List Lexeme → List Lexeme
+up_to_params f ts = map token_of f.before ++ (tokens_of (type_pieces f.ret) ++ (global_token f.name ∷ (in_parens (tokens_of (params_pieces f)) ++ ts)))
+
+declared_tokens : (f : FunctionTree) → f.body ≡ [] → tokens_of (function_pieces f) ≡ token kinds.Word (codes "declare") ∷ up_to_params f (map token_of f.after)
+declared_tokens f e =
+    function_tokens f ∙ ap (λ (bs : List BlockTree). token kinds.Word (function_word bs) ∷ up_to_params f (map token_of f.after ++ tokens_of (body_pieces bs))) e
+    ∙ ap (λ (ts : List Lexeme). token kinds.Word (codes "declare") ∷ up_to_params f ts) (append-nil (map token_of f.after))
+
+defined_tokens : (f : FunctionTree) (b : BlockTree) (bs : List BlockTree) → f.body ≡ b ∷ bs → tokens_of (function_pieces f) ≡ token kinds.Word (codes "define") ∷ up_to_params f (map token_of f.after ++ in_braces (blocks_tokens (b ∷ bs)))
+defined_tokens f b bs e =
+    function_tokens f ∙ ap (λ (cs : List BlockTree). token kinds.Word (function_word cs) ∷ up_to_params f (map token_of f.after ++ tokens_of (body_pieces cs))) e
+    ∙ ap (λ (ts : List Lexeme). token kinds.Word (codes "define") ∷ up_to_params f (map token_of f.after ++ ts)) (body_tokens b bs)
+
+-- What is printed of a function spells it as an item, whatever memory types are.
+pub function_says : (m : Form (List TypeNode)) (f : FunctionTree) → IsFunction f → Says (item m) (function_item (written_function f)) (tokens_of (function_pieces f))
+unfolding item item_words
+function_says m f h = by_body f.body refl
+  where
+    by_body : (bs : List BlockTree) → f.body ≡ bs → Says (item m) (function_item (written_function f)) (tokens_of (function_pieces f))
+    by_body [] e = rw (declared_tokens f e) (left_says (by_word_says (codes "declare") items.Declare refl (mapped_says (written_function f) _ refl (declared_says f e h))))
+    by_body (b ∷ bs) e = rw (defined_tokens f b bs e) (left_says (by_word_says (codes "define") items.Define refl (mapped_says (written_function f) _ refl (defined_says f b bs e h))))

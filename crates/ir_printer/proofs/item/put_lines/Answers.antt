@@ -1,0 +1,7 @@
+use Rattle.std.proofs.Common.{arith}
+use Rattle.ir_printer.specs.Print.{whole_line}
+use Rattle.ir_printer.proofs.Appended.{one_printed}
+use Rattle.ir_printer.proofs.item.put_lines.Goals as goal
+
+pub loop-line-preserved : goal.loop-line-preserved
+loop-line-preserved c = one_printed whole_line c.args.lines.now c.loop-line.line-index c.line-item.result _ _ _ (omega arith) c.line-item.is c.in_ok-put_line.ensures c.loop-line.invariant
