@@ -1,5 +1,5 @@
 -- The cause of a refusal of the text, and that the causes leave nothing else.
-use Rattle.std.proofs.Common.{◌≡◌, ◌≤◌, ℕ, ◌⊎◌, List, length, refl, subst, sym, ◌∙◌, inl, inr, arith, true≢false, IfSome, IfErr}
+use Rattle.std.proofs.Common.{◌≡◌, ◌≤◌, ℕ, ◌⊎◌, List, length, refl, subst, sym, ap, ◌∙◌, inl, inr, arith, true≢false, IfSome, IfErr}
 use Rattle.std.specs.declared.option.Option.{Option}
 use Rattle.std.specs.declared.option.Option.TheVariants.{None, Some}
 use Rattle.std.specs.declared.result.Result.{Result}
@@ -14,6 +14,8 @@ use Rattle.text_lex.specs.declared.fault.TextFault.TheVariants.{BadToken, LeftOu
 use Rattle.text_lex.specs.declared.fault.Count.{Count}
 use Rattle.text_lex.specs.Fault.{IsLeftOutAt, HasNoneLeftOut}
 use Rattle.text_lex.proofs.Unique.{lexes_unique, stops_lexes}
+use Rattle.ir_limits.specs.Limits.{limit_passed}
+use Rattle.ir_laws.proofs.Readings.{one_numbering}
 use Rattle.ir_reader.specs.Refusal.{IsRefusal}
 use Rattle.vplanc.specs.declared.answer.Which.TheVariants.{Module as TheModule, Out}
 use Rattle.vplanc.specs.declared.answer.Status.{Status}
@@ -56,8 +58,13 @@ none-is-left-out text word place free out =
     true≢false (sym first.left_out ∙ free.none out.place)
 
 -- an accepted text passes no limit
-not-over : (text : List ℕ) → IsAccepted text → (count : Count) (n : ℕ) → IsRefusal text (CountLimit count n) → ⊥
-not-over text ok count n r = ?
+not-over : {A : Type 0} (text : List ℕ) → IsAccepted text → (count : Count) (n : ℕ) → IsRefusal text (CountLimit count n) → A
+not-over text ok count n r =
+    let p = r.2 in
+    let same = ap limit_passed (one_numbering text ok.meant p.read_as ok.reads.reads p.reads) in
+    let within = ok.reads.within in
+    let over = p.passed in
+    absurd (cc)
 
 -- an accepted file, with no fault, is printed, or memory is short
 accepted-done : (text : List ℕ) (before now last out_before out_now : ℕ) (status : Status) → FileCause (Some text) before now last status → WriteCause out_before out_now status → IsAccepted text → ¬ Rose before now → ¬ Rose out_before out_now → (status ≡ Done) ⊎ (status ≡ Memory)
@@ -68,7 +75,7 @@ accepted-done text b n l ob on (Text (TextLimit size)) cause write ok read wrote
 accepted-done text b n l ob on (Text (BadToken place)) cause write ok read wrote = absurd (stops_lexes text place ok.nothing_left_out.tokens cause.1.1 ok.nothing_left_out.lexed)
 accepted-done text b n l ob on (Text (LeftOut word place)) cause write ok read wrote = absurd (none-is-left-out text word place ok.nothing_left_out cause.1.1)
 accepted-done text b n l ob on (Text (NoReading place)) cause write ok read wrote = absurd (cause.1.1 ok.meant ok.reads.reads)
-accepted-done text b n l ob on (Text (CountLimit count c)) cause write ok read wrote = absurd (not-over text ok count c cause.1)
+accepted-done text b n l ob on (Text (CountLimit count c)) cause write ok read wrote = not-over text ok count c cause.1
 accepted-done text b n l ob on (Text TextMemory) cause write ok read wrote = absurd cause
 accepted-done text b n l ob on (ReadFault TheModule) cause write ok read wrote = absurd (read cause)
 accepted-done text b n l ob on (ReadFault Out) cause write ok read wrote = absurd cause

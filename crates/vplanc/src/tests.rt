@@ -4,6 +4,7 @@ use crate::answer::Status;
 use crate::run::run;
 use ir_printer::print_module;
 use ir_reader::read_module;
+use lists::Copies;
 use std::alloc::Global;
 use std::process::Abort;
 use std::test::Fail;
@@ -30,6 +31,27 @@ const PRINTED: &str = "define i32 @f(i32 %0, i1 %1) {
   %5 = phi i32 [ %0, %2 ], [ 7, %3 ]
   ret i32 %5
 }
+";
+
+const ITEMS: &str = "$v = comdat any
+@v = linkonce_odr global i32 0, comdat, align 4
+declare !note !0 void @g()
+define void @h() !note !0 {
+  ret void
+}
+!0 = !{}
+";
+
+const ITEMS_PRINTED: &str = "$v = comdat any
+@v = linkonce_odr global i32 0, comdat, align 4
+
+declare !note !0 void @g()
+
+define void @h() !note !0 {
+0:
+  ret void
+}
+!0 = !{}
 ";
 
 fn strings(alloc: Global, words: &[&str]) -> Result<Vec<String>, Fail> {
@@ -93,6 +115,49 @@ fn prints_behind_what_is_there(rt: HostRuntime) -> Result<(), Fail> {
     assert_eq!(rt; text[..2], *b"; ".as_slice());
     assert_eq!(rt; text[2..], *PRINTED.as_bytes());
     Ok(())
+}
+
+#[test]
+fn prints_items(rt: HostRuntime) -> Result<(), Fail> {
+    let alloc = rt.alloc();
+    for text in [ITEMS, ITEMS_PRINTED] {
+        let text = Vec::from_slice(alloc, text.as_bytes())?;
+        let wanted = (0, ITEMS_PRINTED, "");
+        compare(&rt, alloc, &["m"], text, Vec::new(alloc), wanted)?;
+    }
+    Ok(())
+}
+
+#[test]
+fn prints_a_copy_alike(rt: HostRuntime) -> Result<(), Fail> {
+    let alloc = rt.alloc();
+    let mut text = Vec::new(alloc);
+    match read_module(alloc, ITEMS.as_bytes()) {
+        Ok(module) => {
+            let copy = module.copy()?;
+            print_module(alloc, &module, &mut text)?;
+            assert_eq!(rt; text.as_slice(), ITEMS_PRINTED.as_bytes());
+            assert_eq!(rt; copy.functions.len(), 2);
+            assert_eq!(rt; copy.symbols.len(), 3);
+            assert_eq!(rt; copy.types.len(), 1);
+            assert_eq!(rt; copy.head.len(), 1);
+            assert_eq!(rt; copy.tail.len(), 1);
+        }
+        Err(_) => rt.abort(),
+    }
+    Ok(())
+}
+
+#[test]
+fn refuses_what_passes_a_limit(rt: HostRuntime) -> Result<(), Fail> {
+    let alloc = rt.alloc();
+    let mut text = Vec::from_slice(alloc, b"@")?;
+    for _ in 0..256 {
+        text.push(b'a')?;
+    }
+    text.extend_from_slice(b" = global i8 0")?;
+    let line = "vplanc: text: name limit 256\n";
+    compare(&rt, alloc, &["m"], text, Vec::new(alloc), (3, "", line))
 }
 
 #[test]
