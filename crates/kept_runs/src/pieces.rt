@@ -56,10 +56,7 @@ fn is_unsigned(text: &[u8]) -> bool
 /// # Errors
 ///
 /// Where none stands next, or there is no room.
-pub fn keep_unsigned<'t>(
-    tokens: Cursor<'t>,
-    texts: &mut Texts,
-) -> Result<Cursor<'t>, SyntaxFault>
+pub fn keep_unsigned<'t>(tokens: Cursor<'t>, texts: &mut Texts) -> Result<Cursor<'t>, SyntaxFault>
     ensures { Gives (λ rest. (texts.new, left rest)) result (behind texts.old (read (kept_such Number is_unsigned) (left tokens.entry))) }
 {
     let (text, rest) = tokens.one(TokenKind::Number)?;
