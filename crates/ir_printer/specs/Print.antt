@@ -1,6 +1,5 @@
 -- The text that a module is printed as, in pieces: its tokens and the white space between them.
 use Rattle.std.specs.Prelude.{ℕ, Bool, true, false, ◌==◌, List, [], ◌∷◌, ◌++◌, map, flat_map, codes, Option, Some, None, if◌then◌else◌}
-use Rattle.forms.specs.declared.TokenKind.{TokenKind}
 use Rattle.forms.specs.declared.TokenKind.TheVariants as kinds
 use Rattle.forms.specs.Form.{Lexeme}
 use Rattle.text_lex.specs.Layout.{Piece, lexeme, text_of}
@@ -208,13 +207,13 @@ variable_pieces m s id writable =
     lexeme (global_token s.name) ∷ blank ∷ equal ∷ blank ∷ (kept_then_blank s.before ++ (word (variable_word writable) ∷ blank ∷ (type_at m id ++ (kept_behind [] s.after ++ (line_feed ∷ [])))))
 
 -- of the symbols only variables are printed by themselves
-abbrev pub kind_of_symbol_pieces : Module → Symbol → SymbolKind → List Piece
-kind_of_symbol_pieces m s (Variable id writable) = variable_pieces m s id writable
-kind_of_symbol_pieces m s (symbols.Function f) = []
-kind_of_symbol_pieces m s symbols.Missing = []
+abbrev pub symbol_kind_pieces : Module → Symbol → SymbolKind → List Piece
+symbol_kind_pieces m s (Variable id writable) = variable_pieces m s id writable
+symbol_kind_pieces m s (symbols.Function f) = []
+symbol_kind_pieces m s symbols.Missing = []
 
 abbrev pub symbol_pieces : Module → Symbol → List Piece
-symbol_pieces m s = kind_of_symbol_pieces m s s.kind
+symbol_pieces m s = symbol_kind_pieces m s s.kind
 
 -- ---- lines, and the whole
 
