@@ -10,9 +10,8 @@ use Rattle.std.proofs.lemmas.List.Folds.{flat_map-map}
 use Rattle.forms.proofs.Begins.{test}
 use Rattle.text_lex.proofs.Lexed.{each_split, each_append}
 use Rattle.ir_types.specs.declared.name.Name.{Name}
-use Rattle.ir_types.specs.TypeNodes.{TypeNode}
 use Rattle.ir_types.specs.Collected.{as_head, as_comdat, as_type, as_variable, as_function, as_attributes, as_metadata, all_used, unknown, missing_name, symbol_of, symbols_from, with_missing, collected}
-use Rattle.ir_types.specs.Tree.{KeptTexts, FunctionTree, NamedTree, defined, opaque, missing, TypeNameTree, SymbolKindTree, variable, function, missing_symbol, SymbolTree, ModuleTree, VariableTree, Item, head_line, comdat_line, type_item, variable_item, function_item, attribute_line, metadata_line}
+use Rattle.ir_types.specs.Tree.{KeptTexts, FunctionTree, NamedTree, defined, opaque, missing, TypeNameTree, SymbolKindTree, variable, function, missing_symbol, SymbolTree, ModuleTree, Item, head_line, comdat_line, type_item, variable_item, function_item, attribute_line, metadata_line}
 use Rattle.ir_shape.specs.Shape.{IsFunction, IsItem, IsModule}
 use Rattle.ir_printer.specs.Print.{is_comdat}
 use Rattle.ir_printer.proofs.Lines.{head_no_comdat, comdat_is, begins_group, group_is, metadata_is}

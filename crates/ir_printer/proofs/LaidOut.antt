@@ -1,13 +1,11 @@
 -- The pieces that a block is printed as are tokens and join.
-use Rattle.std.proofs.Common.{◌≡◌, ◌<◌, ◌^◌, ℕ, eqb, List, [], ◌∷◌, ◌++◌, Option, Some, None, refl, append_assoc, arith, inl, inr}
-use Rattle.std.specs.Prelude.{map, codes, decimal}
+use Rattle.std.proofs.Common.{◌≡◌, ◌<◌, ◌^◌, ℕ, eqb, List, [], ◌∷◌, ◌++◌, Option, Some, None, refl, inl, inr}
+use Rattle.std.specs.Prelude.{map, codes}
 use Rattle.std.specs.List.{AllByRecursion}
 use Rattle.forms.specs.declared.TokenKind.TheVariants as kinds
 use Rattle.forms.specs.Lexical.{kind_of, table}
 use Rattle.forms.proofs.Begins.{test}
-use Rattle.text_lex.specs.Layout.{Piece, lexeme}
-use Rattle.text_lex.proofs.Decimals.{decimal_digits}
-use Rattle.text_lex.proofs.Printed.{integer_word, number_digits}
+use Rattle.text_lex.specs.Layout.{Piece}
 use Rattle.ir_types.specs.declared.name.Name.{Name}
 use Rattle.ir_types.specs.declared.inst.Ty.{Ty}
 use Rattle.ir_types.specs.declared.inst.Ty.TheVariants.{Int, Ptr, Vector, Void}
@@ -19,12 +17,12 @@ use Rattle.ir_types.specs.declared.inst.InstKind.{InstKind}
 use Rattle.ir_types.specs.declared.inst.InstKind.TheVariants.{Binary, Compare, Phi, Jump, Branch, Return, ReturnVoid}
 use Rattle.ir_types.specs.Grammar.{width_of}
 use Rattle.ir_types.specs.Tree.{OperandTree, local, number, InstTree, BlockTree}
-use Rattle.ir_shape.specs.Shape.{IsName, IsOneOf, widths, IsType, IsReturnType, IsOperand, operand_type, IsResult, IsInst, IsBlock}
-use Rattle.type_printer.specs.Pieces.{token, blank, indent, line_feed, right_paren, left_brace, right_brace, with_commas, global_token, label_token, type_pieces}
-use Rattle.type_printer.proofs.Names.{local_kind, global_kind, label_kind}
+use Rattle.ir_shape.specs.Shape.{IsName, IsType, IsOperand, operand_type, IsResult, IsInst, IsBlock}
+use Rattle.type_printer.specs.Pieces.{with_commas, label_token, type_pieces}
+use Rattle.type_printer.proofs.Names.{local_kind, label_kind}
 use Rattle.type_printer.proofs.Widths.{type_within}
 use Rattle.type_printer.proofs.Laid.{IsLaid, IsBehind, loose, nothing_behind, blank_laid, feed_laid, mark_laid, token_laid, laid-append, behind-append, each_laid, separated_laid, all_laid}
-use Rattle.type_printer.proofs.LaidOut.{comma_laid, equal_laid, bracket_kinds, commas_part, feeds_part, indents_part, local_laid, word_laid, type_laid, type_returned, spaced_laid}
+use Rattle.type_printer.proofs.LaidOut.{comma_laid, equal_laid, bracket_kinds, commas_part, indents_part, local_laid, word_laid, type_laid, type_returned, spaced_laid}
 use Rattle.ir_printer.specs.Print.{number_token, operand_token, operand_pieces, predicate_word, operator_word, typed_pieces, target_pieces, targets_pieces, entry_pieces, entries_of, kind_pieces, result_pieces, inst_pieces, block_pieces}
 use Rattle.ir_printer.proofs.Numbers.{signed_kind}
 

@@ -1,5 +1,5 @@
 -- The pieces that a module is printed as spell its items, and join.
-use Rattle.std.proofs.Common.{◌≡◌, ◌≤◌, ◌+◌, ℕ, true, false, List, [], ◌∷◌, ◌++◌, length, Option, Some, None, refl, sym, ap, ◌∙◌, subst, append_assoc, arith, inl, inr, length-append}
+use Rattle.std.proofs.Common.{◌≡◌, ◌≤◌, ◌+◌, ℕ, List, [], ◌∷◌, ◌++◌, length, refl, sym, ap, ◌∙◌, subst, append_assoc, arith, inl, inr, length-append}
 use Rattle.std.specs.Prelude.{map, codes, flat_map}
 use Rattle.std.specs.List.{AllByRecursion}
 use Rattle.std.proofs.lemmas.List.{append-nil}
@@ -11,7 +11,6 @@ use Rattle.text_lex.proofs.Layouts.{tokens_of-append}
 use Rattle.text_lex.proofs.Lexed.{each_split}
 use Rattle.ir_types.specs.declared.name.Name.{Name}
 use Rattle.ir_types.specs.declared.memory_type.TypeId.{TypeId}
-use Rattle.ir_types.specs.declared.memory_type.TypeName.{TypeName}
 use Rattle.ir_types.specs.declared.memory_type.NamedType.{NamedType}
 use Rattle.ir_types.specs.declared.memory_type.NamedType.TheVariants.{Defined, Opaque, Missing}
 use Rattle.ir_types.specs.declared.module.Symbol.{Symbol}
@@ -23,12 +22,12 @@ use Rattle.ir_types.specs.Types.{AreTypes}
 use Rattle.ir_types.specs.Denotes.{type_names_of, nodes_in, named_in, type_name_in, symbol_kind_in, symbol_in, tree_of_function, tree_of}
 use Rattle.ir_types.specs.Grammar.{memory_type, item}
 use Rattle.ir_types.specs.Tree.{KeptTexts, FunctionTree, Item, function_item, head_line, comdat_line, attribute_line, metadata_line}
-use Rattle.ir_shape.specs.Shape.{IsName, IsMemory, IsItem}
+use Rattle.ir_shape.specs.Shape.{IsMemory, IsItem}
 use Rattle.type_printer.specs.Pieces.{word, line_feed, each_behind, separated}
 use Rattle.type_printer.proofs.Says.{Says, none_says, more_says}
 use Rattle.type_printer.proofs.Laid.{IsLaid, loose, nothing_behind, feed_laid}
 use Rattle.type_printer.proofs.MemoryPrinted.{memory_says, memory_laid}
-use Rattle.ir_printer.specs.Print.{function_pieces, parting, functions_behind, type_at, definition_pieces, named_pieces, type_name_pieces, variable_pieces, kind_of_symbol_pieces, symbol_pieces, is_comdat, whole_line, head_line_pieces, comdat_line_pieces, front_pieces, module_pieces}
+use Rattle.ir_printer.specs.Print.{function_pieces, parting, functions_behind, type_at, definition_pieces, named_pieces, type_name_pieces, variable_pieces, symbol_kind_pieces, symbol_pieces, is_comdat, whole_line, head_line_pieces, comdat_line_pieces, front_pieces, module_pieces}
 use Rattle.ir_printer.proofs.Lines.{begins_group}
 use Rattle.ir_printer.proofs.Grouped.{head_items, comdat_items, named_items, type_items, kind_items, symbol_items, function_items, tail_items, printed_items}
 use Rattle.ir_printer.proofs.Numbering.{written_item}
@@ -47,7 +46,7 @@ items_parted m = rw (flat_map-map type_items (type_name_in m) m.type_names, flat
 
 -- ---- pieces of items
 
--- the pieces spell the items, where types are nested at most so deep as the number of tokens is allowed to be, and any that are laid may stand behind them
+-- the pieces spell the items, where types may be nested so deep and there are no more tokens than that; and any that are laid may stand behind them
 record Prints (d : ℕ) (items : List (Item FunctionTree)) (ps : List Piece) : Type 0 where
   says : length (tokens_of ps) ≤ d → Says (many (item (memory_type d))) (map written_item items) (tokens_of ps)
   laid : EndsLine ps
@@ -129,7 +128,7 @@ module _ (m : Module) (listed : AreTypes (type_names_of m) 0 m.types) where
   named_prints d n Opaque h = one d _ (definition_pieces n (word (codes "opaque") ∷ [])) (λ le. opaque_says (memory_type d) n h.0.0) (definition_laid n (word (codes "opaque") ∷ []) h.0.0 opaque_laid)
   named_prints d n Missing h = nothing d
 
-  kind_prints : (d : ℕ) (s : Symbol) (k : SymbolKind) → AllByRecursion IsItem (kind_items (symbol_in m s) (symbol_kind_in m k)) → Prints d (kind_items (symbol_in m s) (symbol_kind_in m k)) (kind_of_symbol_pieces m s k)
+  kind_prints : (d : ℕ) (s : Symbol) (k : SymbolKind) → AllByRecursion IsItem (kind_items (symbol_in m s) (symbol_kind_in m k)) → Prints d (kind_items (symbol_in m s) (symbol_kind_in m k)) (symbol_kind_pieces m s k)
   kind_prints d s (Variable id writable) h =
       one d _ (variable_pieces m s id writable) (λ le. variable_says m s id writable (memory_type d) (nodes_in m id) h.0.name h.0.before h.0.after (type_printed d id h.0.ty (variable_within m s id writable d le)))
       (variable_laid m s id writable h.0.name h.0.before.tokens h.0.after.tokens (type_laid_at id h.0.ty))

@@ -1,16 +1,13 @@
 -- The tokens that a block is printed as spell the block.
-use Rattle.std.proofs.Common.{◌≡◌, ◌<◌, ◌^◌, ◌≤◌, ℕ, zero, suc, true, false, eqb, List, [], ◌∷◌, ◌++◌, length, Option, Some, None, cond, lit<, lit≤, refl, sym, ap, ◌∙◌, append_assoc, arith, inl, inr}
-use Rattle.std.specs.Prelude.{map, codes, find, decimal}
+use Rattle.std.proofs.Common.{◌≡◌, ◌<◌, ◌^◌, ℕ, zero, suc, eqb, List, [], ◌∷◌, ◌++◌, length, Option, Some, None, cond, refl, sym, ap, ◌∙◌, append_assoc, arith, inl, inr}
+use Rattle.std.specs.Prelude.{map, codes}
 use Rattle.std.specs.List.{AllByRecursion}
-use Rattle.std.proofs.lemmas.Bool.{eqb-true, eq-eqb}
+use Rattle.std.proofs.lemmas.Bool.{eqb-true}
 use Rattle.std.proofs.lemmas.List.{append-nil}
-use Rattle.std.proofs.lemmas.Fmt.{decimal_digit, decimal_step}
 use Rattle.forms.specs.declared.TokenKind.TheVariants as kinds
-use Rattle.forms.specs.Form.{Lexeme, Form, Spells, pair, many}
+use Rattle.forms.specs.Form.{Lexeme, Form, pair, many}
 use Rattle.forms.proofs.Begins.{test}
-use Rattle.text_lex.specs.Names.{is_digits}
 use Rattle.text_lex.specs.Layout.{Piece, tokens_of}
-use Rattle.text_lex.proofs.Decimals.{decimal_digits, number_of-decimal}
 use Rattle.text_lex.proofs.Layouts.{tokens_of-append}
 use Rattle.ir_types.specs.declared.name.Name.{Name}
 use Rattle.ir_types.specs.declared.inst.Ty.{Ty}
@@ -22,18 +19,16 @@ use Rattle.ir_types.specs.declared.inst.InstKind.{InstKind}
 use Rattle.ir_types.specs.declared.inst.InstKind.TheVariants.{Binary, Compare, Phi, Jump, Branch, Return, ReturnVoid}
 use Rattle.ir_types.specs.declared.opcode.Operation.TheVariants as operations
 use Rattle.ir_types.specs.declared.opcode.Terminator.TheVariants as terminators
-use Rattle.ir_types.specs.Written.{number_of}
 use Rattle.ir_types.specs.Tree.{OperandTree, local, number, InstTree}
-use Rattle.ir_types.specs.Grammar.{local_name, global_name, label, width, lane_counts, lanes_of, vector_type, value_type, return_type, WrittenValue, named, digits, yes, no, value, width_of, bits_for, operand_at, two_values, binary, predicates, compared, compare, entry_of_phi, phi, target, branch, void_tree, ret, operation_words, operation, terminator_words, terminator, line, block}
-use Rattle.ir_shape.specs.Shape.{IsName, IsOneOf, widths, IsType, IsReturnType, IsOperand, IsBody, IsInst, IsResult, IsTerminator, EndsOnce, IsBlock}
-use Rattle.ir_shape.proofs.Among.{of_each}
+use Rattle.ir_types.specs.Grammar.{value_type, WrittenValue, named, digits, yes, no, value, width_of, bits_for, operand_at, two_values, binary, predicates, compared, compare, entry_of_phi, phi, target, branch, void_tree, ret, operation_words, operation, terminator_words, terminator, line, block}
+use Rattle.ir_shape.specs.Shape.{IsName, IsType, IsOperand, IsBody, IsInst, IsResult, IsTerminator, EndsOnce, IsBlock}
 use Rattle.type_printer.specs.Texts.{signed_text}
 use Rattle.type_printer.specs.Pieces as pieces_of
 use Rattle.type_printer.specs.Pieces.{token, local_token, global_token, label_token, width_word, type_pieces, with_commas}
 use Rattle.type_printer.proofs.Names.{local_again}
 use Rattle.type_printer.proofs.Widths.{type_within}
-use Rattle.type_printer.proofs.Says.{Says, pair_says, left_says, right_says, mapped_says, made_says, one_says, word_says, ahead_says, by_word_says, there_says, behind_says, after_mark_says, between_says, EachSays, some_says, commas_says, list_says, separated_says}
-use Rattle.type_printer.proofs.Spelled.{local_says, global_says, label_says, decimals, type_says, return_type_says}
+use Rattle.type_printer.proofs.Says.{Says, pair_says, left_says, right_says, mapped_says, made_says, one_says, word_says, ahead_says, by_word_says, there_says, behind_says, after_mark_says, between_says, EachSays, commas_says}
+use Rattle.type_printer.proofs.Spelled.{local_says, label_says, decimals, type_says}
 use Rattle.ir_printer.specs.Print as print
 use Rattle.ir_printer.specs.Print.{number_token, operand_token, operand_pieces, predicate_word, operator_word, typed_pieces, target_pieces, targets_pieces, entry_pieces, entries_of, kind_pieces, inst_pieces, block_pieces}
 use Rattle.ir_printer.proofs.Numbers.{signed_again}

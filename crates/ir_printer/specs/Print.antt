@@ -1,6 +1,5 @@
 -- The text that a module is printed as, in pieces: its tokens and the white space between them.
 use Rattle.std.specs.Prelude.{ℕ, Bool, true, false, ◌==◌, List, [], ◌∷◌, ◌++◌, map, flat_map, codes, Option, Some, None, if◌then◌else◌}
-use Rattle.forms.specs.declared.TokenKind.{TokenKind}
 use Rattle.forms.specs.declared.TokenKind.TheVariants as kinds
 use Rattle.forms.specs.Form.{Lexeme}
 use Rattle.text_lex.specs.Layout.{Piece, lexeme, text_of}
@@ -32,6 +31,7 @@ use Rattle.type_printer.specs.Pieces.{token, word, comma, equal, left_paren, rig
 
 -- ---- tokens
 
+-- `...`
 abbrev pub dots : Piece
 dots = lexeme (token kinds.Dots (codes "..."))
 
@@ -163,6 +163,7 @@ abbrev pub body_pieces : List BlockTree → List Piece
 body_pieces [] = line_feed ∷ []
 body_pieces (b ∷ bs) = blank ∷ left_brace ∷ line_feed ∷ (separated (line_feed ∷ []) (map block_pieces (b ∷ bs)) ++ (right_brace ∷ line_feed ∷ []))
 
+-- the head, and what stands behind it
 unfoldable pub function_pieces : FunctionTree → List Piece
 function_pieces f = head_pieces f ++ body_pieces f.body
 
@@ -192,6 +193,7 @@ named_pieces m n (Defined id) = definition_pieces n (type_at m id)
 named_pieces m n Opaque = definition_pieces n (word (codes "opaque") ∷ [])
 named_pieces m n Missing = []
 
+-- the same of a name of a module's list
 abbrev pub type_name_pieces : Module → TypeName → List Piece
 type_name_pieces m n = named_pieces m n.name n.ty
 
@@ -208,13 +210,14 @@ variable_pieces m s id writable =
     lexeme (global_token s.name) ∷ blank ∷ equal ∷ blank ∷ (kept_then_blank s.before ++ (word (variable_word writable) ∷ blank ∷ (type_at m id ++ (kept_behind [] s.after ++ (line_feed ∷ [])))))
 
 -- of the symbols only variables are printed by themselves
-abbrev pub kind_of_symbol_pieces : Module → Symbol → SymbolKind → List Piece
-kind_of_symbol_pieces m s (Variable id writable) = variable_pieces m s id writable
-kind_of_symbol_pieces m s (symbols.Function f) = []
-kind_of_symbol_pieces m s symbols.Missing = []
+abbrev pub symbol_kind_pieces : Module → Symbol → SymbolKind → List Piece
+symbol_kind_pieces m s (Variable id writable) = variable_pieces m s id writable
+symbol_kind_pieces m s (symbols.Function f) = []
+symbol_kind_pieces m s symbols.Missing = []
 
+-- a symbol of a module's list: its line where it is a variable
 abbrev pub symbol_pieces : Module → Symbol → List Piece
-symbol_pieces m s = kind_of_symbol_pieces m s s.kind
+symbol_pieces m s = symbol_kind_pieces m s s.kind
 
 -- ---- lines, and the whole
 
@@ -228,13 +231,14 @@ abbrev pub is_comdat : KeptTexts → Bool
 is_comdat [] = false
 is_comdat (w ∷ ws) = begins_comdat w
 
+-- a line of the head where it isn't that of a comdat; then where it is
 abbrev pub head_line_pieces : KeptTexts → List Piece
 head_line_pieces xs = if is_comdat xs then [] else whole_line xs
 
 abbrev pub comdat_line_pieces : KeptTexts → List Piece
 comdat_line_pieces xs = if is_comdat xs then whole_line xs else []
 
--- what stands before the functions: the lines of the head, the types, the comdats and the variables
+-- what stands before the functions: the other lines of the head, the named types, the comdats and the variables
 unfoldable pub front_pieces : Module → List Piece
 front_pieces m = flat_map head_line_pieces m.head ++ (flat_map (type_name_pieces m) m.type_names ++ (flat_map comdat_line_pieces m.head ++ flat_map (symbol_pieces m) m.symbols))
 

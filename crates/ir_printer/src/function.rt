@@ -85,11 +85,11 @@ fn put_params(out: &mut Vec<u8>, names: &Names, params: &[Param]) -> Result<(), 
 }
 
 // Appends the dots for further arguments.
-fn put_dots(out: &mut Vec<u8>, names: &Names, params: &[Param]) -> Result<(), AllocError>
+fn put_dots(out: &mut Vec<u8>, function: &Function) -> Result<(), AllocError>
     ensures { OnOk result (out.new.items ≡ out.old.items
-        ++ text_of (dots_pieces (map (param_in names.now) params.now))) }
+        ++ text_of (dots_pieces (tree_of_function function.now).params)) }
 {
-    if !params.is_empty() {
+    if !function.params.is_empty() {
         out.extend_from_slice(b", ")?;
     }
     out.extend_from_slice(b"...")
@@ -103,7 +103,7 @@ fn put_all_params(out: &mut Vec<u8>, function: &Function) -> Result<(), AllocErr
 {
     put_params(out, &function.names, function.params.as_slice())?;
     if function.varargs {
-        put_dots(out, &function.names, function.params.as_slice())?;
+        put_dots(out, function)?;
     }
     Ok(())
 }

@@ -5,4 +5,4 @@ use Rattle.ir_printer.proofs.function.put_all_params.Goals as goal
 pub returns-in_ok-put_dots : goal.returns-in_ok-put_dots
 returns-in_ok-put_dots c =
     let further : c.args.function.now.varargs ≡ true = c.if-function.true in
-    rw (further, c.in_ok-put_dots.ensures, c.in_ok-put_params.ensures, c.as_slice.ensures, c.as_slice-then-function.ensures) (simp (text_of-append, append_assoc))
+    rw (further, c.in_ok-put_dots.ensures, c.in_ok-put_params.ensures, c.as_slice.ensures) (simp (text_of-append, append_assoc))

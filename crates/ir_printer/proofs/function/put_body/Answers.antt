@@ -1,4 +1,4 @@
-use Rattle.std.proofs.Common.{◌≡◌, false, eqb, length, append_assoc, ◌∙◌}
+use Rattle.std.proofs.Common.{◌≡◌, false, eqb, length, append_assoc}
 use Rattle.std.specs.Prelude.{map}
 use Rattle.std.proofs.lemmas.List.{length-map}
 use Rattle.ir_types.specs.Denotes.{block_in}

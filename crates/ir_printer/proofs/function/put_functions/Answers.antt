@@ -1,4 +1,4 @@
-use Rattle.std.proofs.Common.{◌≡◌, ◌++◌, arith, ◌∷◌, []}
+use Rattle.std.proofs.Common.{arith, ◌∷◌, []}
 use Rattle.ir_types.specs.Denotes.{tree_of_function}
 use Rattle.ir_shape.specs.Shape.{IsFunction}
 use Rattle.type_printer.specs.Pieces.{line_feed}

@@ -1,4 +1,4 @@
-use Rattle.std.proofs.Common.{◌≡◌, ◌<◌, ◌+◌, ◌-◌, [], length, get_or, rules, arith}
+use Rattle.std.proofs.Common.{◌≡◌, ◌+◌, ◌-◌, arith}
 use Rattle.ir_printer.proofs.KeptPrinted.{first_printed, next_printed, all_printed}
 use Rattle.ir_printer.proofs.kept.put_from.Goals as goal
 

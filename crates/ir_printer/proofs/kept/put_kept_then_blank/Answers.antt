@@ -1,4 +1,4 @@
-use Rattle.std.proofs.Common.{◌≡◌, ◌++◌, false, eqb, length, append_assoc}
+use Rattle.std.proofs.Common.{◌≡◌, false, eqb, length, append_assoc}
 use Rattle.ir_printer.proofs.KeptPrinted.{then_blank_text}
 use Rattle.ir_printer.proofs.kept.put_kept_then_blank.Goals as goal
 
