@@ -13,8 +13,8 @@ use kept_runs::{keep_attachments, keep_run};
 use lists::Texts;
 use std::alloc::Global;
 
-/// The words that no kept run has outside parentheses, but for `align` and `cc`, behind which a number may stand.
-pub static EXCLUDED_WORDS: [&[u8]; 119] = [
+// The words that no kept run has outside parentheses, but for `align` and `cc`, behind which a number may stand.
+static EXCLUDED_WORDS: [&[u8]; 119] = [
     b"align",
     b"cc",
     b"global",
@@ -136,7 +136,7 @@ pub static EXCLUDED_WORDS: [&[u8]; 119] = [
     b"alloca",
 ];
 
-/// The words that no kept run has outside parentheses.
+/// The words that no kept run has outside parentheses, but for `align` and `cc`, behind which a number may stand.
 #[tactic(auto, unfolding(ir_types::specs::Grammar::type_words, ir_types::specs::Grammar::value_words, ir_types::specs::Grammar::item_words, ir_types::specs::Grammar::instruction_words, forms::specs::LeftOut::left_out_words, ir_types::specs::Grammar::excluded_words))]
 pub fn excluded_words() -> &'static [&'static [u8]]
     ensures { map (λ w. w.now) result.now ≡ excluded_words }

@@ -16,4 +16,4 @@ mod value;
 mod words;
 
 pub use function::{declared, defined};
-pub use keeping::{EXCLUDED_WORDS, excluded_words, kept};
+pub use keeping::{excluded_words, kept};

@@ -1,4 +1,4 @@
--- The modules whose instructions have a meaning by now.
+-- The modules of which it is claimed by now that what is printed does what they allow: those of i1 and i32 alone.
 use Rattle.std.specs.Prelude.{◌≡◌, ◌⊎◌, List}
 use Rattle.std.specs.List.{AllByRecursion}
 use Rattle.ir_types.specs.declared.inst.Ty.{Ty}

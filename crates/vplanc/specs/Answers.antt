@@ -181,8 +181,8 @@ abbrev pub OutLeft : Option (List ℕ) → (List ℕ → Option (List ℕ)) → 
 OutLeft None told before now status = now ≡ before
 OutLeft (Some file) told before now status = OutHolds (told file) before now status
 
--- Of a file's text and what was printed of it: both read as a module, and whichever modules these are, the first, where its instructions
--- have a meaning by now and it has no variable, allows the second, with one more than the number of the second's instructions as the factor.
+-- Of a file's text and what was printed of it: both read as a module, and whichever modules these are, the first, where it is of i1 and i32
+-- alone and has no variable, allows the second, with one more than the number of the second's instructions as the factor.
 pub record IsAllowed (text printed : List ℕ) : Type 0 where
   pub file_reads : (m : Module) × Reads text m
   pub print_reads : (n : Module) × Reads printed n
