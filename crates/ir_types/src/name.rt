@@ -2,7 +2,7 @@
 ghost use Rattle.std.specs.Prelude.{◌≡◌, ◌<◌, ◌^◌, ◌==◌, [], IfOk, OnOk, OnErr, length, slice_get};
 
 use indexmap::IndexSet;
-use lists::Text;
+use lists::{Copies, Text};
 use std::alloc::{AllocError, Global};
 use std::marker::Model;
 
@@ -13,6 +13,15 @@ pub enum Name {
     Text(Text),
     /// A number, which is another name than the text of its digits.
     Number(u32),
+}
+
+impl Copies for Name {
+    fn copy(&self) -> Result<Self, AllocError> {
+        match self {
+            Name::Text(text) => Ok(Name::Text(text.copy()?)),
+            Name::Number(number) => Ok(Name::Number(*number)),
+        }
+    }
 }
 
 /// The place of a name in its table of names, the first of which stands at 0.

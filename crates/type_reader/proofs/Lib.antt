@@ -1,0 +1,6 @@
+pub mod Digits
+pub mod Same
+pub mod Vectors
+pub mod Places
+pub mod NodeLists
+pub mod Going

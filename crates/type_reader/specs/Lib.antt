@@ -1,0 +1,4 @@
+pub mod Vectors
+pub mod TypeTable
+pub mod Frames
+pub mod Heads

@@ -1,0 +1,32 @@
+-- The names of types of a module, and where a name stands first among them.
+use Rattle.std.specs.Prelude.{◌≡◌, ℕ, zero, suc, ◌⊎◌, List, [], ◌∷◌, ◌++◌, map, position, Contains}
+use Rattle.std.specs.Map.{lookup}
+use Rattle.ir_types.specs.declared.name.Name.{Name}
+use Rattle.ir_types.specs.declared.memory_type.TypeName.{TypeName}
+use Rattle.ir_types.specs.declared.memory_type.NamedType.{NamedType}
+use Rattle.ir_types.specs.declared.memory_type.NamedType.TheVariants.{Missing}
+use Rattle.ir_types.specs.Names.{name_at, same_name}
+use Rattle.ir_types.specs.Types.{IsFirst}
+
+-- the names alone
+abbrev pub names_of : List TypeName → List Name
+names_of types = map (λ t. t.name) types
+
+-- the places have for each name the first entry with it, and none for a name that no entry has
+abbrev pub HasFirstPlaces : List TypeName → List (Name × ℕ) → Type 0
+HasFirstPlaces types places = (n : Name) → lookup (same_name n) places ≡ position (same_name n) (names_of types)
+
+-- the first entry with the name stands there
+abbrev pub IsPlaceOf : List TypeName → Name → ℕ → Type 0
+IsPlaceOf types name place = IsFirst (names_of types) place × (name_at (names_of types) place ≡ name)
+
+-- entries among which a name was looked up: they stay where they have it, and else it stands at their end, and is missing
+abbrev pub LooksUp : List TypeName → Name → List TypeName → Type 0
+LooksUp old name new =
+    (Contains (names_of old) name × (new ≡ old)) ⊎ ((¬ Contains (names_of old) name) × (new ≡ old ++ record { name = name; ty = Missing } ∷ []))
+
+-- the entries, where the name at a place stands for another type
+abbrev pub with_type : List TypeName → ℕ → NamedType → List TypeName
+with_type [] place ty = []
+with_type (t ∷ ts) zero ty = record t { ty = ty } ∷ ts
+with_type (t ∷ ts) (suc place) ty = t ∷ with_type ts place ty

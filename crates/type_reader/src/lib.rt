@@ -1,0 +1,13 @@
+//! Reads names and types: those of values, and those of what lies in memory.
+#![tactic(auto)]
+
+mod heads;
+mod names;
+mod numbers;
+mod type_names;
+mod types;
+
+pub use names::{block_label, global, local, name_before, name_behind};
+pub use numbers::number_of_32_bits;
+pub use type_names::TypeNames;
+pub use types::{begins_type, return_type, value_type};
