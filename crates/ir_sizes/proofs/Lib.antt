@@ -1,0 +1,5 @@
+pub mod Capping
+pub mod Layouts
+pub mod Closing
+pub mod Members
+pub mod Setting

@@ -1,0 +1,14 @@
+//! How much memory the types of a module take: `extents_of` all of its types, and `size_of` one more that is made of them.
+//!
+//! Sizes are computed up to 2^61, from which on they are not told apart. No more memory than that can be asked for.
+#![tactic(auto)]
+
+mod extents;
+mod order;
+mod single;
+mod size;
+#[cfg(test)]
+mod tests;
+
+pub use extents::extents_of;
+pub use size::size_of;

@@ -1,0 +1,108 @@
+use crate::{extents_of, size_of};
+use ir_types::{Extent, MemTy, Module, Name, NamedType, Ty, TypeId, TypeName};
+use lists::{Items, Text};
+use std::alloc::{AllocError, Global};
+use std::test::Fail;
+
+const CAP: u64 = 2_305_843_009_213_693_952;
+
+fn structure(alloc: Global, packed: bool, members: &[TypeId]) -> Result<MemTy, AllocError> {
+    Ok(MemTy::Struct(packed, Items::from_vec(members.to_vec(alloc)?)))
+}
+
+fn named(alloc: Global, name: &[u8], ty: NamedType) -> Result<TypeName, AllocError> {
+    Ok(TypeName {
+        name: Name::Text(Text::from_slice(alloc, name)?),
+        ty,
+    })
+}
+
+fn names(alloc: Global) -> Result<Items<TypeName>, AllocError> {
+    Ok(Items::from_vec(vec![in alloc;
+        named(alloc, b"behind", NamedType::Defined(TypeId(12)))?,
+        named(alloc, b"in_itself", NamedType::Defined(TypeId(14)))?,
+        named(alloc, b"opaque", NamedType::Opaque)?,
+        named(alloc, b"missing", NamedType::Missing)?,
+    ]?))
+}
+
+fn types(alloc: Global) -> Result<Items<MemTy>, AllocError> {
+    Ok(Items::from_vec(vec![in alloc;
+        MemTy::One(Ty::Int(8)),
+        MemTy::One(Ty::Int(32)),
+        MemTy::One(Ty::Int(16)),
+        structure(alloc, false, &[TypeId(0), TypeId(1), TypeId(2)])?,
+        structure(alloc, true, &[TypeId(0), TypeId(1), TypeId(2)])?,
+        MemTy::One(Ty::Int(64)),
+        MemTy::Array(u64::MAX, TypeId(5)),
+        MemTy::Array(0, TypeId(6)),
+        MemTy::One(Ty::Vector(4, 1)),
+        MemTy::Array(3, TypeId(8)),
+        MemTy::Named(0),
+        MemTy::Array(2, TypeId(10)),
+        structure(alloc, false, &[TypeId(3), TypeId(2)])?,
+        MemTy::Named(1),
+        structure(alloc, false, &[TypeId(0), TypeId(13)])?,
+        MemTy::Named(2),
+        MemTy::Named(3),
+        MemTy::Array(CAP - 1, TypeId(0)),
+    ]?))
+}
+
+#[test]
+fn each_type_has_its_extent(rt: HostRuntime) -> Result<(), Fail> {
+    let types = types(rt.alloc())?;
+    let names = names(rt.alloc())?;
+    let extents = extents_of(rt.alloc(), types.as_slice(), names.as_slice())?;
+    let expected = [
+        Extent::Size(1, 1),
+        Extent::Size(4, 4),
+        Extent::Size(2, 2),
+        Extent::Size(12, 4),
+        Extent::Size(7, 1),
+        Extent::Size(8, 8),
+        Extent::Size(CAP, 8),
+        Extent::Size(0, 8),
+        Extent::Size(1, 1),
+        Extent::Size(3, 1),
+        Extent::Size(16, 4),
+        Extent::Size(32, 4),
+        Extent::Size(16, 4),
+        Extent::NoSize,
+        Extent::NoSize,
+        Extent::NoSize,
+        Extent::NoSize,
+        Extent::Size(CAP - 1, 1),
+    ];
+    assert_eq!(rt; extents.as_slice(), expected.as_slice());
+    Ok(())
+}
+
+#[test]
+fn sizes_end_below_the_cap(rt: HostRuntime) -> Result<(), Fail> {
+    let alloc = rt.alloc();
+    let types = types(alloc)?;
+    let type_names = names(alloc)?;
+    let extents = extents_of(alloc, types.as_slice(), type_names.as_slice())?;
+    let m = Module {
+        head: Items::from_vec(Vec::new(alloc)),
+        types,
+        extents,
+        type_names,
+        symbols: Items::from_vec(Vec::new(alloc)),
+        functions: Items::from_vec(Vec::new(alloc)),
+        tail: Items::from_vec(Vec::new(alloc)),
+    };
+    assert_eq!(rt; size_of(&m, &MemTy::Named(0)), Some(16));
+    assert_eq!(rt;
+        size_of(&m, &structure(alloc, true, &[TypeId(17)])?),
+        Some(CAP - 1)
+    );
+    assert_eq!(rt;
+        size_of(&m, &structure(alloc, true, &[TypeId(17), TypeId(0)])?),
+        None
+    );
+    assert_eq!(rt; size_of(&m, &MemTy::Array(2, TypeId(6))), None);
+    assert_eq!(rt; size_of(&m, &MemTy::Array(0, TypeId(14))), None);
+    Ok(())
+}
