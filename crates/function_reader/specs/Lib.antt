@@ -1,0 +1,5 @@
+pub mod View
+pub mod Lines
+pub mod Threads
+pub mod Blocks
+pub mod Functions

@@ -1,0 +1,33 @@
+-- A line: an instruction, and the name of its result before it where one is written.
+use Rattle.std.specs.Prelude.{ℕ, Bool, List, [], ◌∷◌, Option, Some}
+use Rattle.forms.specs.declared.TokenKind.{TokenKind}
+use Rattle.forms.specs.declared.TokenKind.TheVariants.{Local, Equal}
+use Rattle.forms.specs.Form.{Lexeme, Form}
+use Rattle.forms.specs.Reading.{◌>>=◌, any_of, mark_then, next_in}
+use Rattle.ir_types.specs.Tree.{InstTree}
+use Rattle.ir_types.specs.Grammar.{with_result, without_result, operation, terminator}
+use Rattle.function_reader.specs.declared.inst.Place.{Place}
+use Rattle.function_reader.specs.declared.inst.Place.TheVariants.{Inside, Last}
+
+abbrev pub tok : TokenKind → List ℕ → Lexeme
+tok k w = record { kind = k; text = w }
+
+-- `%name =` stands next
+abbrev pub result_next : List Lexeme → Bool
+result_next ts = next_in (mark_then Local (any_of Equal) ∷ []) ts
+
+abbrev pub Found : Type 0
+Found = Option (InstTree × List Lexeme)
+
+-- what is read behind `%name =`, with that name
+abbrev pub named_so : (w v : List ℕ) → Found → Found
+named_so w v r = r >>= λ y. with_result (w, (v, y.0)) >>= λ b. Some (b, y.1)
+
+-- what is read where no name is written
+abbrev pub plainly : Found → Found
+plainly r = r >>= λ x. Some (without_result x.0, x.1)
+
+-- the instructions that may stand at a place of a block
+abbrev pub form_at : Place → Form InstTree
+form_at Inside = operation
+form_at Last = terminator

@@ -1,0 +1,139 @@
+// Lines: an instruction, and the name of its result before it where one is written.
+
+ghost use Rattle.std.specs.Prelude.{◌≡◌, ◌∷◌, ℕ, List, Some, None, false, MatchOption, IfOk};
+ghost use Rattle.forms.specs.View.{Extends};
+ghost use Rattle.forms.specs.declared.TokenKind.TheVariants.{Local, Equal};
+ghost use Rattle.forms.specs.Reading.{read, opens};
+ghost use Rattle.forms.specs.Walk.{completed};
+ghost use Rattle.forms.specs.Gives.{Gives, left};
+ghost use Rattle.ir_types.specs.declared.name.Name.{Name};
+ghost use Rattle.ir_types.specs.Denotes.{inst_in};
+ghost use Rattle.ir_types.specs.Written.{name_behind as written_name_behind};
+ghost use Rattle.ir_types.specs.Grammar.{operation, line as line_form};
+ghost use Rattle.ir_types.specs.Numbered.{numbered_inst};
+ghost use Rattle.function_reader.specs.View.{Stays};
+ghost use Rattle.function_reader.specs.Lines.{tok, result_next, named_so, plainly, form_at};
+
+use crate::inst::{Place, instruction};
+use crate::numbering::{Numbering, named_id, result_id};
+use crate::words::{operation_of, terminator_of};
+use forms::{Cursor, SyntaxFault, TokenKind};
+use ir_types::{Inst, Name, Names, ValueId};
+use std::alloc::Global;
+use type_reader::name_behind;
+
+/// The token of the result's name, and what is behind `%name =`, where that stands next.
+fn behind_result<'t>(tokens: Cursor<'t>) -> Option<(&'t [u8], Cursor<'t>)>
+    ensures { MatchOption result (result_next (left tokens.entry) ≡ false) (λ x. (v : List ℕ) × (left tokens.entry ≡ tok Local x.0.now ∷ tok Equal v ∷ left x.1)) }
+{
+    let (kind, name, rest) = tokens.split_first()?;
+    if kind != TokenKind::Local {
+        return None;
+    }
+    let (second, _, behind) = rest.split_first()?;
+    if second == TokenKind::Equal {
+        Some((name, behind))
+    } else {
+        None
+    }
+}
+
+/// Whether an instruction that may stand at this place stands next.
+#[tactic(auto, using(crate::proofs::Lines::inside_next, crate::proofs::Lines::last_next))]
+fn begins_instruction(place: Place, tokens: Cursor<'_>) -> bool
+    ensures { result ≡ opens (form_at place) (left tokens.entry) }
+{
+    match tokens.split_first() {
+        Some((TokenKind::Word, word, _)) => match place {
+            Place::Inside => operation_of(word).is_some(),
+            Place::Last => terminator_of(word).is_some(),
+        },
+        _ => false,
+    }
+}
+
+/// Whether a line of such an instruction stands next.
+pub fn begins_line(place: Place, tokens: Cursor<'_>) -> bool
+    ensures { result ≡ opens (line_form (form_at place)) (left tokens.entry) }
+{
+    match behind_result(tokens) {
+        Some((_, rest)) => begins_instruction(place, rest),
+        None => begins_instruction(place, tokens),
+    }
+}
+
+/// The name that a token stands for.
+fn result_name(alloc: Global, token: &[u8], tokens: Cursor<'_>) -> Result<Name, SyntaxFault>
+    ensures { Gives (λ n. n) result (written_name_behind token.now) }
+{
+    match name_behind(alloc, token)? {
+        Some(name) => Ok(name),
+        None => Err(tokens.refusal()),
+    }
+}
+
+/// The instruction with its result's name.
+fn with_result(inst: Inst, name: Option<ValueId>) -> Inst
+    ensures { result ≡ record inst { result = name } }
+{
+    Inst {
+        result: name,
+        ..inst
+    }
+}
+
+/// An instruction behind `%name =`, where `name` is the token at `start`.
+#[tactic(auto, using(crate::proofs::Lines::numbered_named))]
+fn named<'t>(
+    alloc: Global,
+    place: Place,
+    name: &[u8],
+    start: Cursor<'_>,
+    tokens: Cursor<'t>,
+    names: &mut Names,
+    numbering: &mut Numbering,
+) -> Result<(Inst, Cursor<'t>), SyntaxFault>
+    ensures grows { Extends names.old names.new }
+    ensures reads { (v : List ℕ) → Gives (λ x. ((inst_in names.new x.0, numbering.new.next), left x.1)) result (completed (numbered_inst numbering.old.next) (named_so name.now v (read (form_at place) (left tokens.entry)))) }
+    ensures stays { Stays inst_in names.new result }
+{
+    let written = result_name(alloc, name, start)?;
+    let id = named_id(Some(written), names, numbering, start)?;
+    let (inst, rest) = instruction(alloc, place, tokens, names)?;
+    Ok((with_result(inst, Some(id)), rest))
+}
+
+/// An instruction for whose result no name is written.
+fn plain<'t>(
+    alloc: Global,
+    place: Place,
+    tokens: Cursor<'t>,
+    names: &mut Names,
+    numbering: &mut Numbering,
+) -> Result<(Inst, Cursor<'t>), SyntaxFault>
+    ensures grows { Extends names.old names.new }
+    ensures reads { Gives (λ x. ((inst_in names.new x.0, numbering.new.next), left x.1)) result (completed (numbered_inst numbering.old.next) (plainly (read (form_at place) (left tokens.entry)))) }
+    ensures stays { Stays inst_in names.new result }
+{
+    let (inst, rest) = instruction(alloc, place, tokens, names)?;
+    let id = result_id(inst.ty, names, numbering, tokens)?;
+    Ok((with_result(inst, id), rest))
+}
+
+/// [%name =] and an instruction.
+pub fn line<'t>(
+    alloc: Global,
+    place: Place,
+    tokens: Cursor<'t>,
+    names: &mut Names,
+    numbering: &mut Numbering,
+) -> Result<(Inst, Cursor<'t>), SyntaxFault>
+    ensures grows { Extends names.old names.new }
+    ensures reads { Gives (λ x. ((inst_in names.new x.0, numbering.new.next), left x.1)) result (completed (numbered_inst numbering.old.next) (read (line_form (form_at place)) (left tokens.entry))) }
+    ensures stays { Stays inst_in names.new result }
+{
+    match behind_result(tokens) {
+        Some((name, rest)) => named(alloc, place, name, tokens, rest, names, numbering),
+        None => plain(alloc, place, tokens, names, numbering),
+    }
+}

@@ -1,0 +1,194 @@
+// Parameters.
+
+ghost use Rattle.std.specs.Prelude.{◌≡◌, [], ℕ, List, map, IfOk};
+ghost use Rattle.forms.specs.View.{Extends};
+ghost use Rattle.forms.specs.declared.TokenKind.TheVariants.{Comma, Dots};
+ghost use Rattle.forms.specs.Form.{many, optional};
+ghost use Rattle.forms.specs.Reading.{read, opens};
+ghost use Rattle.forms.specs.Walk.{walk, completed};
+ghost use Rattle.forms.specs.Gives.{Gives, left, mark};
+ghost use Rattle.ir_types.specs.declared.name.Name.{Name};
+ghost use Rattle.ir_types.specs.Denotes.{name_in, param_in};
+ghost use Rattle.ir_types.specs.Grammar.{local_name, parameter, dotted_parameters, commas, marked, list};
+ghost use Rattle.ir_types.specs.Numbered.{named, numbered_param};
+ghost use Rattle.function_reader.specs.View.{Stays};
+ghost use Rattle.function_reader.specs.Functions.{params_in, dotted_in, numbered_dotted, comma_dots, some_dotted_read};
+
+use crate::keeping::kept;
+use crate::numbering::{Numbering, named_id};
+use forms::{Cursor, SyntaxFault, TokenKind};
+use ir_types::{Names, Param, ValueId};
+use std::alloc::Global;
+use type_reader::{begins_type, local, value_type};
+
+/// The place of a parameter's name, which may be written behind what is kept.
+#[tactic(auto, unfolding(ir_types::specs::Grammar::local_name))]
+fn param_name<'t>(
+    alloc: Global,
+    tokens: Cursor<'t>,
+    names: &mut Names,
+    numbering: &mut Numbering,
+) -> Result<(ValueId, Cursor<'t>), SyntaxFault>
+    ensures grows { Extends names.old names.new }
+    ensures reads { Gives (λ x. ((name_in names.new x.0, numbering.new.next), left x.1)) result (completed (named numbering.old.next) (read (optional local_name) (left tokens.entry))) }
+    ensures stays { Stays name_in names.new result }
+{
+    if tokens.is_next(TokenKind::Local) {
+        let (name, rest) = local(alloc, tokens)?;
+        let id = named_id(Some(name), names, numbering, tokens)?;
+        return Ok((id, rest));
+    }
+    let id = named_id(None, names, numbering, tokens)?;
+    Ok((id, tokens))
+}
+
+/// T K [%name].
+#[tactic(auto, unfolding(ir_types::specs::Grammar::parameter))]
+fn param<'t>(
+    alloc: Global,
+    tokens: Cursor<'t>,
+    names: &mut Names,
+    numbering: &mut Numbering,
+) -> Result<(Param, Cursor<'t>), SyntaxFault>
+    ensures grows { Extends names.old names.new }
+    ensures reads { Gives (λ x. ((param_in names.new x.0, numbering.new.next), left x.1)) result (completed (numbered_param numbering.old.next) (read parameter (left tokens.entry))) }
+    ensures stays { Stays param_in names.new result }
+{
+    let (ty, rest) = value_type(tokens)?;
+    let (kept, rest) = kept(alloc, rest)?;
+    let (name, rest) = param_name(alloc, rest, names, numbering)?;
+    Ok((Param { ty, kept, name }, rest))
+}
+
+/// A parameter behind a comma.
+fn comma_param<'t>(
+    alloc: Global,
+    tokens: Cursor<'t>,
+    names: &mut Names,
+    numbering: &mut Numbering,
+) -> Result<(Param, Cursor<'t>), SyntaxFault>
+    ensures grows { Extends names.old names.new }
+    ensures reads { Gives (λ x. ((param_in names.new x.0, numbering.new.next), left x.1)) result (completed (numbered_param numbering.old.next) (read (marked Comma parameter) (left tokens.entry))) }
+    ensures stays { Stays param_in names.new result }
+{
+    let rest = tokens.mark(TokenKind::Comma)?;
+    let (found, rest) = param(alloc, rest, names, numbering)?;
+    Ok((found, rest))
+}
+
+/// Whether a parameter stands next.
+#[tactic(auto, unfolding(ir_types::specs::Grammar::parameter, ir_types::specs::Grammar::value_type, ir_types::specs::Grammar::vector_type, ir_types::specs::Grammar::width))]
+fn begins_param(tokens: Cursor<'_>) -> bool
+    ensures { result ≡ opens parameter (left tokens.entry) }
+{
+    begins_type(tokens)
+}
+
+/// Whether a comma and a parameter stand next.
+#[tactic(auto, unfolding(ir_types::specs::Grammar::parameter, ir_types::specs::Grammar::value_type, ir_types::specs::Grammar::vector_type, ir_types::specs::Grammar::width))]
+fn another(tokens: Cursor<'_>) -> bool
+    ensures { result ≡ opens (marked Comma parameter) (left tokens.entry) }
+{
+    match tokens.split_first() {
+        Some((TokenKind::Comma, _, rest)) => begins_param(rest),
+        _ => false,
+    }
+}
+
+/// At least one parameter, parted by commas.
+fn some_params<'t>(
+    alloc: Global,
+    tokens: Cursor<'t>,
+    names: &mut Names,
+    numbering: &mut Numbering,
+) -> Result<(Vec<Param>, Cursor<'t>), SyntaxFault>
+    ensures grows { Extends names.old names.new }
+    ensures reads { Gives (λ x. ((params_in names.new x.0.items, numbering.new.next), left x.1)) result (completed (walk numbered_param numbering.old.next) (read (commas parameter) (left tokens.entry))) }
+    ensures stays { Stays (λ ns x. params_in ns x.items) names.new result }
+{
+    let (first, mut rest) = param(alloc, tokens, names, numbering)?;
+    let mut params = Vec::new(alloc);
+    params.push(first)?;
+    'more: while another(rest) {
+        let (next, after) = comma_param(alloc, rest, names, numbering)?;
+        params.push(next)?;
+        rest = after;
+    }
+    Ok((params, rest))
+}
+
+/// The parameters, which may be none.
+pub fn params<'t>(
+    alloc: Global,
+    tokens: Cursor<'t>,
+    names: &mut Names,
+    numbering: &mut Numbering,
+) -> Result<(Vec<Param>, Cursor<'t>), SyntaxFault>
+    ensures grows { Extends names.old names.new }
+    ensures reads { Gives (λ x. ((params_in names.new x.0.items, numbering.new.next), left x.1)) result (completed (walk numbered_param numbering.old.next) (read (list parameter) (left tokens.entry))) }
+    ensures stays { Stays (λ ns x. params_in ns x.items) names.new result }
+{
+    if begins_param(tokens) {
+        return some_params(alloc, tokens, names, numbering);
+    }
+    Ok((Vec::new(alloc), tokens))
+}
+
+/// Whether a comma and dots stand next.
+fn begins_dots(tokens: Cursor<'_>) -> bool
+    ensures { result ≡ opens (marked Comma (mark Dots)) (left tokens.entry) }
+{
+    match tokens.split_first() {
+        Some((TokenKind::Comma, _, rest)) => rest.is_next(TokenKind::Dots),
+        _ => false,
+    }
+}
+
+/// Takes a comma and dots, where they stand.
+fn comma_dots<'t>(tokens: Cursor<'t>) -> Result<(bool, Cursor<'t>), SyntaxFault>
+    ensures { Gives (λ x. (x.0, left x.1)) result (read comma_dots (left tokens.entry)) }
+{
+    if !begins_dots(tokens) {
+        return Ok((false, tokens));
+    }
+    let rest = tokens.mark(TokenKind::Comma)?;
+    let rest = rest.mark(TokenKind::Dots)?;
+    Ok((true, rest))
+}
+
+/// At least one parameter, and whether dots are behind.
+fn some_dotted<'t>(
+    alloc: Global,
+    tokens: Cursor<'t>,
+    names: &mut Names,
+    numbering: &mut Numbering,
+) -> Result<((Vec<Param>, bool), Cursor<'t>), SyntaxFault>
+    ensures grows { Extends names.old names.new }
+    ensures reads { Gives (λ x. ((dotted_in names.new x.0, numbering.new.next), left x.1)) result (some_dotted_read numbering.old.next (left tokens.entry)) }
+    ensures stays { Stays dotted_in names.new result }
+{
+    let (params, rest) = some_params(alloc, tokens, names, numbering)?;
+    let (dots, rest) = comma_dots(rest)?;
+    Ok(((params, dots), rest))
+}
+
+/// The parameters, which may be none, and whether dots stand behind them or in their place.
+pub fn dotted_params<'t>(
+    alloc: Global,
+    tokens: Cursor<'t>,
+    names: &mut Names,
+    numbering: &mut Numbering,
+) -> Result<((Vec<Param>, bool), Cursor<'t>), SyntaxFault>
+    ensures grows { Extends names.old names.new }
+    ensures reads { Gives (λ x. ((dotted_in names.new x.0, numbering.new.next), left x.1)) result (completed (numbered_dotted numbering.old.next) (read dotted_parameters (left tokens.entry))) }
+    ensures stays { Stays dotted_in names.new result }
+{
+    if tokens.is_next(TokenKind::Dots) {
+        let rest = tokens.mark(TokenKind::Dots)?;
+        return Ok(((Vec::new(alloc), true), rest));
+    }
+    if begins_param(tokens) {
+        return some_dotted(alloc, tokens, names, numbering);
+    }
+    Ok(((Vec::new(alloc), false), tokens))
+}
