@@ -2,11 +2,13 @@
 #![tactic(auto)]
 
 mod heads;
+mod memory;
 mod names;
 mod numbers;
 mod type_names;
 mod types;
 
+pub use memory::memory_type;
 pub use names::{block_label, global, local, name_before, name_behind};
 pub use numbers::number_of_32_bits;
 pub use type_names::TypeNames;
