@@ -1,0 +1,66 @@
+// Variables.
+
+ghost use Rattle.std.specs.Prelude.{◌≡◌, ◌≤◌, ℕ, length};
+ghost use Rattle.forms.specs.Gives.{Gives, left};
+ghost use Rattle.forms.specs.Reading.{read};
+ghost use Rattle.ir_types.specs.Tree.{variable_item};
+ghost use Rattle.ir_types.specs.Grammar.{memory_type, variable_word, variable_definition};
+ghost use Rattle.item_reader.specs.Parts.{variable_of};
+ghost use Rattle.item_reader.specs.Typed.{variable_read};
+
+use crate::extras::kept_behind_type;
+use crate::part::Variable;
+use crate::passing::type_source;
+use forms::{Cursor, SyntaxFault, TokenKind};
+use function_reader::kept;
+use std::alloc::Global;
+use type_reader::name_behind;
+
+/// `global` or `constant`: whether the variable may be written.
+#[tactic(auto, unfolding(ir_types::specs::Grammar::variable_word))]
+fn writable<'t>(tokens: Cursor<'t>) -> Result<(bool, Cursor<'t>), SyntaxFault>
+    ensures { Gives (λ x. (x.0, left x.1)) result (read variable_word (left tokens.entry)) }
+{
+    match tokens.behind_word(b"global") {
+        Some(rest) => Ok((true, rest)),
+        None => {
+            let rest = tokens.word(b"constant")?;
+            Ok((false, rest))
+        }
+    }
+}
+
+/// The parts of a variable.
+fn parts<'t>(alloc: Global, tokens: Cursor<'t>) -> Result<(Variable<'t>, Cursor<'t>), SyntaxFault>
+    ensures { Gives (λ x. (variable_item (variable_of x.0), left x.1)) result (variable_read (left tokens.entry)) }
+{
+    let (token, rest) = tokens.one(TokenKind::Global)?;
+    let rest = rest.mark(TokenKind::Equal)?;
+    let (before, rest) = kept(alloc, rest)?;
+    let (writable, rest) = writable(rest)?;
+    let (ty, rest) = type_source(alloc, rest)?;
+    let (after, rest) = kept_behind_type(alloc, rest)?;
+    match name_behind(alloc, token)? {
+        Some(name) => Ok((
+            Variable {
+                name,
+                before,
+                writable,
+                ty,
+                after,
+            },
+            rest,
+        )),
+        None => Err(tokens.refusal()),
+    }
+}
+
+/// A variable.
+pub fn variable<'t>(
+    alloc: Global,
+    tokens: Cursor<'t>,
+) -> Result<(Variable<'t>, Cursor<'t>), SyntaxFault>
+    ensures { (d : ℕ) → length (left tokens.entry) ≤ d → Gives (λ x. (variable_item (variable_of x.0), left x.1)) result (read (variable_definition (memory_type d)) (left tokens.entry)) }
+{
+    parts(alloc, tokens)
+}
