@@ -8,13 +8,11 @@ use Rattle.forms.specs.Kept.{attachments}
 use Rattle.forms.specs.Nested.{joined}
 use Rattle.ir_types.specs.declared.name.Name.{Name}
 use Rattle.ir_types.specs.declared.inst.Ty.{Ty}
-use Rattle.ir_types.specs.Tree.{KeptTexts, ParamTree, BlockTree, FunctionTree, WrittenParam, WrittenBlock, WrittenFunction}
+use Rattle.ir_types.specs.Tree.{KeptTexts, ParamTree, BlockTree, FunctionTree, WrittenParam, WrittenBlock}
 use Rattle.ir_types.specs.Grammar.{return_type, global_name, kept, parameter, dotted_parameters, list, some, block, between, declared_tree, declared_function, defined_tree, defined_function}
 use Rattle.ir_types.specs.Numbered.{numbered_param, numbered_block, numbered_function}
-use Rattle.function_reader.specs.Threads.{between_read}
-use Rattle.function_reader.specs.Functions.{numbered_dotted, declared_read, defined_read}
-use Rattle.function_reader.proofs.Threads.{between_is, completed_mapped, completed_alike}
-use Rattle.function_reader.proofs.Chains.{alike, first_apart, chained, then_made}
+use Rattle.function_reader.specs.Functions.{between_read, numbered_dotted, declared_read, defined_read}
+use Rattle.function_reader.proofs.Chains.{alike, first_apart, chained, then_made, between_is, completed_mapped, completed_alike}
 
 -- ---- declared functions
 
@@ -49,10 +47,10 @@ declared_is ts =
     let typed = pair return_type named in
     let front = joined attachments kept in
     alike (read front ts) _ _ (λ b.
-      alike (read return_type b.1) _ _ (λ t.
-        alike (read global_name t.1) _ _ (λ n. behind_declared b.0 t.0 n.0 n.1)
-        ∙ sym (first_apart (λ x. numbered_function (declared_tree (b.0, (t.0, x)))) global_name inner t.1))
-      ∙ sym (first_apart (λ x. numbered_function (declared_tree (b.0, x))) return_type named b.1))
+    alike (read return_type b.1) _ _ (λ t.
+    alike (read global_name t.1) _ _ (λ n. behind_declared b.0 t.0 n.0 n.1)
+    ∙ sym (first_apart (λ x. numbered_function (declared_tree (b.0, (t.0, x)))) global_name inner t.1))
+    ∙ sym (first_apart (λ x. numbered_function (declared_tree (b.0, x))) return_type named b.1))
     ∙ sym (completed_mapped numbered_function declared_tree (pair front typed) ts ∙ first_apart (λ x. numbered_function (declared_tree x)) front typed ts)
 
 -- ---- defined functions
@@ -74,8 +72,8 @@ behind_params : (b : KeptTexts) (t : Ty) (n : Name) (p : List ParamTree × ℕ) 
     ≡ completed (with_blocks b t n p) (read (pair (joined kept attachments) in_braces) ts)
 behind_params b t n p ts =
     alike (read (joined kept attachments) ts) _ _ (λ a.
-      ap (λ (o : Option _). o >>= λ k. Some (defined_of b t n p.0 a.0 k.0, k.1)) (between_is LeftBrace RightBrace (walk numbered_block p.1) (some block) a.1)
-      ∙ sym (then_made (walk numbered_block p.1) (defined_of b t n p.0 a.0) (read in_braces a.1)))
+    ap (λ (o : Option _). o >>= λ k. Some (defined_of b t n p.0 a.0 k.0, k.1)) (between_is LeftBrace RightBrace (walk numbered_block p.1) (some block) a.1)
+    ∙ sym (then_made (walk numbered_block p.1) (defined_of b t n p.0 a.0) (read in_braces a.1)))
     ∙ sym (first_apart (with_blocks b t n p) (joined kept attachments) in_braces ts)
 
 behind_defined : (b : KeptTexts) (t : Ty) (n : Name) (ts : List Lexeme)
@@ -92,10 +90,10 @@ defined_is ts =
     let named = pair global_name inner in
     let typed = pair return_type named in
     alike (read kept ts) _ _ (λ b.
-      alike (read return_type b.1) _ _ (λ t.
-        alike (read global_name t.1) _ _ (λ n.
-          alike (between_read LeftParen RightParen (walk numbered_param 0) (read (list parameter)) n.1) _ _ (λ p. behind_params b.0 t.0 n.0 p.0 p.1)
-          ∙ behind_defined b.0 t.0 n.0 n.1)
-        ∙ sym (first_apart (λ x. numbered_function (defined_tree (b.0, (t.0, x)))) global_name inner t.1))
-      ∙ sym (first_apart (λ x. numbered_function (defined_tree (b.0, x))) return_type named b.1))
+    alike (read return_type b.1) _ _ (λ t.
+    alike (read global_name t.1) _ _ (λ n.
+    alike (between_read LeftParen RightParen (walk numbered_param 0) (read (list parameter)) n.1) _ _ (λ p. behind_params b.0 t.0 n.0 p.0 p.1)
+    ∙ behind_defined b.0 t.0 n.0 n.1)
+    ∙ sym (first_apart (λ x. numbered_function (defined_tree (b.0, (t.0, x)))) global_name inner t.1))
+    ∙ sym (first_apart (λ x. numbered_function (defined_tree (b.0, x))) return_type named b.1))
     ∙ sym (completed_mapped numbered_function defined_tree (pair kept typed) ts ∙ first_apart (λ x. numbered_function (defined_tree x)) kept typed ts)

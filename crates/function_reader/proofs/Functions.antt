@@ -1,5 +1,5 @@
 -- The parts of a function, read one behind the other.
-use Rattle.std.proofs.Common.{◌≡◌, Bool, true, false, cond, ◌||◌, List, [], ◌∷◌, ◌++◌, Option, Some, None, refl, sym, ap, ◌∙◌}
+use Rattle.std.proofs.Common.{◌≡◌, Bool, true, false, cond, ◌||◌, List, [], ◌∷◌, Option, Some, None, refl, sym, ap, ◌∙◌}
 use Rattle.forms.specs.Form.{Lexeme}
 use Rattle.forms.specs.declared.TokenKind.TheVariants.{Label}
 use Rattle.forms.specs.Reading.{◌>>=◌, opens, read, any_of, next_in, fits, first}

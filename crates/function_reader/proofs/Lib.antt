@@ -1,10 +1,8 @@
 pub mod Modulo
 pub mod Branches
 pub mod Lines
-pub mod Threads
 pub mod Chains
 pub mod Parts
-pub mod Starts
 pub mod Functions
 pub mod Dotted
 pub mod Bodies

@@ -1,6 +1,7 @@
 -- A function is read part after part.
 use Rattle.std.specs.Prelude.{ℕ, Bool, false, List, [], map, is_some, Option, Some}
 use Rattle.std.specs.Global.{Vec}
+use Rattle.forms.specs.declared.TokenKind.{TokenKind}
 use Rattle.forms.specs.declared.TokenKind.TheVariants.{Comma, Dots, LeftParen, RightParen, LeftBrace, RightBrace}
 use Rattle.forms.specs.Form.{Lexeme, Form, mapped, optional}
 use Rattle.forms.specs.Reading.{◌>>=◌, read}
@@ -15,7 +16,10 @@ use Rattle.ir_types.specs.Tree.{ParamTree, BlockTree, FunctionTree, WrittenParam
 use Rattle.ir_types.specs.Denotes.{param_in, block_in}
 use Rattle.ir_types.specs.Grammar.{return_type, global_name, kept, parameter, dotted_parameters, marked, commas, list, some, block}
 use Rattle.ir_types.specs.Numbered.{numbered_param, numbered_block}
-use Rattle.function_reader.specs.Threads.{between_read}
+
+-- what is completed between two marks
+abbrev pub between_read : {A B : Type 0} → TokenKind → TokenKind → (A → Option B) → (List Lexeme → Option (A × List Lexeme)) → List Lexeme → Option (B × List Lexeme)
+between_read o c f r ts = read (mark o) ts >>= λ m. completed f (r m.1) >>= λ x. read (mark c) x.1 >>= λ e. Some (x.0, e.1)
 
 abbrev pub params_in : List Name → List Param → List ParamTree
 params_in ns ps = map (param_in ns) ps

@@ -1,5 +1,4 @@
 pub mod View
 pub mod Lines
-pub mod Threads
 pub mod Blocks
 pub mod Functions

@@ -12,8 +12,7 @@ ghost use Rattle.ir_types.specs.Denotes.{name_in, inst_in, block_in};
 ghost use Rattle.ir_types.specs.Grammar.{label, operation, terminator, line as line_form, block};
 ghost use Rattle.ir_types.specs.Numbered.{named, numbered_inst, numbered_block};
 ghost use Rattle.function_reader.specs.View.{Stays};
-ghost use Rattle.function_reader.specs.Threads.{thread};
-ghost use Rattle.function_reader.specs.Blocks.{insts_in, contents_in, contents_read, block_read};
+ghost use Rattle.function_reader.specs.Blocks.{insts_in, block_read};
 
 use crate::inst::Place;
 use crate::line::{begins_line, line};
@@ -52,22 +51,6 @@ fn operations<'t>(
     Ok((insts, rest))
 }
 
-/// The instructions of a block, and its last.
-fn contents<'t>(
-    alloc: Global,
-    tokens: Cursor<'t>,
-    names: &mut Names,
-    numbering: &mut Numbering,
-) -> Result<((Vec<Inst>, Inst), Cursor<'t>), SyntaxFault>
-    ensures grows { Extends names.old names.new }
-    ensures reads { Gives (λ x. ((contents_in names.new x.0, numbering.new.next), left x.1)) result (contents_read numbering.old.next (left tokens.entry)) }
-    ensures stays { Stays contents_in names.new result }
-{
-    let (insts, rest) = operations(alloc, tokens, names, numbering)?;
-    let (last, rest) = line(alloc, Place::Last, rest, names, numbering)?;
-    Ok(((insts, last), rest))
-}
-
 /// The place of a block's name, which may be written before it.
 #[tactic(auto, unfolding(ir_types::specs::Grammar::label))]
 fn block_name<'t>(
@@ -101,7 +84,8 @@ fn parts<'t>(
     ensures stays { Stays block_in names.new result }
 {
     let (name, rest) = block_name(alloc, tokens, names, numbering)?;
-    let ((mut insts, last), rest) = contents(alloc, rest, names, numbering)?;
+    let (mut insts, rest) = operations(alloc, rest, names, numbering)?;
+    let (last, rest) = line(alloc, Place::Last, rest, names, numbering)?;
     insts.push(last)?;
     Ok((
         Block {

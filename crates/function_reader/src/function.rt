@@ -12,8 +12,7 @@ ghost use Rattle.ir_types.specs.Denotes.{block_in, tree_of_function};
 ghost use Rattle.ir_types.specs.Grammar.{parameter, dotted_parameters, list, some, block, declared_function, defined_function};
 ghost use Rattle.ir_types.specs.Numbered.{numbered_param, numbered_block, numbered_function};
 ghost use Rattle.function_reader.specs.View.{Stays};
-ghost use Rattle.function_reader.specs.Threads.{between_read};
-ghost use Rattle.function_reader.specs.Functions.{params_in, blocks_in, dotted_in, numbered_dotted, declared_read, defined_read};
+ghost use Rattle.function_reader.specs.Functions.{between_read, params_in, blocks_in, dotted_in, numbered_dotted, declared_read, defined_read};
 
 use crate::block::block;
 use crate::inst::Place;
@@ -193,10 +192,7 @@ pub fn declared<'t>(
 /// # Errors
 ///
 /// Where no such function stands, with the place at which reading from left to right stops, or there is no room.
-pub fn defined<'t>(
-    alloc: Global,
-    tokens: Cursor<'t>,
-) -> Result<(Function, Cursor<'t>), SyntaxFault>
+pub fn defined<'t>(alloc: Global, tokens: Cursor<'t>) -> Result<(Function, Cursor<'t>), SyntaxFault>
     ensures reads { Gives (λ x. (tree_of_function x.0, left x.1)) result (completed numbered_function (read defined_function (left tokens.entry))) }
     ensures table { IfOk result (λ x. IsTable x.0.names) }
 {

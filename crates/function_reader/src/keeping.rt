@@ -136,9 +136,9 @@ pub static EXCLUDED_WORDS: [&[u8]; 119] = [
     b"alloca",
 ];
 
-/// The same words.
+/// The words that no kept run has outside parentheses.
 #[tactic(auto, unfolding(ir_types::specs::Grammar::type_words, ir_types::specs::Grammar::value_words, ir_types::specs::Grammar::item_words, ir_types::specs::Grammar::instruction_words, forms::specs::LeftOut::left_out_words, ir_types::specs::Grammar::excluded_words))]
-fn excluded_words() -> &'static [&'static [u8]]
+pub fn excluded_words() -> &'static [&'static [u8]]
     ensures { map (λ w. w.now) result.now ≡ excluded_words }
 {
     &EXCLUDED_WORDS

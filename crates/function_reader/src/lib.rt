@@ -10,8 +10,10 @@ mod line;
 mod numbering;
 mod numbers;
 mod param;
+#[cfg(test)]
+mod tests;
 mod value;
 mod words;
 
 pub use function::{declared, defined};
-pub use keeping::{EXCLUDED_WORDS, kept};
+pub use keeping::{EXCLUDED_WORDS, excluded_words, kept};

@@ -1,4 +1,4 @@
--- A text reads as at most one module, up to the positions of names.
+-- A text reads as at most one module, up to the positions of names and types.
 use Rattle.std.proofs.Common.{◌≡◌, ℕ, length, List, Some, None, sym, ap, ◌∙◌, subst}
 use Rattle.forms.specs.Form.{Lexeme}
 use Rattle.forms.specs.Lexical.{StopsAt, Lexes}
@@ -19,13 +19,16 @@ same_numbered w v a b e p q = some_is a b (sym p ∙ ap numbered_module e ∙ q)
 same_resolved : (w v : List (Item FunctionTree)) (a b : ModuleTree) → w ≡ v → resolved_module w ≡ Some a → resolved_module v ≡ Some b → a ≡ b
 same_resolved w v a b e p q = some_is a b (sym p ∙ ap resolved_module e ∙ q)
 
-one_tree : (text : List ℕ) (m n : Module) (a : Reads text m) (b : Reads text n) → a.resolved ≡ b.resolved
-one_tree text m n a b =
+-- things without a name take the same numbers
+pub one_numbering : (text : List ℕ) (m n : Module) (a : Reads text m) (b : Reads text n) → a.numbered ≡ b.numbered
+one_numbering text m n a b =
     let ts = lexes_unique text a.tokens b.tokens a.lexes b.lexes in
     let spelled : SpellsModule b.written a.tokens = subst (λ (us : List Lexeme). SpellsModule b.written us) (sym ts) b.spelled in
     let written = one_value (module_form (length a.tokens)) (module_decides (length a.tokens)) a.written b.written a.tokens a.spelled spelled in
-    let numbered = same_numbered a.written b.written a.numbered b.numbered written a.numbers b.numbers in
-    same_resolved a.numbered b.numbered a.resolved b.resolved numbered a.resolves b.resolves
+    same_numbered a.written b.written a.numbered b.numbered written a.numbers b.numbers
+
+one_tree : (text : List ℕ) (m n : Module) (a : Reads text m) (b : Reads text n) → a.resolved ≡ b.resolved
+one_tree text m n a b = same_resolved a.numbered b.numbered a.resolved b.resolved (one_numbering text m n a b) a.resolves b.resolves
 
 pub one_reading : (text : List ℕ) (m n : Module) → Reads text m → Reads text n → SameModule m n
 one_reading text m n a b = record { tree = a.resolved; first = a.denotes; second = subst (Denotes n) (sym (one_tree text m n a b)) b.denotes }

@@ -1,7 +1,7 @@
 // What texts read as.
 
 ghost use Rattle.std.specs.Prelude.{◌≡◌, ℕ, List, None};
-ghost use Rattle.forms.specs.Form.{Lexeme, Spells};
+ghost use Rattle.forms.specs.Form.{Lexeme};
 ghost use Rattle.forms.specs.Lexical.{Lexes, StopsAt};
 ghost use Rattle.ir_types.specs.declared.module.Module.{Module};
 ghost use Rattle.ir_types.specs.Grammar.{SpellsModule};
@@ -9,12 +9,13 @@ ghost use Rattle.ir_types.specs.Numbered.{numbered_module};
 ghost use Rattle.ir_types.specs.Reads.{Reads, SameModule, IsReadable};
 ghost use Rattle.ir_types.specs.Tree.{WrittenFunction, Item};
 
-/// A text reads as at most one module, up to the positions of names.
+/// A text reads as at most one module, up to the positions of names and of types, and has at most one list of items.
 pub fn one_reading()
-    ensures { (text : List ℕ) (m n : Module) → Reads text m → Reads text n → SameModule m n }
+    ensures module { (text : List ℕ) (m n : Module) → Reads text m → Reads text n → SameModule m n }
+    ensures items { (text : List ℕ) (m n : Module) (r : Reads text m) (s : Reads text n) → r.numbered ≡ s.numbered }
 {}
 
-/// What a text reads as, it reads as with the names in other positions too.
+/// What a text reads as, it reads as with the names and types in other positions too.
 pub fn positions_are_free()
     ensures { (text : List ℕ) (m n : Module) → Reads text m → SameModule m n → Reads text n }
 {}

@@ -1,9 +1,14 @@
-// Names of too many bytes.
+// The first name of a function that has too many bytes.
 
-ghost use Rattle.std.specs.Prelude.{◌≡◌};
-ghost use Rattle.ir_limits.specs.Limits.{long_name};
+ghost use Rattle.std.specs.Prelude.{◌≡◌, ◌++◌, List, map, None};
+ghost use Rattle.forms.specs.Nested.{concat};
+ghost use Rattle.ir_types.specs.Denotes.{name_in, operand_in, inst_in, block_in, param_in, tree_of_function};
+ghost use Rattle.ir_types.specs.Tree.{ParamTree};
+ghost use Rattle.ir_limits.specs.Mentioned.{in_operand, in_operands, in_entries, in_parts, of_result, in_inst, in_block, in_function};
+ghost use Rattle.ir_limits.specs.Limits.{long_name, or_else, first_long};
+ghost use Rattle.std.specs.Option.{option_map};
 
-use ir_types::Name;
+use ir_types::{Block, Function, Inst, InstKind, Name, Names, Operand, Param, ValueId};
 
 /// The bytes of a name that is no number, where these are more than 255.
 pub fn long_name(name: &Name) -> Option<u64>
@@ -13,4 +18,151 @@ pub fn long_name(name: &Name) -> Option<u64>
         Name::Text(text) if text.len() > 255 => Some(text.len() as u64),
         _ => None,
     }
+}
+
+// The same of the name at a place; a place that the table lacks has no such name.
+#[tactic(auto, using(crate::proofs::Firsts::none_behind))]
+fn long_at(names: &Names, id: ValueId) -> Option<u64>
+    ensures { result ≡ long_name (name_in names.now id) }
+{
+    if (id.0 as usize) < names.len() {
+        long_name(names.get(id))
+    } else {
+        None
+    }
+}
+
+fn long_result(names: &Names, result_name: Option<ValueId>) -> Option<u64>
+    ensures { result ≡ first_long (of_result (option_map (name_in names.now) result_name)) }
+{
+    match result_name {
+        Some(id) => long_at(names, id),
+        None => None,
+    }
+}
+
+fn long_operand(names: &Names, operand: Operand) -> Option<u64>
+    ensures { result ≡ first_long (in_operand (operand_in names.now operand)) }
+{
+    match operand {
+        Operand::Local(id) => long_at(names, id),
+        Operand::Int(_) => None,
+    }
+}
+
+fn long_operands(names: &Names, operands: &[Operand]) -> Option<u64>
+    ensures { result ≡ first_long (in_operands (map (operand_in names.now) operands.now)) }
+{
+    for operand in operands {
+        if let Some(count) = long_operand(names, *operand) {
+            return Some(count);
+        }
+    }
+    None
+}
+
+fn long_labels(names: &Names, labels: &[ValueId]) -> Option<u64>
+    ensures { result ≡ first_long (map (name_in names.now) labels.now) }
+{
+    for label in labels {
+        if let Some(count) = long_at(names, *label) {
+            return Some(count);
+        }
+    }
+    None
+}
+
+// What is found first.
+fn either(first: Option<u64>, second: Option<u64>) -> Option<u64>
+    ensures { result ≡ or_else first second }
+{
+    match first {
+        Some(count) => Some(count),
+        None => second,
+    }
+}
+
+// Of the entries of a phi: each operand stands before its label.
+fn long_entries(names: &Names, operands: &[Operand], labels: &[ValueId]) -> Option<u64>
+    ensures { result ≡ first_long (in_entries (map (operand_in names.now) operands.now) (map (name_in names.now) labels.now)) }
+{
+    let mut labels_left = labels;
+    let mut operands_left = operands;
+    'more: while let Some((operand, operands_behind)) = operands_left.split_first() {
+        let Some((label, labels_behind)) = labels_left.split_first() else {
+            return long_operands(names, operands_left);
+        };
+        if let Some(count) = either(long_operand(names, *operand), long_at(names, *label)) {
+            return Some(count);
+        }
+        operands_left = operands_behind;
+        labels_left = labels_behind;
+    }
+    long_labels(names, labels_left)
+}
+
+#[tactic(auto, using(crate::proofs::Firsts::first_of_both))]
+fn long_inst(names: &Names, inst: &Inst) -> Option<u64>
+    ensures { result ≡ first_long (in_inst (inst_in names.now inst.now)) }
+{
+    let operands = inst.args.as_slice();
+    let labels = inst.labels.as_slice();
+    let parts = match inst.kind {
+        InstKind::Phi => long_entries(names, operands, labels),
+        _ => either(long_operands(names, operands), long_labels(names, labels)),
+    };
+    either(long_result(names, inst.result), parts)
+}
+
+fn long_insts(names: &Names, insts: &[Inst]) -> Option<u64>
+    ensures { result ≡ first_long (concat (map in_inst (map (inst_in names.now) insts.now))) }
+{
+    for inst in insts {
+        if let Some(count) = long_inst(names, inst) {
+            return Some(count);
+        }
+    }
+    None
+}
+
+fn long_block(names: &Names, block: &Block) -> Option<u64>
+    ensures { result ≡ first_long (in_block (block_in names.now block.now)) }
+{
+    either(
+        long_at(names, block.name),
+        long_insts(names, block.insts.as_slice()),
+    )
+}
+
+fn long_blocks(names: &Names, blocks: &[Block]) -> Option<u64>
+    ensures { result ≡ first_long (concat (map in_block (map (block_in names.now) blocks.now))) }
+{
+    for block in blocks {
+        if let Some(count) = long_block(names, block) {
+            return Some(count);
+        }
+    }
+    None
+}
+
+fn long_params(names: &Names, params: &[Param]) -> Option<u64>
+    ensures { result ≡ first_long (map (λ (p : ParamTree). p.name) (map (param_in names.now) params.now)) }
+{
+    for param in params {
+        if let Some(count) = long_at(names, param.name) {
+            return Some(count);
+        }
+    }
+    None
+}
+
+/// The bytes of the first name in a function that is no number and has more than 255: its own, its parameters', and then those in
+/// its blocks, in the text's order.
+#[tactic(auto, using(crate::proofs::Firsts::first_of_both))]
+pub fn long_name_of_function(function: &Function) -> Option<u64>
+    ensures { result ≡ first_long (in_function (tree_of_function function.now)) }
+{
+    let params = long_params(&function.names, function.params.as_slice());
+    let blocks = long_blocks(&function.names, function.body.as_slice());
+    either(long_name(&function.name), either(params, blocks))
 }

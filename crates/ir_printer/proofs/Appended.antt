@@ -1,16 +1,11 @@
--- The text of pieces behind one another, and of items that are printed one at a time.
-use Rattle.std.proofs.Common.{◌≡◌, ◌+◌, ◌-◌, ◌<◌, ◌≤◌, ℕ, suc, List, [], ◌∷◌, ◌++◌, length, get_or, take, drop, sym, ap, ◌∙◌, subst, append_assoc, add-one, drop-cons, arith}
+-- The text of an instruction and of a function.
+use Rattle.std.proofs.Common.{◌≡◌, ℕ, List, [], ◌∷◌, ◌++◌, sym, ap, ◌∙◌, append_assoc}
 use Rattle.std.specs.Prelude.{map, codes}
-use Rattle.std.specs.List.{AllByRecursion}
-use Rattle.std.proofs.Math.Seq.{take-length}
-use Rattle.std.proofs.lemmas.List.{append-nil, drop_all}
-use Rattle.text_lex.specs.Layout.{Piece, text_of}
+use Rattle.text_lex.specs.Layout.{text_of}
 use Rattle.text_lex.proofs.Layouts.{text_of-append}
 use Rattle.ir_types.specs.Tree.{InstTree, FunctionTree}
-use Rattle.ir_printer.specs.Print.{line_feed, each_behind, separated, kind_pieces, result_pieces, inst_pieces, block_pieces, head_pieces, function_pieces}
-
-pub text_of_both : (ps qs : List Piece) → text_of (ps ++ qs) ≡ text_of ps ++ text_of qs
-text_of_both ps qs = text_of-append ps qs
+use Rattle.type_printer.specs.Pieces.{line_feed, separated}
+use Rattle.ir_printer.specs.Print.{kind_pieces, result_pieces, inst_pieces, block_pieces, head_pieces, function_pieces}
 
 pub inst_text : (i : InstTree) → text_of (inst_pieces i) ≡ (text_of (result_pieces i.result) ++ text_of (kind_pieces i.kind i.ty i.args i.labels)) ++ 10 ∷ []
 unfolding inst_pieces
@@ -19,47 +14,3 @@ inst_text i = simp (text_of-append, append_assoc)
 pub function_text : (f : FunctionTree) → text_of (function_pieces f) ≡ (text_of (head_pieces f) ++ text_of (separated (line_feed ∷ []) (map block_pieces f.body))) ++ codes "}\n"
 unfolding function_pieces
 function_text f = text_of-append (head_pieces f) _ ∙ ap (λ (s : List ℕ). text_of (head_pieces f) ++ s) (text_of-append (separated (line_feed ∷ []) (map block_pieces f.body)) _) ∙ sym (append_assoc (text_of (head_pieces f)) _ _)
-
--- ---- items from a place on
-
-from_place : {A : Type 0} (xs : List A) (i : ℕ) (x : A) → i < length xs → x ≡ get_or xs i x → drop i xs ≡ x ∷ drop (i + 1) xs
-from_place xs i x lt e = drop-cons xs i x lt ∙ rw (add-one i) (ap (λ (y : _). y ∷ drop (suc i) xs) (sym e))
-
--- what is known of them is known of the next one and of those behind it
-pub known_from : {A B : Type 0} (g : A → B) (P : B → Type 0) (xs : List A) (i : ℕ) (x : A) → i < length xs → x ≡ get_or xs i x → AllByRecursion P (map g (drop i xs)) → P (g x) × AllByRecursion P (map g (drop (i + 1) xs))
-known_from g P xs i x lt e h = subst (λ (ys : List _). AllByRecursion P (map g ys)) (from_place xs i x lt e) h
-
--- the next one is printed
-pub printed_next : {A B : Type 0} (g : A → B) (f : B → List Piece) (s : List Piece) (xs : List A) (i : ℕ) (x : A) (out out1 out2 whole : List ℕ) → i < length xs → x ≡ get_or xs i x
-    → out1 ≡ out ++ text_of s → out2 ≡ out1 ++ text_of (f (g x)) → out ++ text_of (each_behind s (map f (map g (drop i xs)))) ≡ whole → out2 ++ text_of (each_behind s (map f (map g (drop (i + 1) xs)))) ≡ whole
-printed_next g f s xs i x out out1 out2 whole lt e e1 e2 so_far =
-    let rest = each_behind s (map f (map g (drop (i + 1) xs))) in
-    let step : text_of (each_behind s (map f (map g (drop i xs)))) ≡ text_of s ++ (text_of (f (g x)) ++ text_of rest) =
-    ap (λ (ys : List _). text_of (each_behind s (map f (map g ys)))) (from_place xs i x lt e) ∙ text_of-append s (f (g x) ++ rest) ∙ ap (λ (t : List ℕ). text_of s ++ t) (text_of-append (f (g x)) rest) in
-    let regroup : ((out ++ text_of s) ++ text_of (f (g x))) ++ text_of rest ≡ out ++ (text_of s ++ (text_of (f (g x)) ++ text_of rest)) = simp append_assoc in
-    rw (e2, e1) (regroup ∙ sym (ap (λ (t : List ℕ). out ++ t) step) ∙ so_far)
-
--- none is left
-pub printed_all : {A B : Type 0} (g : A → B) (f : B → List Piece) (s : List Piece) (xs : List A) (i : ℕ) (out whole : List ℕ) → length xs ≤ i → out ++ text_of (each_behind s (map f (map g (drop i xs)))) ≡ whole → out ≡ whole
-printed_all g f s xs i out whole le so_far =
-    sym (append-nil out) ∙ sym (ap (λ (ys : List _). out ++ text_of (each_behind s (map f (map g ys)))) (drop_all i xs le)) ∙ so_far
-
--- what stands behind the first
-abbrev pub behind_first : {A : Type 0} → List A → List A
-behind_first xs = take (length xs - 1) (drop 1 xs)
-
-first_parts : {A : Type 0} (xs : List A) (x : A) → 0 < length xs → x ≡ get_or xs 0 x → xs ≡ x ∷ behind_first xs
-first_parts [] x lt e = absurd (omega arith)
-first_parts (y ∷ xs) x lt e = let k : suc (length xs) - 1 ≡ length xs = omega arith in rw (k, take-length xs) (ap (λ (z : _). z ∷ xs) (sym e))
-
-pub known_first : {A B : Type 0} (g : A → B) (P : B → Type 0) (xs : List A) (x : A) → 0 < length xs → x ≡ get_or xs 0 x → AllByRecursion P (map g xs) → P (g x) × AllByRecursion P (map g (behind_first xs))
-known_first g P xs x lt e h = subst (λ (ys : List _). AllByRecursion P (map g ys)) (first_parts xs x lt e) h
-
--- the first one was printed, and then the others
-pub printed_separated : {A B : Type 0} (g : A → B) (f : B → List Piece) (s : List Piece) (xs : List A) (x : A) (i : ℕ) (out out1 out2 : List ℕ) → 0 < length xs → x ≡ get_or xs 0 x → length (behind_first xs) ≤ i
-    → out1 ≡ out ++ text_of (f (g x)) → out2 ++ text_of (each_behind s (map f (map g (drop i (behind_first xs))))) ≡ out1 ++ text_of (each_behind s (map f (map g (behind_first xs)))) → out2 ≡ out ++ text_of (separated s (map f (map g xs)))
-printed_separated g f s xs x i out out1 out2 lt e le e1 so_far =
-    let rest = each_behind s (map f (map g (behind_first xs))) in
-    let whole : text_of (separated s (map f (map g xs))) ≡ text_of (f (g x)) ++ text_of rest =
-    ap (λ (ys : List _). text_of (separated s (map f (map g ys)))) (first_parts xs x lt e) ∙ text_of-append (f (g x)) rest in
-    printed_all g f s (behind_first xs) i out2 _ le so_far ∙ rw (e1, whole) (append_assoc out (text_of (f (g x))) (text_of rest))

@@ -20,27 +20,15 @@ use Rattle.ir_types.specs.declared.inst.InstKind.TheVariants.{Binary, Compare, P
 use Rattle.ir_types.specs.Grammar.{width_of}
 use Rattle.ir_types.specs.Tree.{OperandTree, local, number, InstTree, BlockTree, ParamTree, FunctionTree, ModuleTree}
 use Rattle.ir_shape.specs.Shape.{IsName, IsOneOf, widths, IsType, IsReturnType, IsOperand, operand_type, IsResult, IsInst, IsBlock, IsParam, IsFunction, IsModule}
-use Rattle.ir_printer.specs.Print.{token, comma, blank, line_feed, indent, equal, right_paren, left_brace, right_brace, with_commas, local_token, global_token, label_token, width_word, type_pieces, number_token, operand_token, operand_pieces, predicate_word, operator_word, typed_pieces, target_pieces, targets_pieces, entry_pieces, entries_of, kind_pieces, result_pieces, inst_pieces, block_pieces, param_pieces, function_pieces, module_pieces}
-use Rattle.ir_printer.proofs.Names.{local_kind, global_kind, label_kind}
+use Rattle.type_printer.specs.Pieces.{token, blank, indent, line_feed, right_paren, left_brace, right_brace, with_commas, global_token, label_token, type_pieces}
+use Rattle.type_printer.proofs.Names.{local_kind, global_kind, label_kind}
+use Rattle.type_printer.proofs.Widths.{type_within}
+use Rattle.type_printer.proofs.Laid.{IsLaid, IsBehind, loose, nothing_behind, blank_laid, feed_laid, mark_laid, token_laid, laid-append, behind-append, each_laid, separated_laid, all_laid}
+use Rattle.type_printer.proofs.LaidOut.{comma_laid, equal_laid, bracket_kinds, commas_part, feeds_part, indents_part, local_laid, word_laid, type_laid, type_returned, spaced_laid}
+use Rattle.ir_printer.specs.Print.{number_token, operand_token, operand_pieces, predicate_word, operator_word, typed_pieces, target_pieces, targets_pieces, entry_pieces, entries_of, kind_pieces, result_pieces, inst_pieces, block_pieces, param_pieces, function_pieces, module_pieces}
 use Rattle.ir_printer.proofs.Numbers.{signed_kind}
-use Rattle.ir_printer.proofs.Widths.{width_within, type_within}
-use Rattle.ir_printer.proofs.Spelled.{few_lanes}
-use Rattle.ir_printer.proofs.Laid.{IsLaid, IsBehind, loose, nothing_behind, blank_laid, feed_laid, indent_laid, mark_laid, token_laid, laid-append, behind-append, Separates, each_laid, separated_laid, all_laid}
 
--- ---- marks and words
-
-comma_laid : {ps : List Piece} → IsLaid ps → IsBehind (comma ∷ ps)
-unfolding table
-comma_laid h = mark_laid kinds.Comma (codes ",") refl refl h
-
-equal_laid : {ps : List Piece} → IsLaid ps → IsBehind (equal ∷ ps)
-unfolding table
-equal_laid h = mark_laid kinds.Equal (codes "=") refl refl h
-
--- each of the brackets
-bracket_kinds : (kind_of (codes "(") ≡ Some kinds.LeftParen) × (kind_of (codes ")") ≡ Some kinds.RightParen) × (kind_of (codes "[") ≡ Some kinds.LeftBracket) × (kind_of (codes "]") ≡ Some kinds.RightBracket) × (kind_of (codes "{") ≡ Some kinds.LeftBrace) × (kind_of (codes "}") ≡ Some kinds.RightBrace)
-unfolding table
-bracket_kinds = (refl, refl, refl, refl, refl, refl)
+-- ---- words
 
 word_kinds : (kind_of (codes "label") ≡ Some kinds.Word) × (kind_of (codes "icmp") ≡ Some kinds.Word) × (kind_of (codes "phi") ≡ Some kinds.Word) × (kind_of (codes "br") ≡ Some kinds.Word) × (kind_of (codes "ret") ≡ Some kinds.Word) × (kind_of (codes "define") ≡ Some kinds.Word)
 unfolding table
@@ -63,10 +51,6 @@ operator_kind : (op : BinOp) → kind_of (operator_word op) ≡ Some kinds.Word
 unfolding table operator_word
 operator_kind Add = refl
 
-width_kind : (w : ℕ) → IsOneOf widths w → kind_of (width_word w) ≡ Some kinds.Word
-unfolding width_word
-width_kind w h = let le = (width_within w h).1 in integer_word (decimal w) (decimal_digits w (omega arith))
-
 number_kind : (t : Ty) → IsType t → (v : ℕ) → v < 2 ^ width_of t → kind_of (number_token t v).text ≡ Some (number_token t v).kind
 unfolding table number_token
 number_kind t h v lt = elim (test (eqb (width_of t) 1)) [
@@ -78,43 +62,7 @@ operand_kind : (t : Ty) (a : OperandTree) → IsType t → IsOperand t a → kin
 operand_kind t (local n) i h = local_kind n h
 operand_kind t (number v) i h = number_kind t i v h
 
--- ---- lists
-
-commas_part : Separates (comma ∷ blank ∷ [])
-commas_part = record { apart = λ ps h. comma_laid (loose (blank_laid h)) }
-
-feeds_part : Separates (line_feed ∷ [])
-feeds_part = record { apart = λ ps h. feed_laid h }
-
-indents_part : Separates (indent ∷ [])
-indents_part = record { apart = λ ps h. indent_laid h }
-
 -- ---- instructions
-
-local_laid : {ps : List Piece} (n : Name) → IsName n → IsBehind ps → IsLaid (lexeme (local_token n) ∷ ps)
-local_laid n h g = token_laid (local_token n) (local_kind n h) g
-
-word_laid : {ps : List Piece} (w : List ℕ) → kind_of w ≡ Some kinds.Word → IsBehind ps → IsLaid (lexeme (token kinds.Word w) ∷ ps)
-word_laid w e g = token_laid (token kinds.Word w) e g
-
-type_laid : (t : Ty) → IsReturnType t → IsLaid (type_pieces t)
-unfolding type_pieces table
-type_laid (Int w) h = word_laid (width_word w) (width_kind w h) nothing_behind
-type_laid Ptr h = word_laid (codes "ptr") refl nothing_behind
-type_laid (Vector n w) h =
-    loose (mark_laid kinds.Less (codes "<") refl refl (token_laid (token kinds.Number (decimal n)) (number_digits (decimal n) (decimal_digits n (few_lanes n h.0)))
-    (blank_laid (word_laid (codes "x") refl (blank_laid (word_laid (width_word w) (width_kind w h.1) (mark_laid kinds.Greater (codes ">") refl refl (loose nothing_behind))))))))
-type_laid Void h = word_laid (codes "void") refl nothing_behind
-
-type_returned : (t : Ty) → IsType t → IsReturnType t
-type_returned (Int w) h = h
-type_returned Ptr h = h
-type_returned (Vector n w) h = h
-type_returned Void h = absurd h
-
--- a type, and a space behind it
-spaced_laid : {ps : List Piece} (t : Ty) → IsReturnType t → IsLaid ps → IsLaid (type_pieces t ++ (blank ∷ ps))
-spaced_laid t i h = laid-append (type_pieces t) _ (type_laid t i) (blank_laid h)
 
 operands_laid : (t : Ty) (args : List OperandTree) → IsType t → AllByRecursion (IsOperand t) args → IsLaid (with_commas (map (operand_pieces t) args))
 operands_laid t args i h = separated_laid _ _ commas_part (all_laid (IsOperand t) (operand_pieces t) (λ a g. token_laid (operand_token t a) (operand_kind t a i g) nothing_behind) args h)

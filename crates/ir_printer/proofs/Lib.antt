@@ -1,11 +1,6 @@
-pub mod Escapes
-pub mod Names
-pub mod Widths
 pub mod Numbers
 pub mod Numbering
-pub mod Says
 pub mod Spelled
-pub mod Laid
 pub mod LaidOut
 pub mod Printed
 pub mod Appended

@@ -13,14 +13,9 @@ use Rattle.forms.proofs.Begins.{test}
 use Rattle.text_lex.proofs.Decimals.{decimal_digits}
 use Rattle.text_lex.proofs.Printed.{number_digits, number_negative}
 use Rattle.ir_types.specs.Written.{number_of, number_at}
-use Rattle.ir_printer.specs.Texts.{signed_text}
+use Rattle.type_printer.specs.Texts.{signed_text}
 use Rattle.text_lex.proofs.Decimals.{number_of-decimal}
-
--- digits have no sign
-pub no_sign : (d : ℕ) (ds : List ℕ) → is_digits (d ∷ ds) ≡ true → eqb d 45 ≡ false
-no_sign d ds h =
-    let a = and_parts (is_digit d) _ h in
-    let e = a.0 in grind (arith, nat_tests)
+use Rattle.type_printer.proofs.Numbers.{no_sign}
 
 digits_at : (w : ℕ) (ds : List ℕ) → is_digits ds ≡ true → number_at w ds ≡ number_of ds % 2 ^ w
 digits_at w [] h = absurd cc

@@ -27,95 +27,17 @@ use Rattle.ir_types.specs.Tree.{OperandTree, local, number, InstTree, FunctionTr
 use Rattle.ir_types.specs.Grammar.{local_name, global_name, label, width, lane_counts, lanes_of, vector_type, value_type, return_type, WrittenValue, named, digits, yes, no, value, width_of, bits_for, operand_at, two_values, binary, predicates, compared, compare, entry_of_phi, phi, target, branch, void_tree, ret, operation_words, operation, terminator_words, terminator, line, block, parameter, function, module_form}
 use Rattle.ir_shape.specs.Shape.{IsName, IsOneOf, widths, IsType, IsReturnType, IsOperand, IsBody, IsInst, IsResult, IsTerminator, EndsOnce, IsBlock, IsParam, IsFunction, IsModule}
 use Rattle.ir_shape.proofs.Among.{of_each}
-use Rattle.ir_printer.specs.Texts.{signed_text}
+use Rattle.type_printer.specs.Texts.{signed_text}
+use Rattle.type_printer.specs.Pieces as pieces_of
+use Rattle.type_printer.specs.Pieces.{token, local_token, global_token, label_token, width_word, type_pieces, with_commas}
+use Rattle.type_printer.proofs.Names.{local_again}
+use Rattle.type_printer.proofs.Widths.{type_within}
+use Rattle.type_printer.proofs.Says.{Says, pair_says, left_says, right_says, mapped_says, made_says, one_says, word_says, ahead_says, by_word_says, there_says, behind_says, after_mark_says, between_says, EachSays, some_says, commas_says, list_says, separated_says}
+use Rattle.type_printer.proofs.Spelled.{local_says, global_says, label_says, decimals, type_says, return_type_says}
 use Rattle.ir_printer.specs.Print as print
-use Rattle.ir_printer.specs.Print.{token, local_token, global_token, label_token, width_word, type_pieces, number_token, operand_token, operand_pieces, predicate_word, operator_word, with_commas, typed_pieces, target_pieces, targets_pieces, entry_pieces, entries_of, kind_pieces, inst_pieces, block_pieces, param_pieces, function_pieces, module_pieces}
-use Rattle.ir_printer.proofs.Names.{local_again, global_again, label_again}
-use Rattle.ir_printer.proofs.Numbers.{no_sign, signed_again}
-use Rattle.ir_printer.proofs.Widths.{type_within}
+use Rattle.ir_printer.specs.Print.{number_token, operand_token, operand_pieces, predicate_word, operator_word, typed_pieces, target_pieces, targets_pieces, entry_pieces, entries_of, kind_pieces, inst_pieces, block_pieces, param_pieces, function_pieces, module_pieces}
+use Rattle.ir_printer.proofs.Numbers.{signed_again}
 use Rattle.ir_printer.proofs.Numbering.{written_param, written_block, written_function, written_of}
-use Rattle.ir_printer.proofs.Says.{Says, pair_says, left_says, right_says, mapped_says, made_says, one_says, word_says, ahead_says, by_word_says, there_says, behind_says, after_mark_says, between_says, EachSays, some_says, commas_says, list_says, separated_says}
-
--- ---- names, types and values
-
-local_says : (n : Name) → IsName n → Says local_name n (local_token n ∷ [])
-unfolding local_name
-local_says n h = made_says _ n (local_again n h) (one_says kinds.Local _)
-
-global_says : (n : Name) → IsName n → Says global_name n (global_token n ∷ [])
-unfolding global_name
-global_says n h = made_says _ n (global_again n h) (one_says kinds.Global _)
-
-label_says : (n : Name) → IsName n → Says label n (label_token n ∷ [])
-unfolding label
-label_says n h = made_says _ n (label_again n h) (one_says kinds.Label _)
-
--- ---- types
-
-decimals : (decimal 1 ≡ codes "1") × (decimal 8 ≡ codes "8") × (decimal 16 ≡ codes "16") × (decimal 32 ≡ codes "32") × (decimal 64 ≡ codes "64")
-decimals = (
-  decimal_digit 1 (lit< tt),
-  decimal_digit 8 (lit< tt),
-  decimal_step 16 (lit≤ tt) (lit< tt) ∙ ap (λ (ds : List ℕ). ds ++ 54 ∷ []) (decimal_digit 1 (lit< tt)),
-  decimal_step 32 (lit≤ tt) (lit< tt) ∙ ap (λ (ds : List ℕ). ds ++ 50 ∷ []) (decimal_digit 3 (lit< tt)),
-  decimal_step 64 (lit≤ tt) (lit< tt) ∙ ap (λ (ds : List ℕ). ds ++ 52 ∷ []) (decimal_digit 6 (lit< tt)),
-)
-
-width_says : (w : ℕ) → IsOneOf widths w → Says width w (token kinds.Word (width_word w) ∷ [])
-unfolding width width_word
-width_says w h = of_each (λ n. Says width n (token kinds.Word (width_word n) ∷ [])) widths w (
-  rw (decimals.0) (left_says (word_says _ 1)),
-  (
-    rw (decimals.1) (right_says (left_says (word_says _ 8))),
-    (
-      rw (decimals.2) (right_says (right_says (left_says (word_says _ 16)))),
-      (
-        rw (decimals.3) (right_says (right_says (right_says (left_says (word_says _ 32))))),
-        (rw (decimals.4) (right_says (right_says (right_says (right_says (word_says _ 64))))), tt),
-      ),
-    ),
-  ),
-) h
-
--- a number that is one of some is found among them
-found_again : (xs : List ℕ) (n : ℕ) → IsOneOf xs n → find (λ m. eqb m n) xs ≡ Some n
-found_again [] n h = absurd h
-found_again (x ∷ xs) n h = elim (test (eqb x n)) [
-  | inl y ↦ rw y (ap Some (eqb-true x n y))
-  | inr other ↦ rw other (found_again xs n (later h other))
-]
-  where
-    later : IsOneOf (x ∷ xs) n → eqb x n ≡ false → IsOneOf xs n
-    later (inl e) other = absurd (let same = eq-eqb x n (sym e) in cc)
-    later (inr g) other = g
-
-pub few_lanes : (n : ℕ) → IsOneOf lane_counts n → n < 10 ^ 64
-few_lanes n h = let m : n ≤ 512 = of_each (λ k. k ≤ 512) lane_counts n (lit≤ tt, (lit≤ tt, (lit≤ tt, (lit≤ tt, (lit≤ tt, (lit≤ tt, (lit≤ tt, (lit≤ tt, (lit≤ tt, tt))))))))) h in omega arith
-
-digits_lanes : (ds : List ℕ) → is_digits ds ≡ true → lanes_of ds ≡ find (λ m. eqb m (number_of ds)) lane_counts
-digits_lanes [] h = absurd cc
-digits_lanes (d ∷ ds) h = rw (no_sign d ds h) refl
-
-lanes_again : (n : ℕ) → IsOneOf lane_counts n → lanes_of (decimal n) ≡ Some n
-lanes_again n h =
-    digits_lanes (decimal n) (decimal_digits n (few_lanes n h)) ∙ rw (number_of-decimal n (few_lanes n h)) (found_again lane_counts n h)
-
-type_says : (t : Ty) → IsType t → Says value_type t (tokens_of (type_pieces t))
-unfolding value_type vector_type type_pieces
-type_says (Int w) h = left_says (mapped_says w _ refl (width_says w h))
-type_says Ptr h = right_says (left_says (word_says _ Ptr))
-type_says (Vector n w) h =
-    right_says (right_says (made_says (decimal n, w) _ (rw (lanes_again n h.0) refl)
-    (between_says (token kinds.Number (decimal n) ∷ token kinds.Word (codes "x") ∷ token kinds.Word (width_word w) ∷ []) kinds.Less kinds.Greater _ _
-    (pair_says (token kinds.Number (decimal n) ∷ []) _ (one_says kinds.Number _) (behind_says (codes "x") (width_says w h.1))))))
-type_says Void h = absurd h
-
-return_type_says : (t : Ty) → IsReturnType t → Says return_type t (tokens_of (type_pieces t))
-unfolding return_type type_pieces
-return_type_says (Int w) h = left_says (type_says (Int w) h)
-return_type_says Ptr h = left_says (type_says Ptr h)
-return_type_says (Vector n w) h = left_says (type_says (Vector n w) h)
-return_type_says Void h = right_says (word_says _ Void)
 
 -- ---- values
 
@@ -254,7 +176,7 @@ operation_says (Binary Add) t (a ∷ b ∷ []) [] h g = by_word_says _ operation
 operation_says (Compare p u) t (a ∷ b ∷ []) [] h g =
     rw (h.shape.2) (by_word_says _ operations.Icmp refl (compare_says p u a b h.at h.args.0 h.args.1.0))
 operation_says Phi t args labels h g =
-    rw (tokens_of-append (type_pieces t) (print.blank ∷ with_commas (entries_of t args labels))) (by_word_says _ operations.Phi refl (phi_says t args labels h.at h.args h.labels h.shape.0 h.shape.1))
+    rw (tokens_of-append (type_pieces t) (pieces_of.blank ∷ with_commas (entries_of t args labels))) (by_word_says _ operations.Phi refl (phi_says t args labels h.at h.args h.labels h.shape.0 h.shape.1))
 operation_says Jump t args labels h g = absurd (g tt)
 operation_says Branch t args labels h g = absurd (g tt)
 operation_says (Return u) t args labels h g = absurd (g tt)
@@ -266,7 +188,7 @@ target_says : (l : Name) → IsName l → Says target l (tokens_of (target_piece
 unfolding target
 target_says l h = behind_says (codes "label") (local_says l h)
 
-branch_says : (a : OperandTree) (l m : Name) → IsOperand (Int 1) a → IsName l → IsName m → Says branch (bare Branch Void (a ∷ []) (l ∷ m ∷ [])) (tokens_of (typed_pieces (Int 1) (a ∷ []) ++ (print.comma ∷ print.blank ∷ targets_pieces (l ∷ m ∷ []))))
+branch_says : (a : OperandTree) (l m : Name) → IsOperand (Int 1) a → IsName l → IsName m → Says branch (bare Branch Void (a ∷ []) (l ∷ m ∷ [])) (tokens_of (typed_pieces (Int 1) (a ∷ []) ++ (pieces_of.comma ∷ pieces_of.blank ∷ targets_pieces (l ∷ m ∷ []))))
 unfolding branch type_pieces width_word
 branch_says a l m h hl hm =
     right_says (mapped_says (written_value (Int 1) a, (l, m)) _ (rw (value_is (Int 1) a (inl refl) h) refl)
@@ -310,7 +232,7 @@ with_name k Void args labels f ts p (Some n) h = named_says k Void args labels f
 line_tokens : (i : InstTree) → tokens_of (inst_pieces i) ≡ tokens_of (print.result_pieces i.result) ++ tokens_of (kind_pieces i.kind i.ty i.args i.labels)
 unfolding inst_pieces
 line_tokens i =
-    tokens_of-append (print.result_pieces i.result) _ ∙ ap (λ (ts : List Lexeme). tokens_of (print.result_pieces i.result) ++ ts) (tokens_of-append (kind_pieces i.kind i.ty i.args i.labels) (print.line_feed ∷ []) ∙ append-nil _)
+    tokens_of-append (print.result_pieces i.result) _ ∙ ap (λ (ts : List Lexeme). tokens_of (print.result_pieces i.result) ++ ts) (tokens_of-append (kind_pieces i.kind i.ty i.args i.labels) (pieces_of.line_feed ∷ []) ∙ append-nil _)
 
 stripped : (i : InstTree) → IsBody i → IsBody (bare i.kind i.ty i.args i.labels)
 stripped i h = record { shape = h.shape; at = h.at; args = h.args; labels = h.labels }
@@ -338,7 +260,7 @@ record Lines (insts : List InstTree) : Type 0 where
   front : List InstTree
   last : InstTree
   parts : front ++ last ∷ [] ≡ insts
-  says : Says (pair (many (line operation)) (line terminator)) (front, last) (tokens_of (print.each_behind (print.indent ∷ []) (map inst_pieces insts)))
+  says : Says (pair (many (line operation)) (line terminator)) (front, last) (tokens_of (pieces_of.each_behind (pieces_of.indent ∷ []) (map inst_pieces insts)))
 
 lines_say : (insts : List InstTree) → AllByRecursion IsInst insts → EndsOnce (map (λ i. i.kind) insts) → Lines insts
 lines_say [] h e = absurd e
@@ -354,7 +276,7 @@ lines_say (i ∷ j ∷ insts) h e =
       front = i ∷ rest.front;
       last = rest.last;
       parts = ap (λ (is : List InstTree). i ∷ is) rest.parts;
-      says = rw (tokens_of-append (inst_pieces i) (print.each_behind (print.indent ∷ []) (map inst_pieces (j ∷ insts)))) (cons_says (tokens_of (inst_pieces i)) _ (operation_line i (record { inst = h.0; goes_on = e.0 })) rest.says);
+      says = rw (tokens_of-append (inst_pieces i) (pieces_of.each_behind (pieces_of.indent ∷ []) (map inst_pieces (j ∷ insts)))) (cons_says (tokens_of (inst_pieces i)) _ (operation_line i (record { inst = h.0; goes_on = e.0 })) rest.says);
     }
 
 block_says : EachSays block written_block block_pieces IsBlock
@@ -368,14 +290,14 @@ block_says = record {
 param_says : EachSays parameter written_param param_pieces IsParam
 unfolding parameter param_pieces
 param_says = record {
-  one = λ p h. mapped_says (p.ty, Some p.name) _ refl (rw (tokens_of-append (type_pieces p.ty) (print.blank ∷ _)) (pair_says (tokens_of (type_pieces p.ty)) _ (type_says p.ty h.ty) (there_says (local_says p.name h.name))));
+  one = λ p h. mapped_says (p.ty, Some p.name) _ refl (rw (tokens_of-append (type_pieces p.ty) (pieces_of.blank ∷ _)) (pair_says (tokens_of (type_pieces p.ty)) _ (type_says p.ty h.ty) (there_says (local_says p.name h.name))));
 }
 
 abbrev params_tokens : FunctionTree → List Lexeme
 params_tokens f = tokens_of (with_commas (map param_pieces f.params))
 
 abbrev blocks_tokens : FunctionTree → List Lexeme
-blocks_tokens f = tokens_of (print.separated (print.line_feed ∷ []) (map block_pieces f.body))
+blocks_tokens f = tokens_of (pieces_of.separated (pieces_of.line_feed ∷ []) (map block_pieces f.body))
 
 abbrev in_parens : List Lexeme → List Lexeme
 in_parens ts = token kinds.LeftParen (codes "(") ∷ (ts ++ token kinds.RightParen (codes ")") ∷ [])
@@ -384,21 +306,21 @@ abbrev in_braces : List Lexeme → List Lexeme
 in_braces ts = token kinds.LeftBrace (codes "{") ∷ (ts ++ token kinds.RightBrace (codes "}") ∷ [])
 
 -- parameters and what closes them, and the blocks and what closes those
-parts_tokens : (ps bs : List Piece) → tokens_of ((ps ++ (print.right_paren ∷ print.blank ∷ print.left_brace ∷ print.line_feed ∷ [])) ++ (bs ++ (print.right_brace ∷ print.line_feed ∷ [])))
+parts_tokens : (ps bs : List Piece) → tokens_of ((ps ++ (pieces_of.right_paren ∷ pieces_of.blank ∷ pieces_of.left_brace ∷ pieces_of.line_feed ∷ [])) ++ (bs ++ (pieces_of.right_brace ∷ pieces_of.line_feed ∷ [])))
     ≡ (tokens_of ps ++ token kinds.RightParen (codes ")") ∷ []) ++ in_braces (tokens_of bs)
 parts_tokens ps bs =
     simp (tokens_of-append, append_assoc)
 
-named_tokens : (f : FunctionTree) → tokens_of (print.name_pieces f ++ (print.separated (print.line_feed ∷ []) (map block_pieces f.body) ++ (print.right_brace ∷ print.line_feed ∷ []))) ≡ global_token f.name ∷ (in_parens (params_tokens f) ++ in_braces (blocks_tokens f))
-named_tokens f = ap (λ (ts : List Lexeme). global_token f.name ∷ token kinds.LeftParen (codes "(") ∷ ts) (parts_tokens (with_commas (map param_pieces f.params)) (print.separated (print.line_feed ∷ []) (map block_pieces f.body)))
+named_tokens : (f : FunctionTree) → tokens_of (print.name_pieces f ++ (pieces_of.separated (pieces_of.line_feed ∷ []) (map block_pieces f.body) ++ (pieces_of.right_brace ∷ pieces_of.line_feed ∷ []))) ≡ global_token f.name ∷ (in_parens (params_tokens f) ++ in_braces (blocks_tokens f))
+named_tokens f = ap (λ (ts : List Lexeme). global_token f.name ∷ token kinds.LeftParen (codes "(") ∷ ts) (parts_tokens (with_commas (map param_pieces f.params)) (pieces_of.separated (pieces_of.line_feed ∷ []) (map block_pieces f.body)))
 
 function_tokens : (f : FunctionTree) → tokens_of (function_pieces f) ≡ token kinds.Word (codes "define") ∷ (tokens_of (type_pieces f.ret) ++ global_token f.name ∷ (in_parens (params_tokens f) ++ in_braces (blocks_tokens f)))
 unfolding function_pieces
 function_tokens f =
-    let behind = print.separated (print.line_feed ∷ []) (map block_pieces f.body) ++ (print.right_brace ∷ print.line_feed ∷ []) in
+    let behind = pieces_of.separated (pieces_of.line_feed ∷ []) (map block_pieces f.body) ++ (pieces_of.right_brace ∷ pieces_of.line_feed ∷ []) in
     ap (λ (ts : List Lexeme). token kinds.Word (codes "define") ∷ ts)
-    (ap tokens_of (append_assoc (type_pieces f.ret) (print.blank ∷ print.name_pieces f) behind)
-    ∙ tokens_of-append (type_pieces f.ret) (print.blank ∷ (print.name_pieces f ++ behind))
+    (ap tokens_of (append_assoc (type_pieces f.ret) (pieces_of.blank ∷ print.name_pieces f) behind)
+    ∙ tokens_of-append (type_pieces f.ret) (pieces_of.blank ∷ (print.name_pieces f ++ behind))
     ∙ ap (λ (ts : List Lexeme). tokens_of (type_pieces f.ret) ++ ts) (named_tokens f))
 
 function_says : EachSays function written_function function_pieces IsFunction

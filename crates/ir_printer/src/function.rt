@@ -5,13 +5,14 @@ ghost use Rattle.std.specs.List.{AllByRecursion};
 ghost use Rattle.text_lex.specs.Layout.{text_of};
 ghost use Rattle.ir_types.specs.Denotes.{inst_in, block_in, param_in, tree_of_function};
 ghost use Rattle.ir_shape.specs.Shape.{IsInst, IsBlock, IsParam, IsFunction};
-ghost use Rattle.ir_printer.specs.Print.{line_feed, indent, each_behind, separated, with_commas, inst_pieces, block_pieces, param_pieces, head_pieces, function_pieces};
+ghost use Rattle.type_printer.specs.Pieces.{line_feed, indent, each_behind, separated, with_commas};
+ghost use Rattle.ir_printer.specs.Print.{inst_pieces, block_pieces, param_pieces, head_pieces, function_pieces};
 
 use crate::line::put_inst;
-use crate::name::put_name;
-use crate::value::{put_local, put_type};
 use ir_types::{Block, Function, Inst, Names, Param};
 use std::alloc::AllocError;
+use type_printer::name::put_name;
+use type_printer::types::{put_local, put_type};
 
 fn put_insts(out: &mut Vec<u8>, names: &Names, insts: &[Inst]) -> Result<(), AllocError>
     requires { AllByRecursion IsInst (map (inst_in names.now) insts.now) }
@@ -54,7 +55,7 @@ fn put_blocks(out: &mut Vec<u8>, names: &Names, blocks: &[Block]) -> Result<(), 
     Ok(())
 }
 
-#[tactic(auto, unfolding(crate::specs::Print::param_pieces), using(crate::proofs::Appended::text_of_both, std::proofs::lemmas::Grind::common_steps))]
+#[tactic(auto, unfolding(crate::specs::Print::param_pieces), using(type_printer::proofs::Appended::text_of_both, std::proofs::lemmas::Grind::common_steps))]
 fn put_param(out: &mut Vec<u8>, names: &Names, param: Param) -> Result<(), AllocError>
     requires { IsParam (param_in names.now param) }
     ensures { OnOk result (out.new.items ≡ out.old.items
@@ -65,7 +66,7 @@ fn put_param(out: &mut Vec<u8>, names: &Names, param: Param) -> Result<(), Alloc
     put_local(out, names, param.name)
 }
 
-#[tactic(auto, using(crate::proofs::Appended::text_of_both, std::proofs::lemmas::Grind::common_steps))]
+#[tactic(auto, using(type_printer::proofs::Appended::text_of_both, std::proofs::lemmas::Grind::common_steps))]
 fn put_params(out: &mut Vec<u8>, names: &Names, params: &[Param]) -> Result<(), AllocError>
     requires { AllByRecursion IsParam (map (param_in names.now) params.now) }
     ensures { OnOk result (out.new.items ≡ out.old.items
@@ -83,7 +84,7 @@ fn put_params(out: &mut Vec<u8>, names: &Names, params: &[Param]) -> Result<(), 
 }
 
 // Appends what stands before the blocks.
-#[tactic(auto, using(crate::proofs::Appended::text_of_both, std::proofs::lemmas::Grind::common_steps))]
+#[tactic(auto, using(type_printer::proofs::Appended::text_of_both, std::proofs::lemmas::Grind::common_steps))]
 fn put_head(out: &mut Vec<u8>, function: &Function) -> Result<(), AllocError>
     requires { IsFunction (tree_of_function function.now) }
     ensures { OnOk result (out.new.items ≡ out.old.items

@@ -9,7 +9,6 @@ ghost use Rattle.ir_printer.specs.Print.{module_pieces};
 
 mod function;
 mod line;
-mod name;
 #[cfg(test)]
 mod tests;
 mod value;

@@ -6,11 +6,13 @@ ghost use Rattle.std.specs.Option.{option_map};
 ghost use Rattle.text_lex.specs.Layout.{text_of};
 ghost use Rattle.ir_types.specs.Denotes.{name_in, operand_in, inst_in};
 ghost use Rattle.ir_shape.specs.Shape.{IsName, IsType, IsOperand, IsBody, IsResult, IsInst};
-ghost use Rattle.ir_printer.specs.Print.{predicate_word, operator_word, target_pieces, targets_pieces, entry_pieces, entries_of, with_commas, kind_pieces, result_pieces, inst_pieces};
+ghost use Rattle.type_printer.specs.Pieces.{with_commas};
+ghost use Rattle.ir_printer.specs.Print.{predicate_word, operator_word, target_pieces, targets_pieces, entry_pieces, entries_of, kind_pieces, result_pieces, inst_pieces};
 
-use crate::value::{put_local, put_operand, put_type, put_typed};
+use crate::value::{put_operand, put_typed};
 use ir_types::{BinOp, Inst, InstKind, Names, Operand, Pred, Ty, ValueId};
 use std::alloc::AllocError;
+use type_printer::types::{put_local, put_type};
 
 #[tactic(auto, unfolding(crate::specs::Print::operator_word))]
 fn word_of_operator(operator: BinOp) -> &'static [u8]
@@ -114,7 +116,7 @@ fn put_entries(
 }
 
 // Appends an instruction without its result's name.
-#[tactic(auto, using(crate::proofs::Appended::text_of_both, std::proofs::lemmas::Grind::common_steps))]
+#[tactic(auto, using(type_printer::proofs::Appended::text_of_both, std::proofs::lemmas::Grind::common_steps))]
 fn put_kind(out: &mut Vec<u8>, names: &Names, inst: &Inst) -> Result<(), AllocError>
     requires { IsBody (inst_in names.now inst.now) }
     ensures { OnOk result (out.new.items ≡ out.old.items

@@ -1,4 +1,4 @@
-// Types, operands and what names them.
+// Operands.
 
 ghost use Rattle.std.specs.Prelude.{◌≡◌, ◌<◌, ◌≤◌, ◌^◌, ◌++◌, ◌∷◌, [], map, length, OnOk};
 ghost use Rattle.std.specs.List.{AllByRecursion};
@@ -6,54 +6,17 @@ ghost use Rattle.text_lex.specs.Layout.{text_of};
 ghost use Rattle.ir_types.specs.Grammar.{width_of};
 ghost use Rattle.ir_types.specs.Denotes.{name_in, operand_in};
 ghost use Rattle.ir_shape.specs.Shape.{IsName, IsType, IsOperand};
-ghost use Rattle.ir_printer.specs.Texts.{signed_text};
-ghost use Rattle.ir_printer.specs.Print.{local_token, width_word, type_pieces, number_token, operand_token, operand_pieces, with_commas, typed_pieces};
+ghost use Rattle.type_printer.specs.Texts.{signed_text};
+ghost use Rattle.type_printer.specs.Pieces.{with_commas};
+ghost use Rattle.ir_printer.specs.Print.{number_token, operand_token, operand_pieces, typed_pieces};
 
-use crate::name::{put_digits, put_name};
-use ir_types::{Names, Operand, Ty, ValueId};
+use ir_types::{Names, Operand, Ty};
 use std::alloc::AllocError;
-
-/// Appends `%name`.
-#[tactic(auto, using(ir_shape::proofs::Names::within_names))]
-pub(crate) fn put_local(out: &mut Vec<u8>, names: &Names, name: ValueId) -> Result<(), AllocError>
-    requires { IsName (name_in names.now name) }
-    ensures { OnOk result (out.new.items ≡ out.old.items
-        ++ (local_token (name_in names.now name)).text) }
-{
-    out.push(b'%')?;
-    put_name(out, names.get(name))
-}
-
-// Appends the type of an integer of so many bits.
-#[tactic(auto, unfolding(crate::specs::Print::width_word))]
-fn put_width(out: &mut Vec<u8>, width: u32) -> Result<(), AllocError>
-    ensures { OnOk result (out.new.items ≡ out.old.items ++ width_word width) }
-{
-    out.push(b'i')?;
-    put_digits(out, u64::from(width))
-}
-
-/// Appends a type.
-#[tactic(auto, unfolding(crate::specs::Print::type_pieces))]
-pub(crate) fn put_type(out: &mut Vec<u8>, ty: Ty) -> Result<(), AllocError>
-    ensures { OnOk result (out.new.items ≡ out.old.items ++ text_of (type_pieces ty)) }
-{
-    match ty {
-        Ty::Int(width) => put_width(out, width),
-        Ty::Ptr => out.extend_from_slice(b"ptr"),
-        Ty::Vector(lanes, width) => {
-            out.push(b'<')?;
-            put_digits(out, u64::from(lanes))?;
-            out.extend_from_slice(b" x ")?;
-            put_width(out, width)?;
-            out.extend_from_slice(b">")
-        }
-        Ty::Void => out.extend_from_slice(b"void"),
-    }
-}
+use type_printer::name::put_digits;
+use type_printer::types::{put_local, put_type};
 
 // Appends a number of so many bits as the signed one that it stands for.
-#[tactic(auto, unfolding(crate::specs::Texts::signed_text), using(crate::proofs::Numbers::two_halves))]
+#[tactic(auto, unfolding(type_printer::specs::Texts::signed_text), using(crate::proofs::Numbers::two_halves))]
 fn put_signed(out: &mut Vec<u8>, width: u32, number: u64) -> Result<(), AllocError>
     requires some { 0 < width }
     requires most { width ≤ 64 }
@@ -69,7 +32,7 @@ fn put_signed(out: &mut Vec<u8>, width: u32, number: u64) -> Result<(), AllocErr
 }
 
 // Appends a number at its type.
-#[tactic(auto, unfolding(crate::specs::Print::number_token), using(crate::proofs::Widths::width_within))]
+#[tactic(auto, unfolding(crate::specs::Print::number_token), using(type_printer::proofs::Widths::width_within))]
 pub(crate) fn put_number(out: &mut Vec<u8>, ty: Ty, number: u64) -> Result<(), AllocError>
     requires typed { IsType ty }
     requires fits { number < 2 ^ width_of ty }
@@ -126,7 +89,7 @@ fn put_operands(
 }
 
 /// Appends ` T V, V`.
-#[tactic(auto, using(crate::proofs::Appended::text_of_both, std::proofs::lemmas::Grind::common_steps))]
+#[tactic(auto, using(type_printer::proofs::Appended::text_of_both, std::proofs::lemmas::Grind::common_steps))]
 pub(crate) fn put_typed(
     out: &mut Vec<u8>,
     names: &Names,

@@ -1,7 +1,7 @@
 -- What is computed from capped sizes is right up to the cap.
-use Rattle.std.proofs.Common.{◌≡◌, ℕ, zero, suc, ◌+◌, ◌-◌, ◌*◌, ◌/◌, ◌<◌, ◌≤◌, ◌⊎◌, inl, inr, min, max, refl, sym, ap, ◌∙◌, arith}
+use Rattle.std.proofs.Common.{◌≡◌, ℕ, zero, suc, ◌+◌, ◌-◌, ◌*◌, ◌≤◌, inl, inr, min, arith}
 use Rattle.std.proofs.lemmas.Bool.{cases_lt}
-use Rattle.std.proofs.Math.Nat.{min-eq_left, min-eq_right, div-mul-le_self, lt-div-mul-add}
+use Rattle.std.proofs.Math.Nat.{div-mul-le_self, lt-div-mul-add}
 use Rattle.ir_types.specs.Sizes.{aligned}
 
 pub capped_array : (n s c : ℕ) → min (n * s) c ≡ min (n * min s c) c

@@ -1,6 +1,5 @@
 -- A type has one layout at most, and its alignment is from 1 to 4096.
-use Rattle.std.proofs.Common.{◌≡◌, ℕ, ◌+◌, ◌*◌, ◌/◌, ◌<◌, ◌≤◌, ◌⊎◌, inl, inr, max, min, true, false, List, [], ◌∷◌, Some, refl, sym, ap, ◌∙◌, subst, arith, rules}
-use Rattle.std.specs.Prelude.{slice_get}
+use Rattle.std.proofs.Common.{◌≡◌, ℕ, ◌*◌, ◌≤◌, inl, inr, min, true, false, List, [], ◌∷◌, refl, sym, ap, subst, arith, rules}
 use Rattle.std.specs.List.{AllByRecursion}
 use Rattle.std.proofs.Math.Nat.{mul-le-mul}
 use Rattle.ir_types.specs.declared.inst.Ty.{Ty}
@@ -9,7 +8,7 @@ use Rattle.ir_types.specs.declared.memory_type.MemTy.{MemTy}
 use Rattle.ir_types.specs.declared.memory_type.NamedType.TheVariants.{Defined}
 use Rattle.ir_types.specs.declared.memory_type.TypeName.{TypeName}
 use Rattle.ir_types.specs.Types.{IsOneOf, IsType, widths, lane_counts}
-use Rattle.ir_types.specs.Sizes.{Layout, Subject, a_type, at_place, IsLaid, scalar_laid, array_laid, struct_laid, named_laid, place_laid, none_laid, more_laid, bytes_of, value_size, greatest_align, struct_layout, SIZE_CAP}
+use Rattle.ir_types.specs.Sizes.{Layout, Subject, a_type, at_place, IsLaid, scalar_laid, array_laid, struct_laid, named_laid, place_laid, none_laid, more_laid, value_size, greatest_align, struct_layout, SIZE_CAP}
 
 -- from 1 to 4096
 abbrev pub IsAlign : Layout → Type 0

@@ -1,6 +1,6 @@
 -- Setting an extent.
-use Rattle.std.proofs.Common.{◌≡◌, ◌≢◌, ℕ, ◌+◌, ◌<◌, ◌≤◌, true, false, List, [], ◌∷◌, Some, length, get_or, set, length-set, get_or-set_same, get_or-set_other, sym, subst, refl, ap, ◌∙◌, inl, inr, arith}
-use Rattle.std.specs.Prelude.{slice_get, min, sum_by, if◌then◌else◌}
+use Rattle.std.proofs.Common.{◌≡◌, ℕ, ◌<◌, List, [], ◌∷◌, Some, length, set, length-set, get_or-set_same, get_or-set_other, sym, subst, ◌∙◌, inl, inr, arith}
+use Rattle.std.specs.Prelude.{slice_get}
 use Rattle.std.proofs.lemmas.List.{get_or_past}
 use Rattle.std.proofs.lemmas.Option.{get_or_from_slice_get, slice_get-get_or, slice_get_within}
 use Rattle.std.proofs.lemmas.Bool.{cases_eq, cases_lt}
@@ -11,8 +11,8 @@ use Rattle.ir_types.specs.declared.inst.Ty.TheVariants.{Ptr}
 use Rattle.ir_types.specs.declared.memory_type.TypeName.{TypeName}
 use Rattle.ir_types.specs.declared.memory_type.Extent.{Extent}
 use Rattle.ir_types.specs.declared.memory_type.Extent.TheVariants.{NoSize, Size}
-use Rattle.ir_types.specs.Sizes.{Layout, AreExtents, HasLayout, IsExtent, IsLaid, at_place, place_laid, SIZE_CAP}
-use Rattle.ir_sizes.specs.Known.{extent_at, IsSized, IsSizedAt, IsExtentOf, IsSmall, IsRight, AreRight, AreSized, AreSmall, IsSettledAt, is_unset, unset}
+use Rattle.ir_types.specs.Sizes.{Layout, AreExtents, HasLayout, IsExtent, IsLaid, at_place, place_laid}
+use Rattle.ir_sizes.specs.Known.{extent_at, IsSized, IsExtentOf, IsSmall, IsRight, AreRight, AreSized, AreSmall, IsSettledAt}
 use Rattle.ir_sizes.proofs.Layouts.{IsAlign, laid_aligns}
 use Rattle.ir_sizes.proofs.Closing.{laid_met}
 

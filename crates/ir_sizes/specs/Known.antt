@@ -42,7 +42,7 @@ pub record AreRight (types : List MemTy) (names : List TypeName) (extents : List
 abbrev pub IsDefined : List TypeName → ℕ → TypeId → Type 0
 IsDefined names k id = (name : Name) × (slice_get names k ≡ Some (record { name = name; ty = Defined id }))
 
--- the extent of each part of the type has a size, where it has parts
+-- the extent of each part of the type has a size; a type of values has no part, and is one that is written
 abbrev pub AreSized : List TypeName → List Extent → MemTy → Type 0
 AreSized names extents (One t) = IsType t
 AreSized names extents (Array n element) = IsSizedAt extents element
@@ -54,13 +54,15 @@ abbrev pub IsSmall : Extent → Type 0
 IsSmall NoSize = Unit {0}
 IsSmall (Size s a) = (s ≤ SIZE_CAP) × (1 ≤ a) × (a ≤ 4096)
 
+-- so is each of the list
 abbrev pub AreSmall : List Extent → Type 0
 AreSmall extents = (i : ℕ) → IsSmall (extent_at extents i)
 
--- where the parts of the type at the place are sized, so is the extent there
+-- where the parts of the type at the place have sizes, so has the extent there
 abbrev pub IsSettledAt : List MemTy → List TypeName → List Extent → ℕ → Type 0
 IsSettledAt types names extents i = (t : MemTy) → slice_get types i ≡ Some t → AreSized names extents t → IsSized (extent_at extents i)
 
+-- whether the extent has no size
 abbrev pub is_unset : Extent → Bool
 is_unset NoSize = true
 is_unset (Size s a) = false

@@ -5,6 +5,7 @@
 
 mod extents;
 mod order;
+mod place;
 mod single;
 mod size;
 #[cfg(test)]

@@ -1,8 +1,7 @@
 // Sets extents along a walk on which each type follows its parts.
-ghost use Rattle.std.specs.Prelude.{◌≡◌, length};
 ghost use Rattle.ir_sizes.specs.Known.{AreRight};
 
-use crate::extents::set_at;
+use crate::place::set_at;
 use crate::single::definition;
 use ir_types::{Extent, MemTy, TypeName};
 use std::alloc::{AllocError, Global};
@@ -44,7 +43,7 @@ pub fn set_in_order(
     Ok(())
 }
 
-/// Takes the steps to come.
+/// Takes the steps to come, until there is none.
 fn walk_on(
     walk: &mut Walk,
     types: &[MemTy],

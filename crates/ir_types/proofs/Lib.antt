@@ -2,3 +2,4 @@ pub mod SameNames
 pub mod NameAt
 pub mod Decides
 mod Examples
+pub mod Copying

@@ -2,6 +2,7 @@
 //! which other modules it allows.
 #![tactic(auto)]
 
+mod copied;
 mod inst;
 mod memory_type;
 mod module;

@@ -99,6 +99,17 @@ impl Names {
     }
 }
 
+impl Copies for Names {
+    fn copy(&self) -> Result<Self, AllocError> {
+        let mut copy = Names::new(*self.set.allocator());
+        for place in 0..self.len() {
+            let name = self.get(ValueId(place as u32)).copy()?;
+            copy.add(name)?;
+        }
+        Ok(copy)
+    }
+}
+
 #[cfg(test)]
 mod tests {
     use super::*;

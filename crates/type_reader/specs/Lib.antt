@@ -2,3 +2,4 @@ pub mod Vectors
 pub mod TypeTable
 pub mod Frames
 pub mod Heads
+pub mod Levels

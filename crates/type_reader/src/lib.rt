@@ -5,6 +5,7 @@ mod heads;
 mod memory;
 mod names;
 mod numbers;
+mod stack;
 mod type_names;
 mod types;
 

@@ -26,9 +26,9 @@ took-allowed (Some text) (Some old) now t =
       t.printed,
       t.taken,
       record {
-        file_reads = (p.meant, p.file_reads.2);
+        file_reads = (p.meant, p.file_reads.2.reads);
         print_reads = (p.meant, p.text_reads);
-        allows = λ m n first r s. text-allows text t.printed p.meant m n p.file_reads.2 p.text_reads r s;
+        allows = λ m n first r s. text-allows text t.printed p.meant m n p.file_reads.2.reads p.text_reads r s;
       },
     )
 

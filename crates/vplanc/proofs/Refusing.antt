@@ -10,7 +10,8 @@ use Rattle.forms.specs.LeftOut.{FirstLeftOut}
 use Rattle.forms.specs.View.{lexemes}
 use Rattle.vplan_io.specs.Causes.{Rose, longest, IsWhole}
 use Rattle.text_lex.specs.declared.fault.TextFault.{TextFault}
-use Rattle.text_lex.specs.declared.fault.TextFault.TheVariants.{BadToken, LeftOut, TextLimit, NoReading, Memory as TextMemory}
+use Rattle.text_lex.specs.declared.fault.TextFault.TheVariants.{BadToken, LeftOut, TextLimit, NoReading, CountLimit, Memory as TextMemory}
+use Rattle.text_lex.specs.declared.fault.Count.{Count}
 use Rattle.text_lex.specs.Fault.{IsLeftOutAt, HasNoneLeftOut}
 use Rattle.text_lex.proofs.Unique.{lexes_unique, stops_lexes}
 use Rattle.ir_reader.specs.Refusal.{IsRefusal}
@@ -34,6 +35,7 @@ refused-text told bytes before now last (BadToken place) took whole r = (tt, (wi
 refused-text told bytes before now last (LeftOut word place) took whole r = (tt, (within bytes last took r.0, told-of (λ text. IsRefusal text (LeftOut word place)) told bytes whole.same r))
 refused-text told bytes before now last (TextLimit n) took whole (size, long) = absurd (omega (arith, whole.short))
 refused-text told bytes before now last (NoReading place) took whole r = (tt, (within bytes last took r.0, told-of (λ text. IsRefusal text (NoReading place)) told bytes whole.same r))
+refused-text told bytes before now last (CountLimit count n) took whole r = (tt, (within bytes last took r.0, told-of (λ text. IsRefusal text (CountLimit count n)) told bytes whole.same r))
 refused-text told bytes before now last TextMemory took whole refusal = (tt, tt)
 
 -- what holds of one status holds of an error that is that status
@@ -53,6 +55,10 @@ none-is-left-out text word place free out =
     let first : FirstLeftOut free.tokens out.place = subst (λ (ts : List Lexeme). FirstLeftOut ts out.place) same out.first in
     true≢false (sym first.left_out ∙ free.none out.place)
 
+-- an accepted text passes no limit
+not-over : (text : List ℕ) → IsAccepted text → (count : Count) (n : ℕ) → IsRefusal text (CountLimit count n) → ⊥
+not-over text ok count n r = ?
+
 -- an accepted file, with no fault, is printed, or memory is short
 accepted-done : (text : List ℕ) (before now last out_before out_now : ℕ) (status : Status) → FileCause (Some text) before now last status → WriteCause out_before out_now status → IsAccepted text → ¬ Rose before now → ¬ Rose out_before out_now → (status ≡ Done) ⊎ (status ≡ Memory)
 accepted-done text b n l ob on Done cause write ok read wrote = inl refl
@@ -61,7 +67,8 @@ accepted-done text b n l ob on BadWords cause write ok read wrote = absurd cause
 accepted-done text b n l ob on (Text (TextLimit size)) cause write ok read wrote = absurd (omega (arith, ok.short, cause.2))
 accepted-done text b n l ob on (Text (BadToken place)) cause write ok read wrote = absurd (stops_lexes text place ok.nothing_left_out.tokens cause.1.1 ok.nothing_left_out.lexed)
 accepted-done text b n l ob on (Text (LeftOut word place)) cause write ok read wrote = absurd (none-is-left-out text word place ok.nothing_left_out cause.1.1)
-accepted-done text b n l ob on (Text (NoReading place)) cause write ok read wrote = absurd (cause.1.1 ok.meant ok.reads)
+accepted-done text b n l ob on (Text (NoReading place)) cause write ok read wrote = absurd (cause.1.1 ok.meant ok.reads.reads)
+accepted-done text b n l ob on (Text (CountLimit count c)) cause write ok read wrote = absurd (not-over text ok count c cause.1)
 accepted-done text b n l ob on (Text TextMemory) cause write ok read wrote = absurd cause
 accepted-done text b n l ob on (ReadFault TheModule) cause write ok read wrote = absurd (read cause)
 accepted-done text b n l ob on (ReadFault Out) cause write ok read wrote = absurd cause

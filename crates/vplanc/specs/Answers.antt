@@ -8,14 +8,15 @@ use Rattle.vplan_io.specs.declared.LoadFault.{LoadFault}
 use Rattle.vplan_io.specs.declared.LoadFault.TheVariants.{Failed as LoadFailed, TooLong, Memory as LoadMemory}
 use Rattle.text_lex.specs.Layout.{text_of}
 use Rattle.text_lex.specs.declared.fault.TextFault.{TextFault}
-use Rattle.text_lex.specs.declared.fault.TextFault.TheVariants.{BadToken, LeftOut, TextLimit, NoReading, Memory as TextMemory}
+use Rattle.text_lex.specs.declared.fault.TextFault.TheVariants.{BadToken, LeftOut, TextLimit, NoReading, CountLimit, Memory as TextMemory}
+use Rattle.text_lex.specs.declared.fault.Count.{Count}
+use Rattle.text_lex.specs.declared.fault.Count.TheVariants.{Functions, Blocks, Instructions, Name as NameBytes}
 use Rattle.text_lex.specs.Fault.{HasNoneLeftOut}
 use Rattle.ir_types.specs.declared.module.Module.{Module}
-use Rattle.ir_types.specs.Denotes.{tree_of}
 use Rattle.ir_types.specs.Reads.{Reads}
 use Rattle.ir_types.specs.Allows.{Allows, factor_of}
 use Rattle.ir_types.specs.First.{IsFirst}
-use Rattle.ir_reader.specs.Refusal.{IsRefusal}
+use Rattle.ir_reader.specs.Refusal.{IsRefusal, IsWithinLimits}
 use Rattle.ir_printer.specs.Print.{module_pieces}
 use Rattle.vplanc.specs.declared.answer.Which.{Which}
 use Rattle.vplanc.specs.declared.answer.Which.TheVariants.{Module as TheModule, Out}
@@ -43,12 +44,20 @@ text_status (BadToken place) = Text (BadToken place)
 text_status (LeftOut word place) = Text (LeftOut word place)
 text_status (TextLimit n) = Text (TextLimit n)
 text_status (NoReading place) = Text (NoReading place)
+text_status (CountLimit count n) = Text (CountLimit count n)
 text_status TextMemory = Memory
 
 -- its name in a line of the notes
 abbrev pub name_of : Which → List ℕ
 name_of TheModule = codes "module"
 name_of Out = codes "out"
+
+-- what is counted, in a line of the notes
+abbrev pub count_name : Count → List ℕ
+count_name Functions = codes "functions"
+count_name Blocks = codes "blocks"
+count_name Instructions = codes "instructions"
+count_name NameBytes = codes "name"
 
 -- a line of the notes
 abbrev pub line : List ℕ → List ℕ
@@ -62,28 +71,29 @@ line_of (Text (BadToken place)) = line (codes "text: bad token at " ++ decimal p
 line_of (Text (LeftOut word place)) = line (codes "text: left out " ++ word ++ codes " at " ++ decimal place)
 line_of (Text (TextLimit n)) = line (codes "text: " ++ decimal n ++ codes " bytes")
 line_of (Text (NoReading place)) = line (codes "text: no reading at " ++ decimal place)
+line_of (Text (CountLimit count n)) = line (codes "text: " ++ count_name count ++ codes " limit " ++ decimal n)
 line_of (Text TextMemory) = line (codes "memory")
 line_of (ReadFault which) = line (codes "read fault: " ++ name_of which)
 line_of (WriteFault which) = line (codes "write fault: " ++ name_of which)
 line_of Memory = line (codes "memory")
 
--- a text within the limit that has no token that is left out, and reads as a module
+-- a text within the limit that has no token that is left out, and reads as a module within the limits
 pub record IsAccepted (text : List ℕ) : Type 0 where
   pub short : length text ≤ longest
   pub nothing_left_out : HasNoneLeftOut text
   pub meant : Module
-  pub reads : Reads text meant
+  pub reads : IsWithinLimits text meant
 
 -- the module that the file reads as, where the file is told
 abbrev pub IsMeant : Option (List ℕ) → Module → Type 0
-IsMeant told m = IfSome told (λ text. (length text ≤ longest) × HasNoneLeftOut text × Reads text m)
+IsMeant told m = IfSome told (λ text. (length text ≤ longest) × HasNoneLeftOut text × IsWithinLimits text m)
 
 -- what is printed of a file: the text of a module that the file reads as, which reads as that module too
 pub record IsPrinted (told : Option (List ℕ)) (printed : List ℕ) : Type 0 where
   pub meant : Module
   pub file_reads : IsMeant told meant
   pub text_reads : Reads printed meant
-  pub exact : printed ≡ text_of (module_pieces (tree_of meant))
+  pub exact : printed ≡ text_of (module_pieces meant)
 
 -- The causes of the answers that speak of the file: what is told of it, its count of faults before and now, and the last load's length.
 abbrev pub FileCause : Option (List ℕ) → (before now last : ℕ) → Status → Type 0
@@ -91,6 +101,7 @@ FileCause told before now last (Text (TextLimit n)) = (n ≡ longest + 1) × (la
 FileCause told before now last (Text (BadToken place)) = (last ≤ longest) × IfSome told (λ text. IsRefusal text (BadToken place))
 FileCause told before now last (Text (LeftOut word place)) = (last ≤ longest) × IfSome told (λ text. IsRefusal text (LeftOut word place))
 FileCause told before now last (Text (NoReading place)) = (last ≤ longest) × IfSome told (λ text. IsRefusal text (NoReading place))
+FileCause told before now last (Text (CountLimit count n)) = (last ≤ longest) × IfSome told (λ text. IsRefusal text (CountLimit count n))
 FileCause told before now last (Text TextMemory) = ⊥
 FileCause told before now last (ReadFault TheModule) = Rose before now
 FileCause told before now last (ReadFault Out) = ⊥
@@ -171,7 +182,7 @@ OutLeft None told before now status = now ≡ before
 OutLeft (Some file) told before now status = OutHolds (told file) before now status
 
 -- Of a file's text and what was printed of it: both read as a module, and whichever modules these are, the first, where its instructions
--- have a meaning by now, allows the second, with one more than the number of the second's instructions as the factor.
+-- have a meaning by now and it has no variable, allows the second, with one more than the number of the second's instructions as the factor.
 pub record IsAllowed (text printed : List ℕ) : Type 0 where
   pub file_reads : (m : Module) × Reads text m
   pub print_reads : (n : Module) × Reads printed n

@@ -37,7 +37,7 @@ pub enum Status {
     Done,
     /// The words give no command.
     BadWords,
-    /// The file's text is too long, has a token that is none or is left out, or reads as no module.
+    /// The file's text is too long, has a token that is none or is left out, reads as no module, or as one that passes a limit.
     Text(TextFault),
     /// The file is not read.
     ReadFault(Which),

@@ -3,13 +3,13 @@
 ghost use Rattle.std.specs.Prelude.{◌≡◌, ℕ, ◌+◌, ◌≤◌, ◌++◌, codes, length, take};
 ghost use Rattle.std.specs.Fmt.{decimal};
 ghost use Rattle.vplan_io.specs.Causes.{Rose, and_then};
-ghost use Rattle.vplanc.specs.Answers.{line, line_of};
+ghost use Rattle.vplanc.specs.Answers.{count_name, line, line_of};
 ghost use Rattle.vplanc.specs.declared.answer.Status.TheVariants.{Done};
 
 use crate::answer::Status;
 use arrayvec::ArrayString;
 use itoa::Buffer;
-use text_lex::TextFault;
+use text_lex::{Count, TextFault};
 use vplan_io::{Sink, put_three};
 
 /// The most bytes of a line.
@@ -62,6 +62,33 @@ fn left_out(word: &[u8], place: u32) -> Line<'_>
     Line { head, word, tail }
 }
 
+// What is counted, in a line of the notes.
+fn name_of(count: Count) -> &'static str
+    ensures name { result.now ≡ count_name count }
+    ensures short { length result.now ≤ 12 }
+{
+    match count {
+        Count::Functions => "functions",
+        Count::Blocks => "blocks",
+        Count::Instructions => "instructions",
+        Count::Name => "name",
+    }
+}
+
+// The line of a limit that is passed.
+fn limit(count: Count, number: u64) -> ArrayString<LINE>
+    ensures { result.bytes ≡ line (codes "text: " ++ count_name count ++ codes " limit " ++ decimal number) }
+{
+    let mut digits = Buffer::new();
+    let mut line = ArrayString::new();
+    line.push_str("vplanc: text: ");
+    line.push_str(name_of(count));
+    line.push_str(" limit ");
+    line.push_str(digits.format(number));
+    line.push_str("\n");
+    line
+}
+
 // The line of an answer; it is empty where the program is done.
 fn line_for(status: &Status) -> Line<'_>
     ensures { result.head.bytes ++ result.word.now ++ result.tail.bytes ≡ line_of status.now }
@@ -80,6 +107,7 @@ fn line_for(status: &Status) -> Line<'_>
         Status::Text(TextFault::NoReading(place)) => {
             whole(line_with("text: no reading at ", digits.format(*place), ""))
         }
+        Status::Text(TextFault::CountLimit(count, number)) => whole(limit(*count, *number)),
         Status::ReadFault(which) => whole(line_with("read fault: ", which.name(), "")),
         Status::WriteFault(which) => whole(line_with("write fault: ", which.name(), "")),
         Status::Text(TextFault::Memory) | Status::Memory => whole(line_with("memory", "", "")),

@@ -1,8 +1,9 @@
 use Rattle.std.proofs.Common.{arith, ◌∷◌, []}
 use Rattle.ir_types.specs.Denotes.{tree_of_function}
 use Rattle.ir_shape.specs.Shape.{IsFunction}
-use Rattle.ir_printer.specs.Print.{line_feed, function_pieces}
-use Rattle.ir_printer.proofs.Appended.{behind_first, known_from, printed_next, printed_separated}
+use Rattle.type_printer.specs.Pieces.{line_feed}
+use Rattle.ir_printer.specs.Print.{function_pieces}
+use Rattle.type_printer.proofs.Appended.{behind_first, known_from, printed_next, printed_separated}
 use Rattle.ir_printer.proofs.function.put_functions.Goals as goal
 
 pub loop-function-preserved : goal.loop-function-preserved

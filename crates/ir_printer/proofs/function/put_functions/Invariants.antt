@@ -4,7 +4,8 @@ use Rattle.std.specs.List.{AllByRecursion}
 use Rattle.text_lex.specs.Layout.{text_of}
 use Rattle.ir_types.specs.Denotes.{tree_of_function}
 use Rattle.ir_shape.specs.Shape.{IsFunction}
-use Rattle.ir_printer.specs.Print.{line_feed, each_behind, function_pieces}
+use Rattle.type_printer.specs.Pieces.{line_feed, each_behind}
+use Rattle.ir_printer.specs.Print.{function_pieces}
 use Rattle.ir_printer.proofs.function.put_functions.Given as goal
 
 abbrev pub invariant-loop-function : goal.invariant-loop-function

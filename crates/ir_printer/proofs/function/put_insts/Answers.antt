@@ -1,8 +1,9 @@
 use Rattle.std.proofs.Common.{arith, ◌∷◌, []}
 use Rattle.ir_types.specs.Denotes.{inst_in}
 use Rattle.ir_shape.specs.Shape.{IsInst}
-use Rattle.ir_printer.specs.Print.{indent, inst_pieces}
-use Rattle.ir_printer.proofs.Appended.{known_from, printed_next}
+use Rattle.type_printer.specs.Pieces.{indent}
+use Rattle.ir_printer.specs.Print.{inst_pieces}
+use Rattle.type_printer.proofs.Appended.{known_from, printed_next}
 use Rattle.ir_printer.proofs.function.put_insts.Goals as goal
 
 pub put_inst-requires : goal.put_inst-requires

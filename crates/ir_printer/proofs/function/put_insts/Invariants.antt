@@ -4,7 +4,8 @@ use Rattle.std.specs.List.{AllByRecursion}
 use Rattle.text_lex.specs.Layout.{text_of}
 use Rattle.ir_types.specs.Denotes.{inst_in}
 use Rattle.ir_shape.specs.Shape.{IsInst}
-use Rattle.ir_printer.specs.Print.{indent, each_behind, inst_pieces}
+use Rattle.type_printer.specs.Pieces.{indent, each_behind}
+use Rattle.ir_printer.specs.Print.{inst_pieces}
 use Rattle.ir_printer.proofs.function.put_insts.Given as goal
 
 abbrev pub invariant-loop-inst : goal.invariant-loop-inst

@@ -4,7 +4,8 @@ use Rattle.std.specs.List.{AllByRecursion}
 use Rattle.text_lex.specs.Layout.{text_of}
 use Rattle.ir_types.specs.Denotes.{name_in, operand_in}
 use Rattle.ir_shape.specs.Shape.{IsName, IsOperand}
-use Rattle.ir_printer.specs.Print.{comma, blank, each_behind, entries_of}
+use Rattle.type_printer.specs.Pieces.{comma, blank, each_behind}
+use Rattle.ir_printer.specs.Print.{entries_of}
 use Rattle.ir_printer.proofs.line.put_entries.Given as goal
 
 abbrev pub invariant-loop-i : goal.invariant-loop-i

@@ -4,7 +4,8 @@ use Rattle.std.specs.List.{AllByRecursion}
 use Rattle.text_lex.specs.Layout.{text_of}
 use Rattle.ir_types.specs.Denotes.{name_in}
 use Rattle.ir_shape.specs.Shape.{IsName}
-use Rattle.ir_printer.specs.Print.{comma, blank, each_behind, target_pieces}
+use Rattle.type_printer.specs.Pieces.{comma, blank, each_behind}
+use Rattle.ir_printer.specs.Print.{target_pieces}
 use Rattle.ir_printer.proofs.line.put_targets.Given as goal
 
 abbrev pub invariant-loop-label : goal.invariant-loop-label

@@ -4,7 +4,8 @@ use Rattle.std.specs.List.{AllByRecursion}
 use Rattle.text_lex.specs.Layout.{text_of}
 use Rattle.ir_types.specs.Denotes.{operand_in}
 use Rattle.ir_shape.specs.Shape.{IsOperand}
-use Rattle.ir_printer.specs.Print.{comma, blank, each_behind, operand_pieces}
+use Rattle.type_printer.specs.Pieces.{comma, blank, each_behind}
+use Rattle.ir_printer.specs.Print.{operand_pieces}
 use Rattle.ir_printer.proofs.value.put_operands.Given as goal
 
 abbrev pub invariant-loop-operand : goal.invariant-loop-operand

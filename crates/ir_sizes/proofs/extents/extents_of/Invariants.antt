@@ -1,4 +1,3 @@
-use Rattle.std.proofs.Common.{◌≡◌, length}
 use Rattle.ir_sizes.specs.Known.{AreRight, unset}
 use Rattle.ir_sizes.proofs.extents.extents_of.Given as goal
 

@@ -1,7 +1,6 @@
-use Rattle.std.proofs.Common.{◌≡◌, sym, subst, refl}
-use Rattle.ir_types.specs.declared.memory_type.MemTy.{MemTy}
+use Rattle.std.proofs.Common.{subst}
 use Rattle.ir_types.specs.Sizes.{scalar_laid, array_laid, named_laid}
-use Rattle.ir_sizes.specs.Known.{IsSized, IsExtentOf, IsRight, AreRight, AreSized}
+use Rattle.ir_sizes.specs.Known.{IsSized, IsExtentOf}
 use Rattle.ir_sizes.proofs.single.extent_of.Goals as goal
 
 pub returns-in-One-clause-right : goal.returns-in-One-clause-right

@@ -1,8 +1,7 @@
-use Rattle.std.proofs.Common.{◌≡◌, ◌≤◌, ◌+◌, ◌∷◌, [], min, take, take_all, slice_index_or, sym, subst, arith}
+use Rattle.std.proofs.Common.{◌≡◌, take, take_all, sym, subst, arith}
 use Rattle.ir_types.specs.declared.memory_type.Extent.TheVariants.{Size}
-use Rattle.ir_types.specs.Sizes.{aligned, SIZE_CAP}
 use Rattle.ir_sizes.specs.Known.{IsSmall}
-use Rattle.ir_sizes.proofs.Members.{EndAt, end_none, end_next, end_all, put_at, put_bound}
+use Rattle.ir_sizes.proofs.Members.{end_none, end_next, end_all, put_at, put_bound}
 use Rattle.ir_sizes.proofs.single.of_struct.Goals as goal
 use Rattle.ir_sizes.proofs.single.of_struct.Goals.{then-packed, else-packed}
 

@@ -1,7 +1,6 @@
-use Rattle.std.proofs.Common.{◌≡◌, ◌∷◌, [], ◌<◌, ◌≤◌, sym, ap, subst, refl, arith}
+use Rattle.std.proofs.Common.{◌≡◌, arith}
 use Rattle.ir_types.specs.declared.memory_type.Extent.TheVariants.{Size}
-use Rattle.ir_types.specs.Sizes.{Layout}
-use Rattle.ir_sizes.specs.Known.{AreRight, AreSmall, IsRight, AreSized}
+use Rattle.ir_sizes.specs.Known.{AreRight, IsRight}
 use Rattle.ir_sizes.proofs.Layouts.{laid_once}
 use Rattle.ir_sizes.proofs.Setting.{right_small, extents_right, extents_sized}
 use Rattle.ir_sizes.proofs.size.size_of.Goals as goal

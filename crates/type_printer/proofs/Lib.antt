@@ -1,0 +1,16 @@
+pub mod Escapes
+pub mod Names
+pub mod Widths
+pub mod Numbers
+pub mod Says
+pub mod Spelled
+pub mod Laid
+pub mod LaidOut
+pub mod Appended
+pub mod MemorySays
+pub mod MemoryLaid
+pub mod MemoryPrinted
+pub mod MemoryRest
+pub mod TypeNames
+pub mod MemoryPlaced
+pub mod Frames

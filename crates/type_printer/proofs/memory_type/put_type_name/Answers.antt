@@ -1,0 +1,7 @@
+use Rattle.std.proofs.Common.{arith}
+use Rattle.std.proofs.lemmas.Grind.{common_steps}
+use Rattle.type_printer.proofs.TypeNames.{named_by}
+use Rattle.type_printer.proofs.memory_type.put_type_name.Goals as goal
+
+pub returns : goal.returns
+returns c = rw (named_by c.args.names.now c.args.name c.index-names-name.result c.requires c.index-names-name.is) (grind (arith, common_steps))
