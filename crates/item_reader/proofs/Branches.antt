@@ -1,5 +1,6 @@
 -- Which items a token begins.
 use Rattle.std.proofs.Common.{◌≡◌, Bool, true, false, cond, List, [], ◌∷◌, Option, refl}
+use Rattle.forms.specs.declared.TokenKind.{TokenKind}
 use Rattle.forms.specs.declared.TokenKind.TheVariants.{Local, Global, Comdat, Metadata, Equal}
 use Rattle.forms.specs.Form.{Lexeme, Form, either, mapped, by_word}
 use Rattle.forms.specs.Reading.{Terminal, mark_then, any_of, next_in, opens, read}

@@ -54,12 +54,17 @@ extra_takes = refl
 abbrev Read : Type 0
 Read = (Extra × KeptTexts) × List Lexeme
 
+abbrev read_so : Extra → KeptTexts → List Lexeme → Option Read
+read_so kind k us = Some ((kind, k), us)
+
 made_onto : (front texts : KeptTexts) (kind : Extra) (us : List Lexeme) (r : Option Read) → kept_onto front r ≡ Some ((kind, texts), us) → (k : KeptTexts) × (r ≡ Some ((kind, k), us)) × (texts ≡ front ++ k)
 made_onto front texts kind us None e = absurd cc
 made_onto front texts kind us (Some x) e =
     let whole : Read = ((x.0.0, front ++ x.0.1), x.1) in
     let same = some_is whole ((kind, texts), us) e in
-    (x.0.1, cc, sym (ap (λ (y : Read). y.0.1) same))
+    let of_kind : x.0.0 ≡ kind = ap (λ (y : Read). y.0.0) same in
+    let rest : x.1 ≡ us = ap (λ (y : Read). y.1) same in
+    (x.0.1, ap (λ (k : Extra). read_so k x.0.1 x.1) of_kind ∙ ap (λ (l : List Lexeme). read_so kind x.0.1 l) rest, sym (ap (λ (y : Read). y.0.1) same))
 
 concat_push : (xs : List KeptTexts) (x : KeptTexts) → concat (xs ++ x ∷ []) ≡ concat xs ++ x
 concat_push [] x = append-nil x

@@ -55,7 +55,7 @@ last_false false = refl
 
 pub once : (a b c : Bool) (xs : Extras) → joined_texts (walk once_more (seen a b c) xs) ≡ once_behind (seen a b c) xs
 once a b c [] = rw (fits_none a, fits_none b, fits_none c) refl
-once a b c (x ∷ xs) = by x.0 refl a b c
+once a b c (x ∷ xs) = by x.0 refl (λ p q r. once p q r xs) a b c
   where
     texts : KeptTexts
     texts = concat (map (λ (y : Extra × KeptTexts). y.1) xs)
@@ -63,17 +63,20 @@ once a b c (x ∷ xs) = by x.0 refl a b c
     counts : Bool → Bool → Bool → Bool
     counts a b c = fits a (count_of is_section xs) && (fits b (count_of is_comdat xs) && fits c (count_of is_alignment xs))
 
-    on : (a b c : Bool) → joined_texts (walk once_more (seen a b c) xs >>= λ q. Some (x.1 ∷ q.0, q.1)) ≡ cond (counts a b c) (Some (x.1 ++ texts)) None
-    on a b c = walked_on x.1 (walk once_more (seen a b c) xs) ∙ ap (before x.1) (once a b c xs) ∙ if_before (counts a b c) x.1 texts
+    abbrev Later : Type 0
+    Later = (a b c : Bool) → joined_texts (walk once_more (seen a b c) xs) ≡ once_behind (seen a b c) xs
 
-    by : (k : Extra) → x.0 ≡ k → (a b c : Bool) → joined_texts (walk once_more (seen a b c) ((k, x.1) ∷ xs)) ≡ once_behind (seen a b c) ((k, x.1) ∷ xs)
-    by Section e true b c = rw too_many refl
-    by Section e false b c = simp zero-add (on true b c)
-    by Comdat e a true c = rw (too_many, last_false) refl
-    by Comdat e a false c = simp zero-add (on a true c)
-    by Alignment e a b true = simp (too_many, last_false)
-    by Alignment e a b false = simp zero-add (on a b true)
-    by Attachment e a b c = simp zero-add (on a b c)
+    on : Later → (a b c : Bool) → joined_texts (walk once_more (seen a b c) xs >>= λ q. Some (x.1 ∷ q.0, q.1)) ≡ cond (counts a b c) (Some (x.1 ++ texts)) None
+    on later a b c = walked_on x.1 (walk once_more (seen a b c) xs) ∙ ap (before x.1) (later a b c) ∙ if_before (counts a b c) x.1 texts
+
+    by : (k : Extra) → x.0 ≡ k → Later → (a b c : Bool) → joined_texts (walk once_more (seen a b c) ((k, x.1) ∷ xs)) ≡ once_behind (seen a b c) ((k, x.1) ∷ xs)
+    by Section e later true b c = rw too_many refl
+    by Section e later false b c = simp zero-add (on later true b c)
+    by Comdat e later a true c = rw (too_many, last_false) refl
+    by Comdat e later a false c = simp zero-add (on later a true c)
+    by Alignment e later a b true = simp (too_many, last_false)
+    by Alignment e later a b false = simp zero-add (on later a b true)
+    by Attachment e later a b c = simp zero-add (on later a b c)
 
 -- what is counted at the end
 pub kept_walk : (xs : Extras) → kept_once xs ≡ joined_texts (walk once_more nothing_seen xs)

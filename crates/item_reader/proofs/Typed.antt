@@ -9,7 +9,7 @@ use Rattle.forms.proofs.Longest.{within}
 use Rattle.function_reader.proofs.Chains.{alike, first_apart}
 use Rattle.ir_types.specs.declared.name.Name.{Name}
 use Rattle.ir_types.specs.TypeNodes.{TypeNode}
-use Rattle.ir_types.specs.Tree.{KeptTexts, Item, FunctionTree, WrittenFunction, type_item, variable_item}
+use Rattle.ir_types.specs.Tree.{KeptTexts, VariableTree, Item, FunctionTree, WrittenFunction, type_item, variable_item}
 use Rattle.ir_types.specs.Written.{name_behind}
 use Rattle.ir_types.specs.Grammar.{memory_type, after_mark, behind, kept, variable_word, behind_type, named_type, named_variable, type_definition, variable_definition}
 use Rattle.ir_types.specs.Numbered.{numbered_item}
@@ -22,15 +22,21 @@ then_same : {A B : Type 0} (o : Option (A × List Lexeme)) (f g : A × List Lexe
 then_same None f g h = refl
 then_same (Some x) f g h = h x refl
 
--- the second part, of which the first is dropped
+abbrev beside : {A B : Type 0} → A → Option (B × List Lexeme) → Option ((A × B) × List Lexeme)
+beside a o = o >>= λ y. Some ((a, y.0), y.1)
+
+abbrev second : {A B : Type 0} → Option ((A × B) × List Lexeme) → Option (B × List Lexeme)
+second o = o >>= λ x. Some (x.0.1, x.1)
+
+-- a part behind another, which is dropped
 behind_apart : {A B C : Type 0} (f : B → Option C) (g : Form A) (h : Form B) (ts : List Lexeme) → completed f (read (mapped (λ x. x.1) (pair g h)) ts) ≡ (read g ts >>= λ a. completed f (read h a.1))
 behind_apart {A} {B} {C} f g h ts = by (read g ts)
   where
-    each : (a : A) (o : Option (B × List Lexeme)) → completed f ((o >>= λ y. Some ((a, y.0), y.1)) >>= λ x. Some (x.0.1, x.1)) ≡ completed f o
+    each : (a : A) (o : Option (B × List Lexeme)) → completed f (second (beside a o)) ≡ completed f o
     each a None = refl
     each a (Some y) = refl
 
-    by : (o : Option (A × List Lexeme)) → completed f ((o >>= λ x. read h x.1 >>= λ y. Some ((x.0, y.0), y.1)) >>= λ x. Some (x.0.1, x.1)) ≡ (o >>= λ a. completed f (read h a.1))
+    by : (o : Option (A × List Lexeme)) → completed f (second (o >>= λ x. beside x.0 (read h x.1))) ≡ (o >>= λ a. completed f (read h a.1))
     by None = refl
     by (Some x) = each x.0 (read h x.1)
 
@@ -54,11 +60,23 @@ Defined = Option (List TypeNode)
 abbrev definition_so : List ℕ → Defined → Option NumberedItem
 definition_so t d = named_type (t, d) >>= numbered_item tt
 
-definition_named : (t : List ℕ) (r : Option (Defined × List Lexeme)) → (r >>= λ d. name_behind t >>= λ n. Some ((type_item n d.0, tt), d.1)) ≡ completed (definition_so t) r
+abbrev named_so : List ℕ → Option (Defined × List Lexeme) → Option (NumberedItem × List Lexeme)
+named_so t r = r >>= λ d. name_behind t >>= λ n. Some ((type_item n d.0, tt), d.1)
+
+abbrev with_rest : List Lexeme → Option NumberedItem → Option (NumberedItem × List Lexeme)
+with_rest us o = o >>= λ b. Some (b, us)
+
+abbrev type_so : Defined → List Lexeme → Name → Option (NumberedItem × List Lexeme)
+type_so d us n = Some ((type_item n d, tt), us)
+
+abbrev written_type : Defined → Name → Option (Item WrittenFunction)
+written_type d n = Some (type_item n d)
+
+definition_named : (t : List ℕ) (r : Option (Defined × List Lexeme)) → named_so t r ≡ completed (definition_so t) r
 definition_named t None = refl
 definition_named t (Some d) = by (name_behind t)
   where
-    by : (o : Option Name) → (o >>= λ n. Some ((type_item n d.0, tt), d.1)) ≡ (((o >>= λ n. Some (type_item n d.0)) >>= numbered_item tt) >>= λ b. Some (b, d.1))
+    by : (o : Option Name) → (o >>= type_so d.0 d.1) ≡ with_rest d.1 ((o >>= written_type d.0) >>= numbered_item tt)
     by None = refl
     by (Some n) = refl
 
@@ -66,7 +84,7 @@ abbrev defined_form : ℕ → Form Defined
 defined_form d = either (mapped Some (memory_type d)) opaque_word
 
 behind_name : (d : ℕ) (t : List ℕ) (ts : List Lexeme) → length ts ≤ d
-    → (read (mark Equal) ts >>= λ e. read (exactly Word (codes "type")) e.1 >>= λ w. defined_read w.1 >>= λ x. name_behind t >>= λ n. Some ((type_item n x.0, tt), x.1))
+    → (read (mark Equal) ts >>= λ e. read (exactly Word (codes "type")) e.1 >>= λ w. named_so t (defined_read w.1))
     ≡ completed (definition_so t) (read (after_mark Equal (behind (codes "type") (defined_form d))) ts)
 behind_name d t ts le =
     then_same (read (mark Equal) ts) _ _ (λ e e1.
@@ -89,25 +107,38 @@ definition_is d ts le =
 abbrev variable_so : List ℕ → KeptTexts → Bool → List TypeNode → KeptTexts → Option NumberedItem
 variable_so t k w m b = named_variable (t, (k, (w, (m, b)))) >>= numbered_item tt
 
-variable_named : (t : List ℕ) (k : KeptTexts) (w : Bool) (m : List TypeNode) (r : Option (KeptTexts × List Lexeme))
-    → (r >>= λ b. name_behind t >>= λ n. Some ((variable_item (record { name = n; before = k; writable = w; ty = m; after = b.0 }), tt), b.1)) ≡ completed (variable_so t k w m) r
+abbrev the_variable : KeptTexts → Bool → List TypeNode → KeptTexts → Name → VariableTree
+the_variable k w m b n = record { name = n; before = k; writable = w; ty = m; after = b }
+
+abbrev behind_read : List ℕ → KeptTexts → Bool → List TypeNode → Option (KeptTexts × List Lexeme) → Option (NumberedItem × List Lexeme)
+behind_read t k w m r = r >>= λ b. name_behind t >>= λ n. Some ((variable_item (the_variable k w m b.0 n), tt), b.1)
+
+abbrev variable_made : VariableTree → List Lexeme → Option (NumberedItem × List Lexeme)
+variable_made v us = Some ((variable_item v, tt), us)
+
+abbrev written_variable : VariableTree → Option (Item WrittenFunction)
+written_variable v = Some (variable_item v)
+
+variable_named : (t : List ℕ) (k : KeptTexts) (w : Bool) (m : List TypeNode) (r : Option (KeptTexts × List Lexeme)) → behind_read t k w m r ≡ completed (variable_so t k w m) r
 variable_named t k w m None = refl
 variable_named t k w m (Some b) = by (name_behind t)
   where
-    by : (o : Option Name) → (o >>= λ n. Some ((variable_item (record { name = n; before = k; writable = w; ty = m; after = b.0 }), tt), b.1)) ≡ (((o >>= λ n. Some (variable_item (record { name = n; before = k; writable = w; ty = m; after = b.0 }))) >>= numbered_item tt) >>= λ x. Some (x, b.1))
+    by : (o : Option Name) → (o >>= λ n. variable_made (the_variable k w m b.0 n) b.1) ≡ with_rest b.1 ((o >>= λ n. written_variable (the_variable k w m b.0 n)) >>= numbered_item tt)
     by None = refl
     by (Some n) = refl
 
+abbrev type_behind : List ℕ → KeptTexts → Bool → Option (List TypeNode × List Lexeme) → Option (NumberedItem × List Lexeme)
+type_behind t k w r = r >>= λ m. behind_read t k w m.0 (read behind_type m.1)
+
 behind_word : (d : ℕ) (t : List ℕ) (k : KeptTexts) (w : Bool) (ts : List Lexeme) → length ts ≤ d
-    → (type_read ts >>= λ m. read behind_type m.1 >>= λ b. name_behind t >>= λ n. Some ((variable_item (record { name = n; before = k; writable = w; ty = m.0; after = b.0 }), tt), b.1))
-    ≡ completed (λ x. named_variable (t, (k, (w, x))) >>= numbered_item tt) (read (pair (memory_type d) behind_type) ts)
+    → type_behind t k w (type_read ts) ≡ completed (λ x. named_variable (t, (k, (w, x))) >>= numbered_item tt) (read (pair (memory_type d) behind_type) ts)
 behind_word d t k w ts le =
-    alike (type_read ts) _ _ (λ m. variable_named t k w m.0 (read behind_type m.1))
-    ∙ ap (λ (r : Option (List TypeNode × List Lexeme)). r >>= λ m. completed (variable_so t k w m.0) (read behind_type m.1)) (type_is d ts le)
+    ap (type_behind t k w) (type_is d ts le)
+    ∙ alike (read (memory_type d) ts) _ _ (λ m. variable_named t k w m.0 (read behind_type m.1))
     ∙ sym (first_apart (λ x. named_variable (t, (k, (w, x))) >>= numbered_item tt) (memory_type d) behind_type ts)
 
 behind_equal : (d : ℕ) (t : List ℕ) (ts : List Lexeme) → length ts ≤ d
-    → (read kept ts >>= λ k. read variable_word k.1 >>= λ w. type_read w.1 >>= λ m. read behind_type m.1 >>= λ b. name_behind t >>= λ n. Some ((variable_item (record { name = n; before = k.0; writable = w.0; ty = m.0; after = b.0 }), tt), b.1))
+    → (read kept ts >>= λ k. read variable_word k.1 >>= λ w. type_behind t k.0 w.0 (type_read w.1))
     ≡ completed (λ x. named_variable (t, x) >>= numbered_item tt) (read (pair kept (pair variable_word (pair (memory_type d) behind_type))) ts)
 behind_equal d t ts le =
     let inner = pair (memory_type d) behind_type in

@@ -3,6 +3,8 @@
 ghost use Rattle.std.specs.Prelude.{◌≡◌, ◌≤◌, ℕ, length};
 ghost use Rattle.forms.specs.Gives.{Gives, left};
 ghost use Rattle.forms.specs.Reading.{read};
+ghost use Rattle.forms.specs.Walk.{completed};
+ghost use Rattle.ir_types.specs.Numbered.{numbered_item};
 ghost use Rattle.ir_types.specs.Grammar.{memory_type, type_definition};
 ghost use Rattle.item_reader.specs.Parts.{definition_of};
 ghost use Rattle.item_reader.specs.Typed.{definition_read};
@@ -18,7 +20,7 @@ fn parts<'t>(
     alloc: Global,
     tokens: Cursor<'t>,
 ) -> Result<(Definition<'t>, Cursor<'t>), SyntaxFault>
-    ensures { Gives (λ x. (definition_of x.0, left x.1)) result (definition_read (left tokens.entry)) }
+    ensures { Gives (λ x. ((definition_of x.0, tt), left x.1)) result (definition_read (left tokens.entry)) }
 {
     let (token, rest) = tokens.one(TokenKind::Local)?;
     let rest = rest.mark(TokenKind::Equal)?;
@@ -35,7 +37,7 @@ pub fn definition<'t>(
     alloc: Global,
     tokens: Cursor<'t>,
 ) -> Result<(Definition<'t>, Cursor<'t>), SyntaxFault>
-    ensures { (d : ℕ) → length (left tokens.entry) ≤ d → Gives (λ x. (definition_of x.0, left x.1)) result (read (type_definition (memory_type d)) (left tokens.entry)) }
+    ensures { (d : ℕ) → length (left tokens.entry) ≤ d → Gives (λ x. ((definition_of x.0, tt), left x.1)) result (completed (numbered_item tt) (read (type_definition (memory_type d)) (left tokens.entry))) }
 {
     parts(alloc, tokens)
 }

@@ -55,7 +55,7 @@ impl Seen {
 
     /// With one more, where that may stand there.
     fn with(self, extra: Extra) -> Option<Seen>
-        ensures { result ≡ with_extra self.entry extra }
+        ensures { result ≡ with_extra self extra }
     {
         match extra {
             Extra::Section if !self.section => Some(Seen {

@@ -3,7 +3,7 @@
 
 mod definition;
 mod extras;
-mod item;
+mod items;
 mod lines;
 mod part;
 mod passing;
@@ -11,6 +11,6 @@ mod source;
 mod variable;
 mod words;
 
-pub use item::{begins_item, item};
+pub use items::{begins_item, item};
 pub use part::{Definition, Part, Variable};
 pub use source::TypeSource;

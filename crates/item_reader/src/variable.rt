@@ -3,6 +3,8 @@
 ghost use Rattle.std.specs.Prelude.{◌≡◌, ◌≤◌, ℕ, length};
 ghost use Rattle.forms.specs.Gives.{Gives, left};
 ghost use Rattle.forms.specs.Reading.{read};
+ghost use Rattle.forms.specs.Walk.{completed};
+ghost use Rattle.ir_types.specs.Numbered.{numbered_item};
 ghost use Rattle.ir_types.specs.Tree.{variable_item};
 ghost use Rattle.ir_types.specs.Grammar.{memory_type, variable_word, variable_definition};
 ghost use Rattle.item_reader.specs.Parts.{variable_of};
@@ -32,7 +34,7 @@ fn writable<'t>(tokens: Cursor<'t>) -> Result<(bool, Cursor<'t>), SyntaxFault>
 
 /// The parts of a variable.
 fn parts<'t>(alloc: Global, tokens: Cursor<'t>) -> Result<(Variable<'t>, Cursor<'t>), SyntaxFault>
-    ensures { Gives (λ x. (variable_item (variable_of x.0), left x.1)) result (variable_read (left tokens.entry)) }
+    ensures { Gives (λ x. ((variable_item (variable_of x.0), tt), left x.1)) result (variable_read (left tokens.entry)) }
 {
     let (token, rest) = tokens.one(TokenKind::Global)?;
     let rest = rest.mark(TokenKind::Equal)?;
@@ -60,7 +62,7 @@ pub fn variable<'t>(
     alloc: Global,
     tokens: Cursor<'t>,
 ) -> Result<(Variable<'t>, Cursor<'t>), SyntaxFault>
-    ensures { (d : ℕ) → length (left tokens.entry) ≤ d → Gives (λ x. (variable_item (variable_of x.0), left x.1)) result (read (variable_definition (memory_type d)) (left tokens.entry)) }
+    ensures { (d : ℕ) → length (left tokens.entry) ≤ d → Gives (λ x. ((variable_item (variable_of x.0), tt), left x.1)) result (completed (numbered_item tt) (read (variable_definition (memory_type d)) (left tokens.entry))) }
 {
     parts(alloc, tokens)
 }

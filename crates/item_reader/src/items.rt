@@ -52,6 +52,7 @@ pub fn begins_item(tokens: Cursor<'_>) -> bool
 }
 
 /// What is behind the word of an item.
+#[tactic(auto, unfolding(ir_types::specs::Grammar::target_line, ir_types::specs::Grammar::attribute_group))]
 fn behind_word<'t>(
     alloc: Global,
     tokens: Cursor<'t>,
