@@ -1,9 +1,8 @@
 -- Each step of the reading of a memory type keeps what the whole gives.
-use Rattle.std.proofs.Common.{◌≡◌, ℕ, ◌<◌, ◌≤◌, ◌+◌, Bool, true, false, cond, List, [], ◌∷◌, ◌++◌, length, map, Option, Some, None, refl, sym, ap, ◌∙◌, subst, arith, append_assoc, length-append}
+use Rattle.std.proofs.Common.{◌≡◌, ℕ, ◌≤◌, Bool, true, false, List, [], ◌∷◌, ◌++◌, length, map, Some, None, refl, sym, ap, ◌∙◌, append_assoc}
 use Rattle.std.proofs.lemmas.List.{append-nil}
 use Rattle.std.specs.List.{AllByRecursion}
-use Rattle.forms.specs.declared.Around.{Around}
-use Rattle.forms.specs.declared.Around.TheVariants.{InArray, InStruct}
+use Rattle.forms.specs.declared.Around.TheVariants.{InStruct}
 use Rattle.forms.specs.View.{Extends}
 use Rattle.forms.specs.Form.{Lexeme}
 use Rattle.forms.specs.Reading.{read}
@@ -18,7 +17,7 @@ use Rattle.ir_types.specs.Types.{IsBefore, AreTypes}
 use Rattle.ir_types.specs.Grammar.{type_parts}
 use Rattle.ir_types.proofs.Decides.{parts_decide}
 use Rattle.ir_types.proofs.NameAt.{extends_refl}
-use Rattle.type_reader.specs.Frames.{Frame, in_array, in_struct, around_of, with_member, closed, frame_nodes, opened_nodes, arounds, goes_on, AreBefore, Holds, end_nodes}
+use Rattle.type_reader.specs.Frames.{Frame, in_array, in_struct, around_of, closed, frame_nodes, opened_nodes, arounds, goes_on, AreBefore, end_nodes}
 use Rattle.type_reader.proofs.NodeLists.{nodes_stay, nodes_of_new}
 
 -- ---- the nodes of the frames stay what they are

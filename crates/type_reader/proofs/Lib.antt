@@ -4,3 +4,5 @@ pub mod Vectors
 pub mod Places
 pub mod NodeLists
 pub mod Going
+pub mod Holding
+pub mod Openings

@@ -1,5 +1,5 @@
 -- First places in a list of names that grows at its end.
-use Rattle.std.proofs.Common.{◌≡◌, ℕ, zero, suc, ◌<◌, ◌≤◌, ◌+◌, ◌^◌, Bool, true, false, cond, List, [], ◌∷◌, ◌++◌, length, get_or, set, Option, Some, None, Contains, refl, sym, ap, ◌∙◌, subst, inl, inr, ◌⊎◌, true≢false, arith, length-append}
+use Rattle.std.proofs.Common.{◌≡◌, ℕ, zero, suc, ◌<◌, ◌+◌, ◌^◌, Bool, true, false, cond, List, [], ◌∷◌, ◌++◌, length, get_or, set, Option, Some, None, Contains, refl, sym, ap, ◌∙◌, subst, inl, inr, ◌⊎◌, true≢false, arith}
 use Rattle.std.specs.Prelude.{position, slice_get, is_some}
 use Rattle.std.specs.Bool.{Decides}
 use Rattle.std.specs.List.{position_from}
@@ -15,7 +15,6 @@ use Rattle.ir_types.specs.declared.name.Name.TheVariants.{Text, Number}
 use Rattle.ir_types.specs.declared.memory_type.TypeName.{TypeName}
 use Rattle.ir_types.specs.declared.memory_type.NamedType.{NamedType}
 use Rattle.ir_types.specs.Names.{name_at, same_name}
-use Rattle.ir_types.specs.Types.{IsFirst}
 use Rattle.ir_types.proofs.SameNames.{name_eq}
 use Rattle.type_reader.specs.TypeTable.{names_of, HasFirstPlaces, IsPlaceOf, with_type}
 

@@ -1,11 +1,12 @@
 -- Reading a memory type with a list of what it stands in: how far the reading has come.
-use Rattle.std.specs.Prelude.{◌≡◌, ℕ, zero, suc, ◌<◌, ◌≤◌, Bool, true, false, List, [], ◌∷◌, ◌++◌, length, map, Option, Some, None, Result}
+use Rattle.std.specs.Prelude.{ℕ, Bool, true, false, List, [], ◌∷◌, ◌++◌, length, map, Option, Some, None}
 use Rattle.std.specs.List.{AllByRecursion}
 use Rattle.forms.specs.declared.Around.{Around}
 use Rattle.forms.specs.declared.Around.TheVariants.{InArray, InStruct}
 use Rattle.forms.specs.declared.cursor.SyntaxFault.{SyntaxFault}
 use Rattle.forms.specs.declared.cursor.SyntaxFault.TheVariants.{NoReading, Memory}
 use Rattle.forms.specs.Form.{Lexeme}
+use Rattle.forms.specs.Reading.{◌>>=◌, read}
 use Rattle.forms.specs.Nested.{concat}
 use Rattle.forms.specs.Machine.{whole}
 use Rattle.ir_types.specs.declared.name.Name.{Name}
@@ -14,7 +15,7 @@ use Rattle.ir_types.specs.declared.memory_type.MemTy.{MemTy}
 use Rattle.ir_types.specs.declared.memory_type.MemTy.TheVariants.{Array, Struct}
 use Rattle.ir_types.specs.TypeNodes.{TypeNode, array, opening, closing, type_nodes}
 use Rattle.ir_types.specs.Types.{IsBefore, AreTypes}
-use Rattle.ir_types.specs.Grammar.{type_parts}
+use Rattle.ir_types.specs.Grammar.{type_parts, memory_type}
 
 -- what a type that is read stands in
 pub data Frame : Type 0 where
@@ -98,3 +99,7 @@ is_refusal Memory = false
 abbrev pub end_nodes : Around → List TypeNode
 end_nodes InArray = []
 end_nodes (InStruct p) = closing ∷ []
+
+-- what is behind a memory type that is nested at most so deep
+abbrev pub behind_type : ℕ → List Lexeme → Option (List Lexeme)
+behind_type d ts = read (memory_type d) ts >>= λ x. Some x.1

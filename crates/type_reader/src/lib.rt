@@ -6,11 +6,14 @@ mod memory;
 mod names;
 mod numbers;
 mod stack;
+#[cfg(test)]
+mod tests;
 mod type_names;
 mod types;
 
-pub use memory::memory_type;
+pub use heads::begins_memory_type;
+pub use memory::{memory_type, skip_type};
 pub use names::{block_label, global, local, name_before, name_behind};
-pub use numbers::number_of_32_bits;
+pub use numbers::{number_of_32_bits, number_of_64_bits};
 pub use type_names::TypeNames;
 pub use types::{begins_type, return_type, value_type};

@@ -95,7 +95,7 @@ impl Stack {
         Ok(())
     }
 
-    /// The innermost struct has one more member.
+    /// The innermost struct has one more member. An array stays as it is.
     pub fn add(&mut self, member: TypeId) -> Result<(), AllocError>
         requires { 0 < length self.old }
         ensures ok { OnOk result (Adds self.old member self.new) }
@@ -109,7 +109,7 @@ impl Stack {
                 self.levels.push(Level::Struct(packed, count + 1))?;
             }
             Some(level) => self.levels.push(level)?,
-            None => {}
+            None => unreachable!(),
         }
         Ok(())
     }
@@ -125,7 +125,7 @@ impl Stack {
                 let members = take_members(alloc, &mut self.members, count, last)?;
                 Ok(MemTy::Struct(packed, Items::from_vec(members)))
             }
-            None => Err(AllocError),
+            None => unreachable!(),
         }
     }
 }

@@ -1,4 +1,4 @@
-use Rattle.std.proofs.Common.{◌≡◌, ◌∙◌, sym, ap, cond, Some, Option, ℕ}
+use Rattle.std.proofs.Common.{◌∙◌, sym, ap, cond, Some}
 use Rattle.std.specs.Map.{lookup}
 use Rattle.ir_types.specs.declared.name.Name.{Name}
 use Rattle.ir_types.proofs.SameNames.{name_eq}

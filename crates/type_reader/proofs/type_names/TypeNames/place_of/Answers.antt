@@ -1,4 +1,4 @@
-use Rattle.std.proofs.Common.{◌≡◌, List, sym, ap, ◌∙◌, inl, inr, refl, length, arith}
+use Rattle.std.proofs.Common.{◌≡◌, sym, ap, inl, inr, refl, length, arith}
 use Rattle.ir_types.specs.declared.memory_type.NamedType.TheVariants.{Missing}
 use Rattle.type_reader.proofs.Places.{place_found, name_contained, not_contained, place_new}
 use Rattle.type_reader.proofs.type_names.TypeNames.place_of.Goals as goal
