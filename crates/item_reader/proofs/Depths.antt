@@ -8,7 +8,7 @@ use Rattle.forms.proofs.NestedDecides.{memory_takes}
 use Rattle.ir_types.specs.TypeNodes.{TypeNode}
 use Rattle.ir_types.specs.Grammar.{local_name, width, vector_type, value_type, memory_leaf, array_begin, type_parts, memory_type, word}
 use Rattle.ir_types.proofs.Decides.{parts_decide}
-use Rattle.item_reader.specs.Sources.{type_read}
+use Rattle.item_reader.specs.Sources.{type_read, nodes_or_none}
 use Rattle.item_reader.specs.Typed.{defined_read}
 use Rattle.item_reader.proofs.Swaps.{swapped}
 
@@ -28,3 +28,10 @@ pub defined_is : (d : ℕ) (ts : List Lexeme) → length ts ≤ d → defined_re
 defined_is d ts le =
     ap (λ (r : Option (List TypeNode × List Lexeme)). cond (opens opaque_word ts) (read opaque_word ts) (r >>= λ x. Some (Some x.0, x.1))) (type_is d ts le)
     ∙ swapped (mapped Some (memory_type d)) opaque_word ts (memory_takes type_parts parts_decide d) refl (not_opaque d)
+
+abbrev read_so : List TypeNode → List Lexeme → Option (List TypeNode × List Lexeme)
+read_so nodes us = Some (nodes, us)
+
+-- what is read is what its nodes say
+pub read_again : (nodes : List TypeNode) (us : List Lexeme) (r : Option (List TypeNode × List Lexeme)) → r ≡ Some (nodes, us) → read_so nodes us ≡ read_so (nodes_or_none r) us
+read_again nodes us r e = ap (λ (o : Option (List TypeNode × List Lexeme)). read_so (nodes_or_none o) us) (sym e)

@@ -1,8 +1,12 @@
 -- Names that are looked up once for all have the same first long name.
 use Rattle.std.proofs.Common.{◌≡◌, ℕ, Bool, true, false, cond, ◌||◌, List, [], ◌∷◌, ◌++◌, Option, Some, None, refl, sym, ap, ◌∙◌}
 use Rattle.ir_types.specs.declared.name.Name.{Name}
+use Rattle.ir_types.specs.declared.memory_type.TypeName.{TypeName}
 use Rattle.ir_types.specs.Names.{same_name}
-use Rattle.ir_types.specs.Collected.{has_name, unknown}
+use Rattle.ir_types.specs.TypeNodes.{TypeNode}
+use Rattle.ir_types.specs.Collected.{names_used, has_name, unknown}
+use Rattle.type_reader.specs.TypeTable.{names_of, LooksUpAll}
+use Rattle.type_reader.proofs.LookUps.{missing_names}
 use Rattle.type_reader.proofs.Places.{same_name-Decides}
 use Rattle.ir_limits.specs.Limits.{long_name, or_else, first_long}
 use Rattle.ir_limits.proofs.Firsts.{first_of_both}
@@ -40,3 +44,7 @@ long_unknown known (n ∷ ns) e = by (has_name n known) refl (long_unknown known
     by : (b : Bool) → has_name n known ≡ b → first_long (unknown known ns) ≡ first_long ns → (long_name n ≡ None → first_long (unknown (one_more known n) ns) ≡ first_long ns) → first_long (cond b (unknown known ns) (n ∷ unknown (one_more known n) ns)) ≡ or_else (long_name n) (first_long ns)
     by true h there go = there ∙ ap (λ (o : Option ℕ). or_else o (first_long ns)) (sym (not_long n known e h))
     by false h there go = later (long_name n) refl go
+
+-- the names that were looked up for one type alone
+pub of_scratch : (entries : List TypeName) (nodes : List TypeNode) → LooksUpAll [] nodes entries → first_long (names_of entries) ≡ first_long (names_used nodes)
+of_scratch entries nodes h = ap (λ (l : List TypeName). first_long (names_of l)) h ∙ ap first_long (missing_names (unknown [] (names_used nodes))) ∙ long_unknown [] (names_used nodes) refl

@@ -7,7 +7,7 @@ use Rattle.forms.specs.Walk.{walk, completed}
 use Rattle.forms.specs.Nested.{concat}
 use Rattle.forms.specs.Machine.{behind}
 use Rattle.forms.proofs.Walks.{so_far, so_far_nothing, goes_completed, walk_fails, walk_ends}
-use Rattle.forms.proofs.Sound.{bind_some}
+use Rattle.forms.proofs.Many.{shorter}
 use Rattle.forms.proofs.Exact.{some_is}
 use Rattle.ir_types.specs.declared.opcode.Extra.{Extra}
 use Rattle.ir_types.specs.Tree.{KeptTexts}
@@ -66,6 +66,9 @@ made_onto front texts kind us (Some x) e =
     let rest : x.1 ≡ us = ap (λ (y : Read). y.1) same in
     (x.0.1, ap (λ (k : Extra). read_so k x.0.1 x.1) of_kind ∙ ap (λ (l : List Lexeme). read_so kind x.0.1 l) rest, sym (ap (λ (y : Read). y.0.1) same))
 
+abbrev after_extra : KeptTexts → List Lexeme → Option Seen → Option ((KeptTexts × Seen) × List Lexeme)
+after_extra k us o = (o >>= λ t. Some (k, t)) >>= λ b. Some (b, us)
+
 concat_push : (xs : List KeptTexts) (x : KeptTexts) → concat (xs ++ x ∷ []) ≡ concat xs ++ x
 concat_push [] x = append-nil x
 concat_push (y ∷ ys) x = ap (λ (k : KeptTexts). y ++ k) (concat_push ys x) ∙ sym (append_assoc y (concat ys) x)
@@ -75,7 +78,7 @@ pub one_more : (before : KeptTexts) (ts us vs : List Lexeme) (seen now : Seen) (
     → kept_onto texts (read extra us) ≡ Some ((kind, more), vs) → with_extra seen kind ≡ Some now → ExtrasSoFar before ts now more vs
 one_more before ts us vs seen now texts more kind h o e w =
     let m = made_onto texts more kind vs (read extra us) e in
-    let one : completed (once_more seen) (read extra us) ≡ Some ((m.0, now), vs) = rw (m.1, w) refl in
+    let one : completed (once_more seen) (read extra us) ≡ Some ((m.0, now), vs) = ap (completed (once_more seen)) m.1 ∙ ap (λ (o : Option Seen). after_extra m.0 vs o) w in
     record {
       done = h.done ++ m.0 ∷ [];
       kept = m.2 ∙ ap (λ (k : KeptTexts). k ++ m.0) h.kept ∙ append_assoc before (concat h.done) m.0 ∙ ap (λ (k : KeptTexts). before ++ k) (sym (concat_push h.done m.0));
@@ -100,4 +103,8 @@ not_read seen front us e = by (read extra us) e
     by (Some x) h = absurd cc
 
 pub one_too_many : (seen : Seen) (front texts : KeptTexts) (kind : Extra) (us vs : List Lexeme) → kept_onto front (read extra us) ≡ Some ((kind, texts), vs) → with_extra seen kind ≡ None → completed (once_more seen) (read extra us) ≡ None
-one_too_many seen front texts kind us vs e w = let m = made_onto front texts kind vs (read extra us) e in rw (m.1, w) refl
+one_too_many seen front texts kind us vs e w = let m = made_onto front texts kind vs (read extra us) e in ap (completed (once_more seen)) m.1 ∙ ap (λ (o : Option Seen). after_extra m.0 vs o) w
+
+-- an extra takes a token
+pub extra_shorter : (front texts : KeptTexts) (kind : Extra) (us vs : List Lexeme) → kept_onto front (read extra us) ≡ Some ((kind, texts), vs) → length vs < length us
+extra_shorter front texts kind us vs e = let m = made_onto front texts kind vs (read extra us) e in shorter extra us ((kind, m.0), vs) extra_takes m.1

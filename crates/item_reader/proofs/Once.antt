@@ -2,6 +2,7 @@
 use Rattle.std.proofs.Common.{◌≡◌, ℕ, ◌+◌, Bool, true, false, cond, ◌&&◌, List, [], ◌∷◌, ◌++◌, Option, Some, None, refl, sym, ap, ◌∙◌, zero-add, arith}
 use Rattle.std.specs.Prelude.{nat_le, map}
 use Rattle.std.proofs.lemmas.Bool.Decides.{nat_tests}
+use Rattle.std.proofs.lemmas.List.Sums.{sum_by-cons}
 use Rattle.forms.specs.Nested.{concat}
 use Rattle.forms.specs.Reading.{◌>>=◌}
 use Rattle.forms.specs.Walk.{walk}
@@ -37,6 +38,12 @@ fits_none : (b : Bool) → fits b 0 ≡ true
 fits_none true = refl
 fits_none false = refl
 
+abbrev texts_of : Extras → KeptTexts
+texts_of xs = concat (map (λ x. x.1) xs)
+
+abbrev if_fits : Bool → Bool → Bool → KeptTexts → Option KeptTexts
+if_fits a b c k = cond (a && (b && c)) (Some k) None
+
 -- a second one is one too many
 too_many : (n : ℕ) → fits true (1 + n) ≡ false
 too_many n = grind (arith, nat_tests)
@@ -53,9 +60,21 @@ last_false : (b : Bool) → (b && false) ≡ false
 last_false true = refl
 last_false false = refl
 
+count_next : (p : Extra → Bool) (x : Extra × KeptTexts) (xs : Extras) → count_of p (x ∷ xs) ≡ cond (p x.0) 1 0 + count_of p xs
+count_next p x xs = sum_by-cons (λ (y : Extra × KeptTexts). cond (p y.0) 1 0) x xs
+
+-- the counts with one more
+counted : (s : Seen) (k : Extra) (t : KeptTexts) (xs : Extras)
+    → once_behind s ((k, t) ∷ xs) ≡ if_fits (fits s.section (cond (is_section k) 1 0 + count_of is_section xs)) (fits s.comdat (cond (is_comdat k) 1 0 + count_of is_comdat xs)) (fits s.alignment (cond (is_alignment k) 1 0 + count_of is_alignment xs)) (t ++ texts_of xs)
+counted s k t xs = rw (count_next is_section (k, t) xs, count_next is_comdat (k, t) xs, count_next is_alignment (k, t) xs) refl
+
+-- what is to be shown of some
+abbrev Known : Extras → Type 0
+Known xs = (a b c : Bool) → joined_texts (walk once_more (seen a b c) xs) ≡ once_behind (seen a b c) xs
+
 pub once : (a b c : Bool) (xs : Extras) → joined_texts (walk once_more (seen a b c) xs) ≡ once_behind (seen a b c) xs
 once a b c [] = rw (fits_none a, fits_none b, fits_none c) refl
-once a b c (x ∷ xs) = by x.0 refl (λ p q r. once p q r xs) a b c
+once a b c (x ∷ xs) = by x.0 (λ p q r. once p q r xs) a b c
   where
     texts : KeptTexts
     texts = concat (map (λ (y : Extra × KeptTexts). y.1) xs)
@@ -63,21 +82,18 @@ once a b c (x ∷ xs) = by x.0 refl (λ p q r. once p q r xs) a b c
     counts : Bool → Bool → Bool → Bool
     counts a b c = fits a (count_of is_section xs) && (fits b (count_of is_comdat xs) && fits c (count_of is_alignment xs))
 
-    abbrev Later : Type 0
-    Later = (a b c : Bool) → joined_texts (walk once_more (seen a b c) xs) ≡ once_behind (seen a b c) xs
-
-    on : Later → (a b c : Bool) → joined_texts (walk once_more (seen a b c) xs >>= λ q. Some (x.1 ∷ q.0, q.1)) ≡ cond (counts a b c) (Some (x.1 ++ texts)) None
+    on : Known xs → (a b c : Bool) → joined_texts (walk once_more (seen a b c) xs >>= λ q. Some (x.1 ∷ q.0, q.1)) ≡ cond (counts a b c) (Some (x.1 ++ texts)) None
     on later a b c = walked_on x.1 (walk once_more (seen a b c) xs) ∙ ap (before x.1) (later a b c) ∙ if_before (counts a b c) x.1 texts
 
-    by : (k : Extra) → x.0 ≡ k → Later → (a b c : Bool) → joined_texts (walk once_more (seen a b c) ((k, x.1) ∷ xs)) ≡ once_behind (seen a b c) ((k, x.1) ∷ xs)
-    by Section e later true b c = rw too_many refl
-    by Section e later false b c = simp zero-add (on later true b c)
-    by Comdat e later a true c = rw (too_many, last_false) refl
-    by Comdat e later a false c = simp zero-add (on later a true c)
-    by Alignment e later a b true = simp (too_many, last_false)
-    by Alignment e later a b false = simp zero-add (on later a b true)
-    by Attachment e later a b c = simp zero-add (on later a b c)
+    by : (k : Extra) → Known xs → (a b c : Bool) → joined_texts (walk once_more (seen a b c) ((k, x.1) ∷ xs)) ≡ once_behind (seen a b c) ((k, x.1) ∷ xs)
+    by Section later true b c = sym (counted (seen true b c) Section x.1 xs ∙ rw too_many refl)
+    by Section later false b c = on later true b c ∙ sym (counted (seen false b c) Section x.1 xs ∙ simp zero-add)
+    by Comdat later a true c = sym (counted (seen a true c) Comdat x.1 xs ∙ rw (too_many, last_false) refl)
+    by Comdat later a false c = on later a true c ∙ sym (counted (seen a false c) Comdat x.1 xs ∙ simp zero-add)
+    by Alignment later a b true = sym (counted (seen a b true) Alignment x.1 xs ∙ simp (too_many, last_false))
+    by Alignment later a b false = on later a b true ∙ sym (counted (seen a b false) Alignment x.1 xs ∙ simp zero-add)
+    by Attachment later a b c = on later a b c ∙ sym (counted (seen a b c) Attachment x.1 xs ∙ simp zero-add)
 
 -- what is counted at the end
 pub kept_walk : (xs : Extras) → kept_once xs ≡ joined_texts (walk once_more nothing_seen xs)
-kept_walk xs = sym (once false false false xs)
+kept_walk xs = let plain : once_behind nothing_seen xs ≡ kept_once xs = simp zero-add in sym (once false false false xs ∙ plain)

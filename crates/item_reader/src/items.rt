@@ -2,11 +2,12 @@
 
 ghost use Rattle.std.specs.Prelude.{◌≡◌, ◌≤◌, ◌∷◌, [], ℕ, length, IfOk};
 ghost use Rattle.forms.specs.declared.TokenKind.TheVariants.{Equal};
-ghost use Rattle.forms.specs.Form.{by_word};
+ghost use Rattle.forms.specs.Form.{by_word, mapped};
 ghost use Rattle.forms.specs.Gives.{Gives, left};
 ghost use Rattle.forms.specs.Reading.{read, opens, next_in, mark_then, any_of};
 ghost use Rattle.forms.specs.Walk.{completed};
-ghost use Rattle.ir_types.specs.Grammar.{memory_type, item_words, item_behind, item};
+ghost use Rattle.ir_types.specs.Tree.{comdat_line, metadata_line};
+ghost use Rattle.ir_types.specs.Grammar.{memory_type, item_words, item_behind, item, comdat, metadata};
 ghost use Rattle.ir_types.specs.Numbered.{numbered_item};
 ghost use Rattle.item_reader.specs.Parts.{item_of, HasTable};
 
@@ -31,6 +32,7 @@ fn begins_named(tokens: Cursor<'_>, kind: TokenKind) -> bool
 }
 
 /// Whether an item that begins with a word is next.
+#[tactic(auto, using(crate::proofs::Branches::word_begins))]
 fn begins_with_word(tokens: Cursor<'_>) -> bool
     ensures { result ≡ opens (by_word item_words item_behind) (left tokens.entry) }
 {
@@ -41,6 +43,7 @@ fn begins_with_word(tokens: Cursor<'_>) -> bool
 }
 
 /// Whether an item is next.
+#[tactic(auto, using(crate::proofs::Branches::opens_item))]
 pub fn begins_item(tokens: Cursor<'_>) -> bool
     ensures { (d : ℕ) → result ≡ opens (item (memory_type d)) (left tokens.entry) }
 {
@@ -97,6 +100,30 @@ fn with_word<'t>(alloc: Global, tokens: Cursor<'t>) -> Result<(Part<'t>, Cursor<
     }
 }
 
+/// A comdat.
+fn comdat_item<'t>(
+    alloc: Global,
+    tokens: Cursor<'t>,
+) -> Result<(Part<'t>, Cursor<'t>), SyntaxFault>
+    ensures reads { Gives (λ x. ((item_of x.0, tt), left x.1)) result (completed (numbered_item tt) (read (mapped comdat_line comdat) (left tokens.entry))) }
+    ensures table { IfOk result (λ x. HasTable x.0) }
+{
+    let (kept, rest) = comdat(alloc, tokens)?;
+    Ok((Part::Comdat(kept), rest))
+}
+
+/// Metadata.
+fn metadata_item<'t>(
+    alloc: Global,
+    tokens: Cursor<'t>,
+) -> Result<(Part<'t>, Cursor<'t>), SyntaxFault>
+    ensures reads { Gives (λ x. ((item_of x.0, tt), left x.1)) result (completed (numbered_item tt) (read (mapped metadata_line metadata) (left tokens.entry))) }
+    ensures table { IfOk result (λ x. HasTable x.0) }
+{
+    let (kept, rest) = metadata(alloc, tokens)?;
+    Ok((Part::Metadata(kept), rest))
+}
+
 /// An item.
 ///
 /// # Errors
@@ -110,17 +137,13 @@ pub fn item<'t>(alloc: Global, tokens: Cursor<'t>) -> Result<(Part<'t>, Cursor<'
         return with_word(alloc, tokens);
     }
     if begins_named(tokens, TokenKind::Comdat) {
-        let (kept, rest) = comdat(alloc, tokens)?;
-        return Ok((Part::Comdat(kept), rest));
+        return comdat_item(alloc, tokens);
     }
     if begins_named(tokens, TokenKind::Metadata) {
-        let (kept, rest) = metadata(alloc, tokens)?;
-        return Ok((Part::Metadata(kept), rest));
+        return metadata_item(alloc, tokens);
     }
     if begins_named(tokens, TokenKind::Local) {
-        let (definition, rest) = definition(alloc, tokens)?;
-        return Ok((Part::Type(definition), rest));
+        return definition(alloc, tokens);
     }
-    let (variable, rest) = variable(alloc, tokens)?;
-    Ok((Part::Variable(variable), rest))
+    variable(alloc, tokens)
 }
