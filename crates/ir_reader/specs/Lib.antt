@@ -1,4 +1,5 @@
 pub mod Trees
+pub mod Typed
 pub mod Gathered
 pub mod Reading
 pub mod Refusal

@@ -1,17 +1,16 @@
 // The items of a module, gathered by their kinds.
 
-ghost use Rattle.std.specs.Prelude.{◌≡◌, ◌++◌, ◌∷◌, [], ℕ, List, OnOk, length};
+ghost use Rattle.std.specs.Prelude.{◌≡◌, ◌++◌, ◌∷◌, [], List, OnOk};
 ghost use Rattle.forms.specs.Gives.{left};
 ghost use Rattle.ir_types.specs.Tree.{FunctionTree, Item};
-ghost use Rattle.ir_limits.specs.Mentioned.{in_item};
-ghost use Rattle.ir_limits.specs.Limits.{first_long, or_else};
-ghost use Rattle.item_reader.specs.Parts.{item_of, HasTable, nodes_of};
-ghost use Rattle.ir_types.specs.Collected.{names_used};
+ghost use Rattle.item_reader.specs.Parts.{item_of, HasTable};
+ghost use Rattle.ir_reader.specs.Gathered.{Holds};
+ghost use Rattle.ir_reader.specs.Reading.{GivesItems};
 
+use crate::longs::{first_of, long_in};
 use forms::{Cursor, SyntaxFault};
-use ir_limits::{long_name, long_name_of_function};
-use ir_types::{Function, Kept, Name};
-use item_reader::{Definition, Part, TypeSource, Variable, begins_item, item};
+use ir_types::{Function, Kept};
+use item_reader::{Definition, Part, Variable, begins_item, item};
 use std::alloc::{AllocError, Global};
 
 /// The items of a module by their kinds, each kind in the text's order.
@@ -35,40 +34,8 @@ pub struct Gathered<'t> {
     pub long: Option<u64>,
 }
 
-/// The first of the two counts that is there.
-fn first_of(first: Option<u64>, second: Option<u64>) -> Option<u64>
-    ensures { result ≡ or_else first second }
-{
-    match first {
-        Some(bytes) => Some(bytes),
-        None => second,
-    }
-}
-
-/// The bytes of the first name that has too many: this one, or one that the type uses.
-fn long_in_definition(definition: &Definition<'_>) -> Option<u64>
-    ensures { result ≡ first_long (in_item (definition_of definition.now)) }
-{
-    match definition.ty {
-        Some(source) => first_of(long_name(&definition.name), source.long),
-        None => long_name(&definition.name),
-    }
-}
-
-/// The bytes of the first name in a part that has too many.
-fn long_in(part: &Part<'_>) -> Option<u64>
-    ensures { result ≡ first_long (in_item (item_of part.now)) }
-{
-    match part {
-        Part::Type(definition) => long_in_definition(definition),
-        Part::Variable(variable) => first_of(long_name(&variable.name), variable.ty.long),
-        Part::Function(function) => long_name_of_function(function),
-        Part::Head(_) | Part::Comdat(_) | Part::Attributes(_) | Part::Metadata(_) => None,
-    }
-}
-
 impl<'t> Gathered<'t> {
-    ghost use Rattle.ir_reader.specs.Gathered.{Holds};
+
 
     /// No items.
     fn nothing(alloc: Global) -> Gathered<'t>
@@ -89,7 +56,7 @@ impl<'t> Gathered<'t> {
     /// Adds an item behind the others.
     fn add(&mut self, part: Part<'t>) -> Result<(), AllocError>
         requires { HasTable part }
-        ensures ok { OnOk result ((items : List (Item FunctionTree)) → Holds self.old items → Holds self.new (items ++ item_of part ∷ [])) }
+        ensures ok { OnOk result ((items : List (Item FunctionTree)) → Holds self.old items → Holds self.new (items ++ item_of part.entry ∷ [])) }
     {
         self.long = first_of(self.long, long_in(&part));
         match part {

@@ -11,11 +11,11 @@ ghost use Rattle.ir_reader.specs.Reading.{GivesModule};
 
 mod build;
 mod gather;
+mod longs;
 mod named;
 mod symbols;
-#[cfg(test)]
-mod tests;
 
+use crate::build::module;
 use crate::gather::gather;
 use forms::{Cursor, SyntaxFault, Token};
 use ir_limits::passed;
@@ -35,7 +35,7 @@ fn module_of(
         return Err(rest.refusal());
     }
     let passed = passed(gathered.functions.as_slice(), gathered.long)?;
-    let module = gathered.into_module(alloc)?;
+    let module = module(alloc, gathered)?;
     Ok((module, passed))
 }
 

@@ -1,16 +1,13 @@
 // The names of types, and what they stand for.
 
-ghost use Rattle.std.specs.Prelude.{◌≡◌, ◌≤◌, ◌++◌, ℕ, List, length, map, IfOk, OnOk};
-ghost use Rattle.forms.specs.Gives.{left};
-ghost use Rattle.forms.specs.Nested.{concat};
+ghost use Rattle.std.specs.Prelude.{◌≡◌, ◌≤◌, length, map, IfOk, OnOk};
 ghost use Rattle.forms.specs.View.{Extends};
-ghost use Rattle.ir_types.specs.declared.name.Name.{Name};
-ghost use Rattle.ir_types.specs.declared.memory_type.MemTy.{MemTy};
 ghost use Rattle.ir_types.specs.TypeNodes.{type_nodes};
 ghost use Rattle.ir_types.specs.Types.{AreTypes};
-ghost use Rattle.type_reader.specs.TypeTable.{names_of, LooksUpAll};
+ghost use Rattle.type_reader.specs.TypeTable.{names_of, missing_entry, LooksUpAll};
 ghost use Rattle.item_reader.specs.Parts.{nodes_of};
 ghost use Rattle.ir_reader.specs.Trees.{named_tree, named_over};
+ghost use Rattle.ir_reader.specs.Typed.{used_in_definition, LooksUpNames, Stands, Made, with_types};
 
 use forms::SyntaxFault;
 use ir_types::{MemTy, NamedType, TypeId};
@@ -29,8 +26,8 @@ pub fn type_at(
     requires { AreTypes (names_of names.old) 0 types.old.items }
     ensures types_grow { Extends types.old.items types.new.items }
     ensures are { OnOk result (AreTypes (names_of names.new) 0 types.new.items) }
-    ensures nodes { IfOk result (λ id. (later : List Name) (others : List MemTy) → Extends (names_of names.new) later → Extends types.new.items others → type_nodes later others id ≡ nodes_of source.entry) }
-    ensures names { OnOk result (LooksUpAll names.old (nodes_of source.entry) names.new) }
+    ensures names_grow { OnOk result (LooksUpAll names.old (nodes_of source.entry) names.new) }
+    ensures stands { IfOk result (λ id. Stands type_nodes names.new types.new.items id (nodes_of source.entry)) }
 {
     match memory_type(alloc, source.tokens, types, names) {
         Ok((id, _)) => Ok(id),
@@ -50,6 +47,28 @@ pub fn names_of(alloc: Global, definitions: &[Definition<'_>]) -> Result<TypeNam
     Ok(names)
 }
 
+/// What a name stands for.
+fn named_type(
+    alloc: Global,
+    definition: &Definition<'_>,
+    types: &mut Vec<MemTy>,
+    names: &mut TypeNames,
+) -> Result<NamedType, AllocError>
+    requires { AreTypes (names_of names.old) 0 types.old.items }
+    ensures types_grow { Extends types.old.items types.new.items }
+    ensures are { OnOk result (AreTypes (names_of names.new) 0 types.new.items) }
+    ensures names_grow { OnOk result (LooksUpNames names.old (used_in_definition definition.now) names.new) }
+    ensures stands { IfOk result (λ ty. Stands named_over names.new types.new.items ty (named_tree definition.now)) }
+{
+    match definition.ty {
+        Some(source) => {
+            let id = type_at(alloc, source, types, names)?;
+            Ok(NamedType::Defined(id))
+        }
+        None => Ok(NamedType::Opaque),
+    }
+}
+
 /// What the names stand for.
 pub fn named_types(
     alloc: Global,
@@ -58,25 +77,22 @@ pub fn named_types(
     names: &mut TypeNames,
 ) -> Result<Vec<NamedType>, AllocError>
     requires { AreTypes (names_of names.old) 0 types.old.items }
-    ensures { OnOk result (Finds names.old types.old.items (concat (map used_by_definition definitions.now)) names.new types.new.items) }
-    ensures named { IfOk result (λ named. StandsOver (λ ns ts. map (named_over ns ts) named.items) (names_of names.new) types.new.items (map named_tree definitions.now)) }
+    ensures { IfOk result (λ named. Made named_over named_tree used_in_definition names.old types.old.items definitions.now named.items names.new types.new.items) }
 {
     let mut named = Vec::with_capacity(alloc, definitions.len())?;
     for definition in definitions {
-        let ty = match definition.ty {
-            Some(source) => NamedType::Defined(type_at(alloc, source, types, names)?),
-            None => NamedType::Opaque,
-        };
+        let ty = named_type(alloc, definition, types, names)?;
         named.push(ty)?;
     }
     Ok(named)
 }
 
 /// Makes the first names stand for these.
-pub fn set_all(names: &mut TypeNames, named: &[NamedType])
+pub fn set_types(names: &mut TypeNames, named: &[NamedType])
     requires { length named.now ≤ length names.old }
     ensures { names.new ≡ with_types names.old named.now }
 {
+    let _ = names.len();
     for (place, ty) in named.iter().enumerate() {
         names.set(place as u32, *ty);
     }
