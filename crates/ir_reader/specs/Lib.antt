@@ -1,7 +1,5 @@
-pub mod View
-pub mod Lines
-pub mod Threads
-pub mod Blocks
-pub mod Functions
-pub mod Vectors
+pub mod Trees
+pub mod Typed
+pub mod Gathered
+pub mod Reading
 pub mod Refusal

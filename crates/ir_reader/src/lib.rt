@@ -1,56 +1,42 @@
-//! Reads a module from a text, exactly as the grammar says: from left to right, with one place in the tokens.
+//! Reads a module from a text, exactly as the grammar says: from left to right, with one place in the tokens, and each memory type once
+//! more, when the names of all types have their places.
 #![tactic(auto)]
 
-ghost use Rattle.std.specs.Prelude.{◌≡◌, ◌≤◌, ◌<◌, ◌⊎◌, ℕ, length, slice_get, Some, IfOk, OnOk, IfErr};
-ghost use Rattle.std.specs.List.{AllByRecursion};
+ghost use Rattle.std.specs.Prelude.{◌≡◌, ◌≤◌, ◌<◌, ◌⊎◌, length, IfOk, OnOk, IfErr};
 ghost use Rattle.forms.specs.declared.Token.{Token};
-ghost use Rattle.forms.specs.Gives.{Gives, left};
+ghost use Rattle.forms.specs.Gives.{left};
 ghost use Rattle.text_lex.specs.Fault.{HasNoneLeftOut};
-ghost use Rattle.ir_types.specs.Names.{IsTable};
-ghost use Rattle.ir_types.specs.Denotes.{tree_of};
-ghost use Rattle.ir_types.specs.Reads.{Reads};
-ghost use Rattle.ir_reader.specs.Functions.{module_read};
-ghost use Rattle.ir_reader.specs.Refusal.{IsRefusal, StartsAt};
+ghost use Rattle.ir_reader.specs.Refusal.{IsWithinLimits, IsRefusal, StartsAt};
+ghost use Rattle.ir_reader.specs.Reading.{GivesModule};
 
-mod block;
-mod entries;
-mod function;
-mod inst;
-mod line;
-mod names;
-mod numbering;
-mod numbers;
-mod param;
-#[cfg(test)]
-mod tests;
-mod types;
-mod value;
-mod words;
+mod build;
+mod gather;
+mod longs;
+mod named;
+mod symbols;
 
-use crate::function::functions;
+use crate::build::module;
+use crate::gather::gather;
 use forms::{Cursor, SyntaxFault, Token};
+use ir_limits::passed;
 use ir_types::Module;
-use lists::Items;
 use std::alloc::Global;
-use text_lex::{TEXT_LIMIT, TextFault, lex};
+use text_lex::{Count, TEXT_LIMIT, TextFault, lex};
 
-/// The module that all of the tokens spell.
-fn module_of(alloc: Global, tokens: Cursor<'_>) -> Result<Module, SyntaxFault>
-    ensures says { Gives tree_of result (module_read (left tokens.entry)) }
-    ensures tables { IfOk result (λ m. AllByRecursion (λ f. IsTable f.names) m.functions) }
+/// The module that all of the tokens spell, and the first limit that it passes.
+fn module_of(
+    alloc: Global,
+    tokens: Cursor<'_>,
+) -> Result<(Module, Option<(Count, u64)>), SyntaxFault>
+    ensures { GivesModule (left tokens.entry) result }
 {
-    match functions(alloc, tokens) {
-        Ok((functions, rest)) => {
-            if rest.rest.is_empty() {
-                Ok(Module {
-                    functions: Items::from_vec(functions),
-                })
-            } else {
-                Err(rest.refusal())
-            }
-        }
-        Err(fault) => Err(fault),
+    let (gathered, rest) = gather(alloc, tokens)?;
+    if !rest.rest.is_empty() {
+        return Err(rest.refusal());
     }
+    let passed = passed(gathered.functions.as_slice(), gathered.long)?;
+    let module = module(alloc, gathered)?;
+    Ok((module, passed))
 }
 
 /// The place, where a token starts there, and else the end.
@@ -65,14 +51,14 @@ fn stop(tokens: &[Token], place: u32, end: u32) -> u32
     end
 }
 
-/// The module that the text reads as.
+/// The module that the text reads as, where it is within the limits.
 ///
 /// # Errors
 ///
 /// Those of `lex`; then `NoReading` with the place of the first token at which reading from left to right stops, or the text's length;
-/// and `Memory` where there is no room.
+/// then `CountLimit` with the first limit that the module passes; and `Memory` where there is no room.
 pub fn read_module(alloc: Global, text: &[u8]) -> Result<Module, TextFault>
-    ensures module { IfOk result (λ m. Reads text.now m) }
+    ensures module { IfOk result (λ m. IsWithinLimits text.now m) }
     ensures within { OnOk result (length text.now ≤ TEXT_LIMIT) }
     ensures nothing_left_out { OnOk result (HasNoneLeftOut text.now) }
     ensures too_long { TEXT_LIMIT < length text.now → result ≡ Err (TextFault.TextLimit (length text.now)) }
@@ -87,7 +73,8 @@ pub fn read_module(alloc: Global, text: &[u8]) -> Result<Module, TextFault>
         rest: tokens.as_slice(),
     };
     match module_of(alloc, cursor) {
-        Ok(module) => Ok(module),
+        Ok((module, None)) => Ok(module),
+        Ok((_, Some((count, number)))) => Err(TextFault::CountLimit(count, number)),
         Err(SyntaxFault::NoReading(place)) => {
             let end = text.len() as u32;
             Err(TextFault::NoReading(stop(tokens.as_slice(), place, end)))

@@ -65,7 +65,7 @@ begins_nothing d names types frames ts le r = head_fails type_parts parts_decide
 
 -- ---- behind a type
 
-concat_push : (f : TypeId → List TypeNode) (ids : List TypeId) (id : TypeId) → concat (map f (ids ++ id ∷ [])) ≡ concat (map f ids) ++ f id
+pub concat_push : (f : TypeId → List TypeNode) (ids : List TypeId) (id : TypeId) → concat (map f (ids ++ id ∷ [])) ≡ concat (map f ids) ++ f id
 concat_push f [] id = append-nil (f id)
 concat_push f (i ∷ ids) id = ap (λ (x : List TypeNode). f i ++ x) (concat_push f ids id) ∙ sym (append_assoc (f i) (concat (map f ids)) (f id))
 
@@ -81,7 +81,7 @@ goes_more d names types outer p ids id ts us r =
     ∙ sym (next_more type_parts d front (arounds outer) (InStruct p) ts us [] r)
 
 -- the nodes of the frame, of its last part, and of its end are those of the type that it is
-closed_nodes : (names : List Name) (types : List MemTy) (f : Frame) (id : TypeId) → (frame_nodes names types f ++ type_nodes names types id) ++ end_nodes (around_of f) ≡ nodes_from names (all_nodes names [] types) (closed f id)
+pub closed_nodes : (names : List Name) (types : List MemTy) (f : Frame) (id : TypeId) → (frame_nodes names types f ++ type_nodes names types id) ++ end_nodes (around_of f) ≡ nodes_from names (all_nodes names [] types) (closed f id)
 closed_nodes names types (in_array n) id = append-nil (array n ∷ type_nodes names types id)
 closed_nodes names types (in_struct p ids) id = ap (λ (x : List TypeNode). opening p ∷ (x ++ closing ∷ [])) (sym (concat_push (λ i. type_nodes names types i) ids id))
 

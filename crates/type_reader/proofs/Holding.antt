@@ -94,7 +94,7 @@ abbrev no_more : Option (Unit {0} × List Lexeme) → Step
 no_more r = r >>= λ x. Some (([], false), x.1)
 
 -- in an array no other type follows
-not_in_array : (ts us : List Lexeme) → read (next type_parts InArray) ts ≡ Some (([], true), us) → ⊥
+pub not_in_array : (ts us : List Lexeme) → read (next type_parts InArray) ts ≡ Some (([], true), us) → ⊥
 not_in_array ts us e = by (read (mark RightBracket) ts) e
   where
     by : (r : Option (Unit {0} × List Lexeme)) → no_more r ≡ Some (([], true), us) → ⊥
@@ -122,7 +122,7 @@ another_holds names types [] new id a h = absurd a
 another_holds names types (in_array n ∷ outer) new id a h = rw a (record { types_are = h.types_are; frames_before = h.frames_before; done_before = tt })
 another_holds names types (in_struct p ids ∷ outer) new id a h = rw a (record { types_are = h.types_are; frames_before = (one_more (length types) ids id h.frames_before.0 h.done_before, h.frames_before.1); done_before = tt })
 
-outer_before : (n : ℕ) (f : Frame) (outer : List Frame) → AreBefore n (f ∷ outer) → AreBefore n outer
+pub outer_before : (n : ℕ) (f : Frame) (outer : List Frame) → AreBefore n (f ∷ outer) → AreBefore n outer
 outer_before n (in_array c) outer h = h
 outer_before n (in_struct p ids) outer h = h.1
 

@@ -6,3 +6,5 @@ pub mod NodeLists
 pub mod Going
 pub mod Holding
 pub mod Openings
+pub mod LookUps
+pub mod Looking

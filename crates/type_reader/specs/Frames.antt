@@ -11,9 +11,11 @@ use Rattle.forms.specs.Nested.{concat}
 use Rattle.forms.specs.Machine.{whole}
 use Rattle.ir_types.specs.declared.name.Name.{Name}
 use Rattle.ir_types.specs.declared.memory_type.TypeId.{TypeId}
+use Rattle.ir_types.specs.declared.memory_type.TypeName.{TypeName}
 use Rattle.ir_types.specs.declared.memory_type.MemTy.{MemTy}
 use Rattle.ir_types.specs.declared.memory_type.MemTy.TheVariants.{Array, Struct}
 use Rattle.ir_types.specs.TypeNodes.{TypeNode, array, opening, closing, type_nodes}
+use Rattle.type_reader.specs.TypeTable.{names_of, LooksUpAll}
 use Rattle.ir_types.specs.Types.{IsBefore, AreTypes}
 use Rattle.ir_types.specs.Grammar.{type_parts, memory_type}
 
@@ -63,6 +65,14 @@ arounds (f ∷ outer) = arounds outer ++ around_of f ∷ []
 abbrev pub done_nodes : List Name → List MemTy → Option TypeId → List TypeNode
 done_nodes names types None = []
 done_nodes names types (Some id) = type_nodes names types id
+
+-- the nodes of all that was read
+abbrev pub nodes_so_far : List Name → List MemTy → List Frame → Option TypeId → List TypeNode
+nodes_so_far names types frames done = opened_nodes names types frames ++ done_nodes names types done
+
+-- the names that these use were looked up among some entries, which became these
+abbrev pub Looked : List TypeName → List TypeName → List MemTy → List Frame → Option TypeId → Type 0
+Looked base entries types frames done = LooksUpAll base (nodes_so_far (names_of entries) types frames done) entries
 
 -- a type is to be read next, as none is complete
 abbrev pub is_wanted : Option TypeId → Bool

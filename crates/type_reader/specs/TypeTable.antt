@@ -7,6 +7,8 @@ use Rattle.ir_types.specs.declared.memory_type.NamedType.{NamedType}
 use Rattle.ir_types.specs.declared.memory_type.NamedType.TheVariants.{Missing}
 use Rattle.ir_types.specs.Names.{name_at, same_name}
 use Rattle.ir_types.specs.Types.{IsFirst}
+use Rattle.ir_types.specs.TypeNodes.{TypeNode}
+use Rattle.ir_types.specs.Collected.{names_used, unknown}
 
 -- the names alone
 abbrev pub names_of : List TypeName → List Name
@@ -30,3 +32,11 @@ abbrev pub with_type : List TypeName → ℕ → NamedType → List TypeName
 with_type [] place ty = []
 with_type (t ∷ ts) zero ty = record t { ty = ty } ∷ ts
 with_type (t ∷ ts) (suc place) ty = t ∷ with_type ts place ty
+
+-- the entry of a name that is used and not defined
+abbrev pub missing_entry : Name → TypeName
+missing_entry n = record { name = n; ty = Missing }
+
+-- entries among which the names of a type were looked up one after another: those that they lack stand at their end, each once, and are missing
+abbrev pub LooksUpAll : List TypeName → List TypeNode → List TypeName → Type 0
+LooksUpAll old nodes new = new ≡ old ++ map missing_entry (unknown (names_of old) (names_used nodes))

@@ -1,6 +1,6 @@
 // The beginning of a memory type, and what is behind one in an array or a struct.
 
-ghost use Rattle.std.specs.Prelude.{◌≡◌, ◌≤◌, ℕ, suc, ◌∷◌, [], length, IfOk};
+ghost use Rattle.std.specs.Prelude.{List, ◌≡◌, ◌≤◌, ℕ, suc, ◌∷◌, [], length, IfOk};
 ghost use Rattle.forms.specs.declared.TokenKind.TheVariants.{Number};
 ghost use Rattle.forms.specs.Form.{one, made, mapped, pair, optional};
 ghost use Rattle.forms.specs.Reading.{read, opens, next_in};
@@ -9,9 +9,11 @@ ghost use Rattle.forms.specs.Nested.{struct_head, struct_end, struct_begins};
 ghost use Rattle.forms.specs.Machine.{begun, head, next};
 ghost use Rattle.forms.specs.View.{Extends};
 ghost use Rattle.ir_types.specs.Types.{IsType};
+ghost use Rattle.ir_types.specs.declared.name.Name.{Name};
+ghost use Rattle.ir_types.specs.Collected.{names_used};
 ghost use Rattle.ir_types.specs.TypeNodes.{array, opening, closing, nodes_from};
 ghost use Rattle.ir_types.specs.Grammar.{elements_of, array_begin, memory_leaf, type_parts, memory_type};
-ghost use Rattle.type_reader.specs.TypeTable.{names_of};
+ghost use Rattle.type_reader.specs.TypeTable.{names_of, LooksUpAll};
 ghost use Rattle.type_reader.specs.Heads.{IsAlone, BeginsAlone, begun_nodes, next_nodes};
 
 use crate::names::local;
@@ -68,7 +70,7 @@ fn array_begin<'t>(tokens: Cursor<'t>) -> Result<(u64, Cursor<'t>), SyntaxFault>
 }
 
 /// T | %name.
-#[tactic(auto, unfolding(ir_types::specs::Grammar::memory_leaf))]
+#[tactic(auto, unfolding(ir_types::specs::Grammar::memory_leaf), using(crate::proofs::LookUps::looks_up_one, crate::proofs::LookUps::looks_up_none))]
 fn leaf<'t>(
     alloc: Global,
     tokens: Cursor<'t>,
@@ -77,6 +79,7 @@ fn leaf<'t>(
     ensures grows { Extends names.old names.new }
     ensures reads { Gives (λ x. (nodes_from (names_of names.new) [] x.0, left x.1)) result (read memory_leaf (left tokens.entry)) }
     ensures alone { IfOk result (λ x. IsAlone (names_of names.new) x.0) }
+    ensures names { IfOk result (λ x. LooksUpAll names.old (nodes_from (names_of names.new) [] x.0) names.new) }
 {
     if begins_type(tokens) {
         let (ty, rest) = value_type(tokens)?;
@@ -157,6 +160,7 @@ fn struct_begin<'t>(
 ) -> Result<(Begun, Cursor<'t>), SyntaxFault>
     ensures reads { Gives (λ x. (begun_nodes [] x.0, left x.1)) result (read (mapped (λ x. begun packed x.0 x.1) (pair (struct_head type_parts packed) (optional (struct_end type_parts packed)))) (left tokens.entry)) }
     ensures alone { IfOk result (λ x. BeginsAlone [] x.0) }
+    ensures names { IfOk result (λ x. (names : List Name) → names_used (begun_nodes names x.0).0 ≡ []) }
 {
     let rest = struct_head(tokens, packed)?;
     if rest.is_next(TokenKind::RightBrace) {
@@ -177,6 +181,7 @@ pub fn head<'t>(
     ensures grows { Extends names.old names.new }
     ensures reads { Gives (λ x. (begun_nodes (names_of names.new) x.0, left x.1)) result (read (head type_parts) (left tokens.entry)) }
     ensures alone { IfOk result (λ x. BeginsAlone (names_of names.new) x.0) }
+    ensures names { IfOk result (λ x. LooksUpAll names.old (begun_nodes (names_of names.new) x.0).0 names.new) }
 {
     if begins_leaf(tokens) {
         let (ty, rest) = leaf(alloc, tokens, names)?;

@@ -7,11 +7,12 @@ ghost use Rattle.forms.specs.Gives.{Gives, left};
 ghost use Rattle.forms.specs.Machine.{Continues};
 ghost use Rattle.ir_types.specs.declared.name.Name.{Name};
 ghost use Rattle.ir_types.specs.declared.memory_type.MemTy.{MemTy};
+ghost use Rattle.ir_types.specs.declared.memory_type.TypeName.{TypeName};
 ghost use Rattle.ir_types.specs.TypeNodes.{type_nodes};
 ghost use Rattle.ir_types.specs.Types.{AreTypes};
 ghost use Rattle.ir_types.specs.Grammar.{memory_type};
-ghost use Rattle.type_reader.specs.TypeTable.{names_of};
-ghost use Rattle.type_reader.specs.Frames.{innermost, goes_on, Holds, is_refusal, behind_type};
+ghost use Rattle.type_reader.specs.TypeTable.{names_of, LooksUpAll};
+ghost use Rattle.type_reader.specs.Frames.{innermost, goes_on, Holds, Looked, is_refusal, behind_type};
 
 use crate::heads::{Begun, head, next};
 use crate::stack::Stack;
@@ -48,6 +49,7 @@ fn begin<'t>(
     ensures goes { (d : ℕ) → length (left tokens.entry) ≤ d → Continues is_refusal (λ x. goes_on d (names_of names.new) types.new.items stack.new x.0 (left x.1)) result (goes_on d (names_of names.old) types.old.items stack.old None (left tokens.entry)) }
     ensures holds { IfOk result (λ x. Holds (names_of names.new) types.new.items stack.new x.0) }
     ensures shorter { IfOk result (λ x. length (left x.1) < length (left tokens.entry)) }
+    ensures names { IfOk result (λ x. (base : List TypeName) → Looked base names.old types.old.items stack.old None → Looked base names.new types.new.items stack.new x.0) }
 {
     let (begun, rest) = head(alloc, tokens, names)?;
     match begun {
@@ -80,6 +82,7 @@ fn go_on<'t>(
     ensures goes { (d : ℕ) (names : List Name) → Holds names types.old.items stack.old (Some id) → Continues is_refusal (λ x. goes_on d names types.new.items stack.new x.0 (left x.1)) result (goes_on d names types.old.items stack.old (Some id) (left tokens.entry)) }
     ensures holds { IfOk result (λ x. (names : List Name) → Holds names types.old.items stack.old (Some id) → Holds names types.new.items stack.new x.0) }
     ensures shorter { IfOk result (λ x. length (left x.1) < length (left tokens.entry)) }
+    ensures names { IfOk result (λ x. (base names : List TypeName) → Holds (names_of names) types.old.items stack.old (Some id) → Looked base names types.old.items stack.old (Some id) → Looked base names types.new.items stack.new x.0) }
 {
     let (more, rest) = next(tokens, around)?;
     if more {
@@ -109,6 +112,7 @@ pub fn memory_type<'t>(
     ensures reads { (d : ℕ) → length (left tokens.entry) ≤ d → Gives (λ x. (type_nodes (names_of names.new) types.new.items x.0, left x.1)) result (read (memory_type d) (left tokens.entry)) }
     ensures stays { IfOk result (λ x. (later : List Name) (others : List MemTy) → Extends (names_of names.new) later → Extends types.new.items others → type_nodes later others x.0 ≡ type_nodes (names_of names.new) types.new.items x.0) }
     ensures within { IfOk result (λ x. x.0.0 < length types.new.items) }
+    ensures names { IfOk result (λ x. LooksUpAll names.old (type_nodes (names_of names.new) types.new.items x.0) names.new) }
 {
     let mut stack = Stack::new(alloc);
     let mut done = None;

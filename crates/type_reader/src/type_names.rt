@@ -1,6 +1,6 @@
 // The names of types of a module, while it is read.
 
-ghost use Rattle.std.specs.Prelude.{◌≡◌, ◌<◌, ◌++◌, ◌∷◌, [], IfOk, OnOk, OnErr, length, position};
+ghost use Rattle.std.specs.Prelude.{◌≡◌, ◌<◌, ◌^◌, ◌++◌, ◌∷◌, [], IfOk, OnOk, OnErr, length, position};
 ghost use Rattle.std.specs.Prelude.{List};
 ghost use Rattle.ir_types.specs.declared.memory_type.TypeName.{TypeName};
 ghost use Rattle.ir_types.specs.declared.memory_type.NamedType.{NamedType};
@@ -59,7 +59,8 @@ impl TypeNames {
 
     /// The number of names.
     pub fn len(&self) -> usize
-        ensures { result ≡ length self.now }
+        ensures value { result ≡ length self.now }
+        ensures small { result < 2 ^ 32 }
     {
         self.types.len()
     }

@@ -13,6 +13,7 @@ use Rattle.type_reader.specs.TypeTable.{names_of}
 use Rattle.type_reader.specs.Frames.{in_array, in_struct}
 use Rattle.type_reader.specs.Heads.{begun_nodes}
 use Rattle.type_reader.proofs.Holding.{names_extend, refuses, alone_at, alone_nodes, holds_done, holds_array, holds_struct}
+use Rattle.type_reader.proofs.Looking.{looked_done, looked_inside}
 use Rattle.type_reader.proofs.Going.{begins_done, begins_inside, begins_nothing}
 use Rattle.type_reader.proofs.memory.begin.Goals as goal
 
@@ -66,3 +67,25 @@ returns-in_ok-push_struct-in-Struct-clause-goes c = λ d le.
 pub returns-in_ok-push_struct-in-Struct-clause-holds : goal.returns-in_ok-push_struct-in-Struct-clause-holds
 returns-in_ok-push_struct-in-Struct-clause-holds c =
     rw c.in_ok-push_struct-in-Struct.ensures.ok (holds_struct (names_of c.args.names.now) (names_of c.head.new.names) c.args.types.now.items c.args.stack.now c.in-Struct.packed c.requires (names_extend c.args.names.now c.head.new.names c.head.ensures.grows))
+
+pub returns-in_ok-id-in-Whole-clause-names : goal.returns-in_ok-id-in-Whole-clause-names
+returns-in_ok-id-in-Whole-clause-names c = λ base k.
+    let later = names_of c.head.new.names in
+    let types = c.args.types.now.items in
+    let a = rw c.in-Whole.is at c.in_ok-begun.ensures.alone in
+    let l = rw c.in-Whole.is at c.in_ok-begun.ensures.names in
+    rw c.in_ok-id-in-Whole.ensures.ok (looked_done base c.args.names.now c.head.new.names types c.args.stack.now c.in-Whole.ty c.in_ok-id-in-Whole.id (nodes_from later [] c.in-Whole.ty) c.requires (names_extend c.args.names.now c.head.new.names c.head.ensures.grows)
+    c.in_ok-id-in-Whole.ensures.place (alone_nodes later (all_nodes later [] types) c.in-Whole.ty a) l k)
+
+pub returns-in_ok-push_array-in-Array-clause-names : goal.returns-in_ok-push_array-in-Array-clause-names
+returns-in_ok-push_array-in-Array-clause-names c = λ base k.
+    let l = rw c.in-Array.is at c.in_ok-begun.ensures.names in
+    rw c.in_ok-push_array-in-Array.ensures.ok (looked_inside base c.args.names.now c.head.new.names c.args.types.now.items c.args.stack.now (in_array c.in-Array.count) (array c.in-Array.count ∷ []) c.requires (names_extend c.args.names.now c.head.new.names c.head.ensures.grows) refl l k)
+
+pub returns-in_ok-push_struct-in-Struct-clause-names : goal.returns-in_ok-push_struct-in-Struct-clause-names
+returns-in_ok-push_struct-in-Struct-clause-names c = λ base k.
+    let l = rw c.in-Struct.is at c.in_ok-begun.ensures.names in
+    rw c.in_ok-push_struct-in-Struct.ensures.ok (looked_inside base c.args.names.now c.head.new.names c.args.types.now.items c.args.stack.now (in_struct c.in-Struct.packed []) (opening c.in-Struct.packed ∷ []) c.requires (names_extend c.args.names.now c.head.new.names c.head.ensures.grows) refl l k)
+
+pub returns-in_ok-push_struct-in-Struct-clause-shorter : goal.returns-in_ok-push_struct-in-Struct-clause-shorter
+returns-in_ok-push_struct-in-Struct-clause-shorter c = shorter (head type_parts) (left c.args.tokens) (begun_nodes (names_of c.head.new.names) c.in_ok-begun.begun, left c.in_ok-begun.rest) (head_takes type_parts parts_decide) c.in_ok-begun.ensures.reads

@@ -6,6 +6,7 @@ use Rattle.forms.specs.Machine.{next}
 use Rattle.forms.specs.Gives.{left}
 use Rattle.ir_types.specs.Grammar.{type_parts}
 use Rattle.type_reader.specs.Heads.{next_nodes}
+use Rattle.type_reader.proofs.Looking.{looked_more, looked_closed}
 use Rattle.type_reader.proofs.Holding.{refuses, nothing_goes, another_goes, closing_goes, closing_holds}
 use Rattle.type_reader.proofs.memory.go_on.Goals as goal
 
@@ -26,3 +27,12 @@ returns-clause-goes c = λ d names h.
 
 pub returns-clause-holds : goal.returns-clause-holds
 returns-clause-holds c = λ names h. closing_holds names c.args.types.now.items c.add_type.new.types.items c.args.stack.now c.close.new.self c.args.id c.in_ok-closed.closed c.in_ok-ty.ty c.in_ok-ty.ensures.ok h c.in_ok-closed.ensures.ok c.in_ok-closed.ensures.place
+
+pub returns-then-more-clause-names : goal.returns-then-more-clause-names
+returns-then-more-clause-names c = λ base names h k.
+    looked_more base names c.args.types.now.items c.args.stack.now c.add.new.self c.args.around c.args.id (left c.args.tokens) (left c.in_ok-more.rest) c.requires c.in_ok-add.ensures.ok
+    (subst (λ (b : Bool). read (next type_parts c.args.around) (left c.args.tokens) ≡ Some (next_nodes c.args.around b, left c.in_ok-more.rest)) c.if-more.true c.in_ok-more.ensures) k
+
+pub returns-clause-names : goal.returns-clause-names
+returns-clause-names c = λ base names h k.
+    looked_closed base names c.args.types.now.items c.add_type.new.types.items c.args.stack.now c.close.new.self c.args.id c.in_ok-closed.closed c.in_ok-ty.ty c.in_ok-ty.ensures.ok h c.in_ok-closed.ensures.ok c.in_ok-closed.ensures.place k

@@ -2,6 +2,7 @@ use Rattle.std.proofs.Common.{◌∙◌, sym, arith}
 use Rattle.ir_types.proofs.NameAt.{extends_trans}
 use Rattle.type_reader.specs.TypeTable.{names_of}
 use Rattle.type_reader.proofs.NodeLists.{nodes_stay}
+use Rattle.type_reader.proofs.Looking.{looked_whole}
 use Rattle.type_reader.proofs.memory.memory_type.Goals as goal
 use Rattle.type_reader.proofs.memory.memory_type.Goals.{in-None+in_ok-begin-in-None, in-Some+in-Some-innermost+in_ok-now-in-Some-innermost}
 
@@ -20,6 +21,7 @@ types-preserved c =
             types_grow = extends_trans c.args.types.now.items c.types.types.items w.begin.new.types.items before.types_grow e.types_grow;
             names_grow = extends_trans c.args.names.now c.types.names w.begin.new.names before.names_grow e.names_grow;
             holds = e.holds;
+            looked = let k = rw w.in-None.is at before.looked in e.names c.args.names.now k;
             shorter = omega (arith, e.shorter, before.shorter);
             goes = λ d le. let g = rw w.in-None.is at (before.goes d le) in sym (e.goes d (omega (arith, before.shorter, le))) ∙ g;
           })
@@ -30,7 +32,11 @@ types-preserved c =
             types_grow = extends_trans c.args.types.now.items c.types.types.items w.go_on.new.types.items before.types_grow e.types_grow;
             names_grow = before.names_grow;
             holds = e.holds (names_of c.types.names) h;
+            looked = let k = rw w.in-Some.is at before.looked in e.names c.args.names.now c.types.names h k;
             shorter = omega (arith, e.shorter, before.shorter);
             goes = λ d le. let g = rw w.in-Some.is at (before.goes d le) in sym (e.goes d (names_of c.types.names) h) ∙ g;
           })
     ]
+
+pub returns-in-None-innermost-clause-names : goal.returns-in-None-innermost-clause-names
+returns-in-None-innermost-clause-names c = let k = rw c.in-Some.is at c.types.invariant.looked in looked_whole c.args.names.now c.types.names c.types.types.items c.types.stack c.in-Some.id (sym c.in-None-innermost.ensures) k

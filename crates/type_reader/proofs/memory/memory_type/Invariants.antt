@@ -4,7 +4,7 @@ use Rattle.forms.specs.Reading.{read}
 use Rattle.forms.specs.Gives.{left}
 use Rattle.ir_types.specs.Grammar.{memory_type}
 use Rattle.type_reader.specs.TypeTable.{names_of}
-use Rattle.type_reader.specs.Frames.{goes_on, Holds}
+use Rattle.type_reader.specs.Frames.{goes_on, Holds, Looked}
 use Rattle.type_reader.proofs.memory.memory_type.Given as goal
 
 abbrev pub decreases-types : goal.decreases-types
@@ -15,6 +15,7 @@ invariant-types l = record {
   types_grow : Extends l.fn.types.items l.types.items;
   names_grow : Extends l.fn.names l.names;
   holds : Holds (names_of l.names) l.types.items l.stack l.done;
+  looked : Looked l.fn.names l.names l.types.items l.stack l.done;
   shorter : length (left l.rest) ≤ length (left l.fn.tokens);
   goes : (d : ℕ) → length (left l.fn.tokens) ≤ d → goes_on d (names_of l.names) l.types.items l.stack l.done (left l.rest) ≡ read (memory_type d) (left l.fn.tokens);
 }

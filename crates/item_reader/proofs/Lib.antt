@@ -1,0 +1,7 @@
+pub mod Swaps
+pub mod Depths
+pub mod Typed
+pub mod Branches
+pub mod Once
+pub mod Longs
+pub mod Loops

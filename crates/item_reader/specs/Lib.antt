@@ -1,0 +1,4 @@
+pub mod Sources
+pub mod Parts
+pub mod Typed
+pub mod Extras
