@@ -75,7 +75,7 @@ built g items head tail types extents names before symbols functions h t s f a b
     let tails = b ∙ ap (λ (l : List KeptTexts). l ++ g.metadata.items) h.attributes ∙ ap (λ (l : List KeptTexts). filter_map as_attributes items ++ l) h.metadata in
     let type_names = names_same m names ∙ t.named ∙ ap (λ (l : List TypeNameTree). with_missing l (map variable_of vs)) h.definitions ∙ ap (λ (l : List VariableTree). with_missing (filter_map as_type items) l) h.variables in
     let all_symbols = symbols_same m symbols ∙ s (names_of names) types ∙ ap (λ (l : List SymbolTree). l ++ symbols_from 0 fs) (t.symbols_are ∙ variable_symbols vs ∙ ap (map symbol_of) h.variables)
-        ∙ ap (λ (l : List FunctionTree). map symbol_of (filter_map as_variable items) ++ symbols_from 0 l) h.functions in
+    ∙ ap (λ (l : List FunctionTree). map symbol_of (filter_map as_variable items) ++ symbols_from 0 l) h.functions in
     let all_functions = ap (map tree_of_function) f ∙ h.functions in
     record {
       says = same_parts _ _ _ _ _ _ _ _ _ _ heads type_names all_symbols all_functions tails;

@@ -20,5 +20,5 @@ returns c = λ items h.
     let x : AreExtents types names extents = rw (c.as_slice-3.ensures.value, c.as_slice-4.ensures, c.into_items-type_names.ensures) at c.in_ok-extents.ensures in
     let n = rw c.as_slice-2.ensures.value at c.in_ok-add_functions.ensures in
     built_so c.in_ok-joined.field-0 c.in_ok-joined-2.field-0 types c.from_vec.result extents c.extents.inside.items.items names c.type_names.inside.items.items symbols c.from_vec-2.result g.functions.items c.from_vec-3.result (collected items)
-      c.from_vec.ensures c.extents.view_is (c.type_names.view_is ∙ c.into_items-type_names.ensures) c.from_vec-2.ensures c.from_vec-3.ensures
-      (built g items c.in_ok-joined.field-0 c.in_ok-joined-2.field-0 types extents names before symbols g.functions.items h t n refl c.in_ok-joined.ensures c.in_ok-joined-2.ensures x)
+    c.from_vec.ensures c.extents.view_is (c.type_names.view_is ∙ c.into_items-type_names.ensures) c.from_vec-2.ensures c.from_vec-3.ensures
+    (built g items c.in_ok-joined.field-0 c.in_ok-joined-2.field-0 types extents names before symbols g.functions.items h t n refl c.in_ok-joined.ensures c.in_ok-joined-2.ensures x)

@@ -7,7 +7,7 @@ pub set_types-requires : goal.set_types-requires
 set_types-requires c =
     let d = rw c.in_ok-names.ensures at c.in_ok-named.ensures in
     let few = few_named c.args.definitions.now c.args.variables.items c.new-types.result.items c.named_types.new.types.items c.variable_symbols.new.types.items c.in_ok-named.named.items c.in_ok-symbols.symbols.items c.named_types.new.names c.variable_symbols.new.names
-        d c.in_ok-symbols.ensures in
+    d c.in_ok-symbols.ensures in
     omega (arith, few, ap length c.as_slice.ensures.value)
 
 pub returns : goal.returns

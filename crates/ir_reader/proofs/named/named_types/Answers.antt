@@ -13,4 +13,4 @@ loop-definition-preserved c =
     let e = c.in_ok-ty.ensures in
     let taken = take_more ds i d c.loop-definition-test.true ∙ ap (λ x. take i ds ++ x ∷ []) (sym c.definition-item.is) in
     rw (taken, c.in_ok-push.ensures.items) (made_more named_over named_tree used_in_definition c.args.names.now c.loop-definition.names c.named_type.new.names c.args.types.now.items c.loop-definition.types.items c.named_type.new.types.items (take i ds) c.loop-definition.named.items d c.in_ok-ty.ty
-      c.loop-definition.invariant e.types_grow e.are e.names_grow e.stands)
+    c.loop-definition.invariant e.types_grow e.are e.names_grow e.stands)
