@@ -22,25 +22,26 @@ use Rattle.ir_reader.specs.Refusal.{IsWithinLimits, PassesLimit, HasNoReading, I
 
 reads_from : (text : List ℕ) (ts : List Lexeme) (m : Module) (passed : Option (Count × ℕ)) → Lexes text ts → IsModule ts m passed → (r : Reads text m) × (passed ≡ limit_passed r.numbered)
 reads_from text ts m passed lexes h =
-    let w = bind_some (read_whole (module_form (length ts)) ts) numbered_module h.items h.read in
-    (record {
-      tokens = ts;
-      written = w.0;
-      numbered = h.items;
-      resolved = collected h.items;
-      lexes = lexes;
-      spelled = read_spells (module_form (length ts)) (module_decides (length ts)) w.0 ts w.1;
-      numbers = w.2;
-      resolves = refl;
-      denotes = h.denotes;
-    }, h.limit)
+    let w = bind_some (read_whole (module_form (length ts)) ts) numbered_module h.items h.read in (
+      record {
+        tokens = ts;
+        written = w.0;
+        numbered = h.items;
+        resolved = collected h.items;
+        lexes = lexes;
+        spelled = read_spells (module_form (length ts)) (module_decides (length ts)) w.0 ts w.1;
+        numbers = w.2;
+        resolves = refl;
+        denotes = h.denotes;
+      },
+      h.limit,
+    )
 
 pub within_limits : (text : List ℕ) (ts : List Lexeme) (m : Module) → Lexes text ts → IsModule ts m None → IsWithinLimits text m
 within_limits text ts m lexes h = let r = reads_from text ts m None lexes h in record { reads = r.0; within = sym r.1 }
 
 pub passes_limit : (text : List ℕ) (ts : List Lexeme) (m : Module) (count : Count) (n : ℕ) → Lexes text ts → IsModule ts m (Some (count, n)) → PassesLimit text count n
 passes_limit text ts m count n lexes h = let r = reads_from text ts m (Some (count, n)) lexes h in record { read_as = m; reads = r.0; passed = sym r.1 }
-
 
 pub no_reading : (text : List ℕ) (ts : List Lexeme) → Lexes text ts → module_read ts ≡ None → HasNoReading text
 no_reading text ts lexes e m r =

@@ -1,5 +1,9 @@
 -- What the loop over items keeps.
-use Rattle.std.proofs.Common.{◌≡◌, ℕ, ◌≤◌, ◌<◌, true, false, List, [], ◌∷◌, ◌++◌, length, Option, Some, None, refl, sym, ap, ◌∙◌, arith}
+use Rattle.std.proofs.Common.{◌≡◌, ℕ, ◌≤◌, ◌<◌, true, false, List, [], ◌∷◌, ◌++◌, length, Option, Some, None, Result, Err, refl, sym, ap, ◌∙◌, arith}
+use Rattle.forms.specs.declared.cursor.Cursor.{Cursor}
+use Rattle.forms.specs.declared.cursor.SyntaxFault.{SyntaxFault}
+use Rattle.forms.specs.declared.cursor.SyntaxFault.TheVariants.{NoReading, Memory}
+use Rattle.forms.specs.Gives.{Gives, left}
 use Rattle.forms.specs.Form.{Lexeme, Form, many}
 use Rattle.forms.specs.Reading.{opens, read}
 use Rattle.forms.specs.Walk.{walk, completed}
@@ -8,9 +12,11 @@ use Rattle.ir_types.specs.Tree.{FunctionTree, WrittenFunction, Item}
 use Rattle.ir_types.specs.Grammar.{memory_type, item, module_form}
 use Rattle.ir_types.specs.Numbered.{numbered_item}
 use Rattle.ir_types.proofs.Decides.{item_takes}
+use Rattle.item_reader.specs.declared.part.Part.{Part}
+use Rattle.item_reader.specs.Parts.{item_of}
 use Rattle.ir_reader.specs.declared.gather.Gathered.{Gathered}
 use Rattle.ir_reader.specs.Gathered.{Holds}
-use Rattle.ir_reader.specs.Reading.{items_read, IsGathered}
+use Rattle.ir_reader.specs.Reading.{items_read, IsGathered, GivesItems}
 
 abbrev item_form : List Lexeme → Form (Item WrittenFunction)
 item_form ts = item (memory_type (length ts))
@@ -51,3 +57,9 @@ one_fails ts us g h o e = same_form ts ∙ walk_fails (item_form ts) numbered_it
 
 pub none_left : (ts us : List Lexeme) (g : Gathered) → SoFar ts g us → opens (item_form ts) us ≡ false → IsGathered ts g us
 none_left ts us g h o = record { items = h.items; read = same_form ts ∙ walk_ends (item_form ts) numbered_item h.items tt us (walked ts ts) o h.walks; holds = h.holds }
+
+-- a refusal of an item is one of all
+pub fault_gives : (ts us : List Lexeme) (g : Gathered) (fault : SyntaxFault) → SoFar ts g us → opens (item_form ts) us ≡ true
+    → Gives (λ (x : Part × Cursor). ((item_of x.0, tt), left x.1)) (Err fault) (completed (numbered_item tt) (read (item_form ts) us)) → GivesItems ts (Err fault)
+fault_gives ts us g (NoReading place) h o e = one_fails ts us g h o e
+fault_gives ts us g Memory h o e = tt

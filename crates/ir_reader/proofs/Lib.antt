@@ -3,5 +3,7 @@ pub mod Setting
 pub mod Typing
 pub mod Adding
 pub mod Gathering
+pub mod Symbolic
+pub mod Building
 pub mod Whole
 pub mod Exact

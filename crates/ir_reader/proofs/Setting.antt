@@ -1,5 +1,6 @@
 -- The first names are made to stand for types.
-use Rattle.std.proofs.Common.{◌≡◌, ℕ, zero, suc, ◌≤◌, ◌<◌, List, [], ◌∷◌, ◌++◌, length, refl, sym, ap, ◌∙◌, arith}
+use Rattle.std.proofs.Common.{◌≡◌, ℕ, zero, suc, ◌≤◌, ◌<◌, List, [], ◌∷◌, ◌++◌, length, get_or, take, ◌+◌, refl, sym, ap, ◌∙◌, arith}
+use Rattle.std.proofs.lemmas.List.{take_more, length-take-le}
 use Rattle.ir_types.specs.declared.name.Name.{Name}
 use Rattle.ir_types.specs.declared.memory_type.TypeName.{TypeName}
 use Rattle.ir_types.specs.declared.memory_type.NamedType.{NamedType}
@@ -34,3 +35,12 @@ with_front [] more [] le = with_none more
 with_front [] more (ty ∷ tys) le = absurd (omega arith)
 with_front (t ∷ ts) more [] le = refl
 with_front (t ∷ ts) more (ty ∷ tys) le = ap (λ (l : List TypeName). record { name = t.name; ty = ty } ∷ l) (with_front ts more tys (omega arith))
+
+-- of those up to a place, the next
+pub with_taken : (ts : List TypeName) (tys : List NamedType) (i : ℕ) (d : NamedType) → i < length tys → length tys ≤ length ts → with_type (with_types ts (take i tys)) i (get_or tys i d) ≡ with_types ts (take (i + 1) tys)
+with_taken ts tys i d lt le =
+    let e : i ≡ length (take i tys) = sym (length-take-le i tys (omega arith)) in
+    with_next ts (take i tys) i (get_or tys i d) e (omega arith) ∙ ap (with_types ts) (sym (take_more tys i d lt))
+
+pub set_next : (ts names new : List TypeName) (tys : List NamedType) (i : ℕ) (d : NamedType) → new ≡ with_type names i (get_or tys i d) → names ≡ with_types ts (take i tys) → i < length tys → length tys ≤ length ts → new ≡ with_types ts (take (i + 1) tys)
+set_next ts names new tys i d e h lt le = e ∙ ap (λ (l : List TypeName). with_type l i (get_or tys i d)) h ∙ with_taken ts tys i d lt le

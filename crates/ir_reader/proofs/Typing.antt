@@ -1,5 +1,5 @@
 -- The names of types say what the definitions say, and behind them stand the names that are used and not defined.
-use Rattle.std.proofs.Common.{◌≡◌, ℕ, suc, ◌≤◌, List, [], ◌∷◌, ◌++◌, length, refl, sym, ap, ◌∙◌, arith}
+use Rattle.std.proofs.Common.{◌≡◌, ℕ, suc, ◌≤◌, List, [], ◌∷◌, ◌++◌, length, refl, sym, ap, ◌∙◌, subst, arith, length-append}
 use Rattle.std.specs.Prelude.{map}
 use Rattle.std.proofs.lemmas.List.{map-append, length-map}
 use Rattle.forms.specs.Nested.{concat}
@@ -62,6 +62,16 @@ entry_count (d ∷ ds) = ap suc (entry_count ds)
 pub as_many : {A B C : Type 0} (f : A → C) (g : B → C) (xs : List A) (ys : List B) → map f xs ≡ map g ys → length xs ≡ length ys
 as_many f g xs ys e = simp length-map at (ap length e)
 
+-- no more names are made to stand for something than there are
+pub few_named : (ds : List Definition) (vs : List Variable) (start mid types : List MemTy) (tys : List NamedType) (symbols : List Symbol) (first second : List TypeName)
+    → Made named_over named_tree used_in_definition (entries ds) start ds tys first mid → Made symbol_over symbol_tree used_in_variable first mid vs symbols second types → length tys ≤ length second
+few_named ds vs start mid types tys symbols first second d v =
+    let made = d.stands (names_of first) mid (extends_refl (names_of first)) (extends_refl mid) in
+    let n = as_many (named_over (names_of first) mid) named_tree tys ds made in
+    let a = length-append (entries ds) (map missing_entry (unknown (names_of (entries ds)) (concat (map used_in_definition ds)))) in
+    let b = length-append first (map missing_entry (unknown (names_of first) (concat (map used_in_variable vs)))) in
+    omega (arith, n, entry_count ds, a, b, ap length d.names_grow, ap length v.names_grow)
+
 pub typed : (ds : List Definition) (vs : List Variable) (start mid types : List MemTy) (tys : List NamedType) (symbols : List Symbol) (first second last : List TypeName)
     → Made named_over named_tree used_in_definition (entries ds) start ds tys first mid → Made symbol_over symbol_tree used_in_variable first mid vs symbols second types
     → last ≡ with_types second tys → AreTyped ds vs types last symbols
@@ -84,8 +94,8 @@ typed ds vs start mid types tys symbols first second last d v e =
     ap (λ (l : List Name). map definition_tree ds ++ map missing_name (unknown l (used ++ more))) (sym (known_names ds))
     ∙ ap (λ (l : List Name). map definition_tree ds ++ map missing_name (unknown (map (λ (t : TypeNameTree). t.name) (map definition_tree ds)) (l ++ more))) (sym (used_names ds))
     ∙ ap (λ (l : List Name). map definition_tree ds ++ map missing_name (unknown (map (λ (t : TypeNameTree). t.name) (map definition_tree ds)) (concat (map (λ (t : TypeNameTree). names_used (nodes_of_named t.ty)) (map definition_tree ds)) ++ l))) (sym (variable_names vs)) in
-    rw same (record {
-      are = v.are;
-      named = trees ∙ collected;
-      symbols_are = v.stands names types (extends_refl names) (extends_refl types);
-    })
+    record {
+      are = subst (λ (ns : List Name). AreTypes ns 0 types) (sym same) v.are;
+      named = ap (λ (ns : List Name). map (type_name_over ns types) last) same ∙ trees ∙ collected;
+      symbols_are = ap (λ (ns : List Name). map (symbol_over ns types) symbols) same ∙ v.stands names types (extends_refl names) (extends_refl types);
+    }

@@ -6,7 +6,16 @@ use Rattle.forms.specs.Walk.{walk, completed}
 use Rattle.ir_types.specs.Tree.{WrittenFunction, FunctionTree, Item}
 use Rattle.ir_types.specs.Grammar.{module_form}
 use Rattle.ir_types.specs.Numbered.{numbered_item, numbered_module}
-use Rattle.ir_reader.specs.Reading.{items_read, module_read}
+use Rattle.std.specs.Prelude.{map}
+use Rattle.std.specs.List.{filter_map}
+use Rattle.text_lex.specs.declared.fault.Count.{Count}
+use Rattle.ir_types.specs.declared.module.Module.{Module}
+use Rattle.ir_types.specs.Denotes.{tree_of_function, Denotes}
+use Rattle.ir_types.specs.Collected.{as_function, collected}
+use Rattle.ir_limits.specs.Limits.{passed_by}
+use Rattle.ir_reader.specs.declared.gather.Gathered.{Gathered}
+use Rattle.ir_reader.specs.Gathered.{Holds}
+use Rattle.ir_reader.specs.Reading.{items_read, module_read, IsGathered, IsModule}
 
 abbrev Walked : Type 0
 Walked = Option ((List (Item FunctionTree) × Unit {0}) × List Lexeme)
@@ -51,3 +60,13 @@ all_left ts us items b e n = sym (whole_is ts) ∙ ap if_all e ∙ ap (λ (x : B
 
 pub none_left : (ts : List Lexeme) → items_read ts ≡ None → module_read ts ≡ None
 none_left ts e = sym (whole_is ts) ∙ ap if_all e
+
+-- the module of the items that were gathered, where no token is left
+pub module_so : (ts us : List Lexeme) (g : Gathered) (m : Module) (passed : Option (Count × ℕ)) → IsGathered ts g us → eqb (length us) 0 ≡ true → passed ≡ passed_by (map tree_of_function g.functions.items) g.long
+    → ((items : List (Item FunctionTree)) → Holds g items → Denotes m (collected items)) → IsModule ts m passed
+module_so ts us g m passed h n p d = record {
+  items = h.items;
+  read = all_left ts us h.items true h.read n;
+  denotes = d h.items h.holds;
+  limit = p ∙ ap (λ (fs : List FunctionTree). passed_by fs g.long) h.holds.functions ∙ ap (passed_by (filter_map as_function h.items)) h.holds.long;
+}

@@ -1,5 +1,5 @@
 -- What is made of a module's parts, as parts of its tree, over a list of names and a list of types.
-use Rattle.std.specs.Prelude.{List}
+use Rattle.std.specs.Prelude.{ℕ, List, []}
 use Rattle.std.specs.Option.{option_map}
 use Rattle.ir_types.specs.declared.name.Name.{Name}
 use Rattle.ir_types.specs.declared.module.Symbol.{Symbol}
@@ -10,7 +10,7 @@ use Rattle.ir_types.specs.declared.memory_type.TypeName.{TypeName}
 use Rattle.ir_types.specs.declared.memory_type.NamedType.{NamedType}
 use Rattle.ir_types.specs.declared.memory_type.NamedType.TheVariants.{Defined, Opaque, Missing}
 use Rattle.ir_types.specs.TypeNodes.{type_nodes}
-use Rattle.ir_types.specs.Tree.{NamedTree, defined, opaque, missing, TypeNameTree, SymbolKindTree, variable, function, missing_symbol, SymbolTree}
+use Rattle.ir_types.specs.Tree.{FunctionTree, NamedTree, defined, opaque, missing, TypeNameTree, SymbolKindTree, variable, function, missing_symbol, SymbolTree}
 use Rattle.ir_types.specs.Collected.{of_definition}
 use Rattle.item_reader.specs.declared.part.Definition.{Definition}
 use Rattle.item_reader.specs.Parts.{nodes_of}
@@ -42,3 +42,7 @@ symbol_kind_over names types symbols.Missing = missing_symbol
 -- a symbol, with what it stands for
 abbrev pub symbol_over : List Name → List MemTy → Symbol → SymbolTree
 symbol_over names types s = record { name = s.name; kind = symbol_kind_over names types s.kind; before = s.before; after = s.after }
+
+-- the symbol of a function at a place
+abbrev pub function_symbol : ℕ → FunctionTree → SymbolTree
+function_symbol place f = record { name = f.name; kind = function place; before = []; after = [] }

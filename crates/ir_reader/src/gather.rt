@@ -35,8 +35,6 @@ pub struct Gathered<'t> {
 }
 
 impl<'t> Gathered<'t> {
-
-
     /// No items.
     fn nothing(alloc: Global) -> Gathered<'t>
         ensures { Holds result [] }

@@ -14,6 +14,8 @@ mod gather;
 mod longs;
 mod named;
 mod symbols;
+#[cfg(test)]
+mod tests;
 
 use crate::build::module;
 use crate::gather::gather;

@@ -8,7 +8,7 @@ ghost use Rattle.ir_types.specs.Types.{AreTypes};
 ghost use Rattle.ir_types.specs.Denotes.{tree_of_function};
 ghost use Rattle.ir_types.specs.Collected.{symbols_from};
 ghost use Rattle.type_reader.specs.TypeTable.{names_of};
-ghost use Rattle.ir_reader.specs.Trees.{symbol_over};
+ghost use Rattle.ir_reader.specs.Trees.{symbol_over, function_symbol};
 ghost use Rattle.ir_reader.specs.Typed.{symbol_tree, used_in_variable, LooksUpNames, Stands, Made};
 
 use crate::named::type_at;
@@ -65,6 +65,18 @@ pub fn variable_symbols(
     Ok(symbols)
 }
 
+/// The symbol of the function at a place.
+fn function_symbol(alloc: Global, place: u32, function: &Function) -> Result<Symbol, AllocError>
+    ensures { IfOk result (λ s. (names : List Name) (types : List MemTy) → symbol_over names types s ≡ function_symbol place (tree_of_function function.now)) }
+{
+    Ok(Symbol {
+        name: function.name.copy()?,
+        kind: SymbolKind::Function(FuncId(place)),
+        before: Texts::new(alloc),
+        after: Texts::new(alloc),
+    })
+}
+
 /// Adds the symbols of functions.
 pub fn add_functions(
     alloc: Global,
@@ -77,12 +89,7 @@ pub fn add_functions(
         let Ok(place) = u32::try_from(place) else {
             return Err(AllocError);
         };
-        let symbol = Symbol {
-            name: function.name.copy()?,
-            kind: SymbolKind::Function(FuncId(place)),
-            before: Texts::new(alloc),
-            after: Texts::new(alloc),
-        };
+        let symbol = function_symbol(alloc, place, function)?;
         symbols.push(symbol)?;
     }
     Ok(())
