@@ -88,11 +88,11 @@ behind_name : (d : ℕ) (t : List ℕ) (ts : List Lexeme) → length ts ≤ d
     ≡ completed (definition_so t) (read (after_mark Equal (behind (codes "type") (defined_form d))) ts)
 behind_name d t ts le =
     then_same (read (mark Equal) ts) _ _ (λ e e1.
-      then_same (read (exactly Word (codes "type")) e.1) _ _ (λ w e2.
-        let l1 = within (mark Equal) ts e e1 in
-        let l2 = within (exactly Word (codes "type")) e.1 w e2 in
-        definition_named t (defined_read w.1) ∙ ap (completed (definition_so t)) (defined_is d w.1 (omega arith)))
-      ∙ sym (behind_apart (definition_so t) (exactly Word (codes "type")) (defined_form d) e.1))
+    then_same (read (exactly Word (codes "type")) e.1) _ _ (λ w e2.
+    let l1 = within (mark Equal) ts e e1 in
+    let l2 = within (exactly Word (codes "type")) e.1 w e2 in
+    definition_named t (defined_read w.1) ∙ ap (completed (definition_so t)) (defined_is d w.1 (omega arith)))
+    ∙ sym (behind_apart (definition_so t) (exactly Word (codes "type")) (defined_form d) e.1))
     ∙ sym (behind_apart (definition_so t) (mark Equal) (behind (codes "type") (defined_form d)) ts)
 
 pub definition_is : (d : ℕ) (ts : List Lexeme) → length ts ≤ d → definition_read ts ≡ completed (numbered_item tt) (read (type_definition (memory_type d)) ts)
@@ -143,11 +143,11 @@ behind_equal : (d : ℕ) (t : List ℕ) (ts : List Lexeme) → length ts ≤ d
 behind_equal d t ts le =
     let inner = pair (memory_type d) behind_type in
     then_same (read kept ts) _ _ (λ k e1.
-      then_same (read variable_word k.1) _ _ (λ w e2.
-        let l1 = within kept ts k e1 in
-        let l2 = within variable_word k.1 w e2 in
-        behind_word d t k.0 w.0 w.1 (omega arith))
-      ∙ sym (first_apart (λ x. named_variable (t, (k.0, x)) >>= numbered_item tt) variable_word inner k.1))
+    then_same (read variable_word k.1) _ _ (λ w e2.
+    let l1 = within kept ts k e1 in
+    let l2 = within variable_word k.1 w e2 in
+    behind_word d t k.0 w.0 w.1 (omega arith))
+    ∙ sym (first_apart (λ x. named_variable (t, (k.0, x)) >>= numbered_item tt) variable_word inner k.1))
     ∙ sym (first_apart (λ x. named_variable (t, x) >>= numbered_item tt) kept (pair variable_word inner) ts)
 
 pub variable_is : (d : ℕ) (ts : List Lexeme) → length ts ≤ d → variable_read ts ≡ completed (numbered_item tt) (read (variable_definition (memory_type d)) ts)
@@ -156,9 +156,9 @@ variable_is d ts le =
     let parts = pair kept (pair variable_word (pair (memory_type d) behind_type)) in
     let inner = after_mark Equal parts in
     then_same (read (one Global) ts) _ _ (λ t e1.
-      then_same (read (mark Equal) t.1) _ _ (λ e e2.
-        let l1 = within (one Global) ts t e1 in
-        let l2 = within (mark Equal) t.1 e e2 in
-        behind_equal d t.0 e.1 (omega arith))
-      ∙ sym (behind_apart (λ x. named_variable (t.0, x) >>= numbered_item tt) (mark Equal) parts t.1))
+    then_same (read (mark Equal) t.1) _ _ (λ e e2.
+    let l1 = within (one Global) ts t e1 in
+    let l2 = within (mark Equal) t.1 e e2 in
+    behind_equal d t.0 e.1 (omega arith))
+    ∙ sym (behind_apart (λ x. named_variable (t.0, x) >>= numbered_item tt) (mark Equal) parts t.1))
     ∙ sym (completed_twice named_variable (numbered_item tt) (read (ahead Global inner) ts) ∙ first_apart (λ x. named_variable x >>= numbered_item tt) (one Global) inner ts)

@@ -19,6 +19,7 @@ use lists::Texts;
 use std::alloc::Global;
 
 static STOP_KINDS: [TokenKind; 1] = [TokenKind::Comma];
+
 static STOP_WORDS: [&[u8]; 5] = [
     b"source_filename",
     b"target",
@@ -26,6 +27,7 @@ static STOP_WORDS: [&[u8]; 5] = [
     b"define",
     b"attributes",
 ];
+
 static STOPS_BEFORE_EQUAL: [TokenKind; 4] = [
     TokenKind::Local,
     TokenKind::Global,

@@ -101,10 +101,7 @@ fn with_word<'t>(alloc: Global, tokens: Cursor<'t>) -> Result<(Part<'t>, Cursor<
 }
 
 /// A comdat.
-fn comdat_item<'t>(
-    alloc: Global,
-    tokens: Cursor<'t>,
-) -> Result<(Part<'t>, Cursor<'t>), SyntaxFault>
+fn comdat_item<'t>(alloc: Global, tokens: Cursor<'t>) -> Result<(Part<'t>, Cursor<'t>), SyntaxFault>
     ensures reads { Gives (λ x. ((item_of x.0, tt), left x.1)) result (completed (numbered_item tt) (read (mapped comdat_line comdat) (left tokens.entry))) }
     ensures table { IfOk result (λ x. HasTable x.0) }
 {

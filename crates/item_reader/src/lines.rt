@@ -16,10 +16,7 @@ use lists::Texts;
 use std::alloc::Global;
 
 /// Keeps `=` and a string.
-fn keep_equal_string<'t>(
-    tokens: Cursor<'t>,
-    texts: &mut Texts,
-) -> Result<Cursor<'t>, SyntaxFault>
+fn keep_equal_string<'t>(tokens: Cursor<'t>, texts: &mut Texts) -> Result<Cursor<'t>, SyntaxFault>
     ensures { Gives (λ rest. (texts.new, left rest)) result (behind texts.old (read equal_string (left tokens.entry))) }
 {
     let rest = keep(tokens, TokenKind::Equal, texts)?;
@@ -51,10 +48,7 @@ fn keep_subject<'t>(tokens: Cursor<'t>, texts: &mut Texts) -> Result<Cursor<'t>,
 
 /// A line about the target, behind its word.
 #[tactic(auto, unfolding(ir_types::specs::Grammar::target_line))]
-pub fn target<'t>(
-    alloc: Global,
-    tokens: Cursor<'t>,
-) -> Result<(Kept, Cursor<'t>), SyntaxFault>
+pub fn target<'t>(alloc: Global, tokens: Cursor<'t>) -> Result<(Kept, Cursor<'t>), SyntaxFault>
     ensures { Gives (λ x. (x.0, left x.1)) result (read (mapped (λ xs. codes "target" ∷ xs) target_line) (left tokens.entry)) }
 {
     let mut texts = Texts::new(alloc);
@@ -66,10 +60,7 @@ pub fn target<'t>(
 
 /// A group of attributes, behind its word.
 #[tactic(auto, unfolding(ir_types::specs::Grammar::attribute_group))]
-pub fn attributes<'t>(
-    alloc: Global,
-    tokens: Cursor<'t>,
-) -> Result<(Kept, Cursor<'t>), SyntaxFault>
+pub fn attributes<'t>(alloc: Global, tokens: Cursor<'t>) -> Result<(Kept, Cursor<'t>), SyntaxFault>
     ensures { Gives (λ x. (x.0, left x.1)) result (read (mapped (λ xs. codes "attributes" ∷ xs) attribute_group) (left tokens.entry)) }
 {
     let mut texts = Texts::new(alloc);

@@ -18,7 +18,7 @@ returns-in_err-extra c =
     let us = left c.more.rest in
     let now = c.keep_extra.new.texts in
     rw (p.1, p.2) (gives_failed (λ (x : Extra × Cursor). ((x.0, now), left x.1)) (λ (rest : Cursor). (now, left rest)) c.in_err-extra.field-0.0 _ _
-      (λ e. one_fails c.args.texts.now ts us c.more.seen c.more.texts c.more.invariant (sym c.begins_extra.ensures ∙ c.more-test.true) (not_read c.more.seen c.more.texts us e)) c.in_err-extra.ensures)
+    (λ e. one_fails c.args.texts.now ts us c.more.seen c.more.texts c.more.invariant (sym c.begins_extra.ensures ∙ c.more-test.true) (not_read c.more.seen c.more.texts us e)) c.in_err-extra.ensures)
 
 pub returns-in_default : goal.returns-in_default
 returns-in_default c =
