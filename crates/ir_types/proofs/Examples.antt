@@ -10,13 +10,14 @@ use Rattle.forms.specs.LeftOut.{left_out_words}
 use Rattle.forms.specs.Reading.{◌>>=◌, read_whole}
 use Rattle.ir_types.specs.declared.name.Name.{Name}
 use Rattle.ir_types.specs.declared.name.Name.TheVariants.{Text, Number}
-use Rattle.ir_types.specs.declared.inst.Ty.TheVariants.{Int, Vector, Void}
-use Rattle.ir_types.specs.declared.inst.Pred.TheVariants.{Slt}
-use Rattle.ir_types.specs.declared.inst.InstKind.TheVariants.{Compare, Phi, Jump, Branch, Return, ReturnVoid}
+use Rattle.ir_types.specs.declared.inst.Ty.TheVariants.{Int, Ptr, Vector, Void}
+use Rattle.ir_types.specs.declared.inst.Pred.TheVariants.{Eq, Slt}
+use Rattle.ir_types.specs.declared.inst.InstKind.TheVariants.{Binary, Compare, Select, Freeze, Trunc, Zext, Sext, PtrToInt, Phi, Load, Store, Extract, Insert, Shuffle, Jump, Branch, Switch, Return, ReturnVoid, Unreachable}
+use Rattle.ir_types.specs.declared.inst.BinOp.TheVariants.{Add, Sub, Mul, Shl, UDiv, AShr, And, Or, Xor}
 use Rattle.ir_types.specs.Written.{number_of, number_at, unescaped, name_behind, name_before}
 use Rattle.ir_types.specs.TypeNodes.{TypeNode, scalar, called, array, opening, closing}
-use Rattle.ir_types.specs.Tree.{local, number, InstTree, BlockTree, FunctionTree, WrittenFunction, TypeNameTree, defined, opaque, missing, ModuleTree, Item, head_line, comdat_line, type_item, variable_item, function_item, metadata_line}
-use Rattle.ir_types.specs.Grammar.{local_name, global_name, label, width, vector_type, value_type, return_type, lane, constant_word, typed_lane, value, typed_value, typed_pair, pointer_value, index_value, target, alignment, overflowing, possibly_exact, plain_binary, or_operation, predicates, compared, compare, select, freeze, trunc, zext, sext, ptrtoint, entry_of_phi, phi, load, store, extractelement, insertelement, shufflevector, branch, case_of_switch, switch, ret, inst_attachments, bare_inst, named_by, operation_words, operation, terminator_words, terminator, block, type_words, value_words, item_words, instruction_words, excluded_words, kept, memory_leaf, array_begin, type_parts, parameter, dotted_parameters, declared_function, defined_function, target_line, attribute_group, comdat, metadata, type_definition, initialiser_stops, extra_behind, behind_type, variable_word, variable_definition, item, module_form}
+use Rattle.ir_types.specs.Tree.{OperandTree, local, number, null, poison, lanes, InstTree, BlockTree, FunctionTree, WrittenFunction, TypeNameTree, defined, opaque, missing, ModuleTree, Item, head_line, comdat_line, type_item, variable_item, function_item, metadata_line}
+use Rattle.ir_types.specs.Grammar.{local_name, global_name, label, width, vector_type, value_type, return_type, lane, constant_word, typed_lane, value, typed_value, typed_pair, pointer_value, index_value, target, alignment, overflowing, possibly_exact, plain_binary, or_operation, predicates, compared, compare, select, freeze, trunc, zext, sext, ptrtoint, entry_of_phi, phi, load, store, argument, signature, call, extractelement, insertelement, shufflevector, branch, case_of_switch, switch, ret, inst_attachments, bare_inst, named_by, with_kept, no_flags, wrap_flags, exact_flag, disjoint_flag, operation_words, operation, terminator_words, terminator, block, type_words, value_words, item_words, instruction_words, excluded_words, kept, memory_leaf, array_begin, type_parts, parameter, dotted_parameters, declared_function, defined_function, target_line, attribute_group, comdat, metadata, type_definition, initialiser_stops, extra_behind, behind_type, variable_word, variable_definition, item, module_form}
 use Rattle.ir_types.specs.Sizes.{Layout, value_size, struct_layout}
 use Rattle.ir_types.specs.Numbered.{numbered_module}
 use Rattle.ir_types.specs.Collected.{as_function, resolved_module}
@@ -217,8 +218,89 @@ record Readings : Type 0 where
   no_next : names_in (codes "define i32 @f ( ) { %4294967295 = add i32 1 , 2 add i32 1 , 2 ret i32 0 }") ≡ None
 
 readings : Readings
-unfolding table local_name global_name label width vector_type value_type return_type lane constant_word typed_lane value typed_value typed_pair pointer_value index_value target alignment overflowing possibly_exact plain_binary or_operation predicates compared compare select freeze trunc zext sext ptrtoint entry_of_phi phi load store extractelement insertelement shufflevector branch case_of_switch switch ret inst_attachments operation_words operation terminator_words terminator block kept_piece kept_run metadata_node attachment attachments left_out_words type_words value_words item_words instruction_words excluded_words kept memory_leaf array_begin type_parts parameter dotted_parameters declared_function defined_function target_line attribute_group comdat metadata type_definition initialiser_stops extra_behind behind_type variable_word variable_definition item module_form
+unfolding table local_name global_name label width vector_type value_type return_type lane constant_word typed_lane value typed_value typed_pair pointer_value index_value target alignment overflowing possibly_exact plain_binary or_operation predicates compared compare select freeze trunc zext sext ptrtoint entry_of_phi phi load store argument signature call extractelement insertelement shufflevector branch case_of_switch switch ret inst_attachments operation_words operation terminator_words terminator block kept_piece kept_run metadata_node attachment attachments left_out_words type_words value_words item_words instruction_words excluded_words kept memory_leaf array_begin type_parts parameter dotted_parameters declared_function defined_function target_line attribute_group comdat metadata type_definition initialiser_stops extra_behind behind_type variable_word variable_definition item module_form
 readings = record { whole = refl; numbers = refl; none = refl; operands = refl; no_block = refl; no_terminator = refl; open_block = refl; parameter_comma = refl; only_comma = refl; operand_comma = refl; entry_comma = refl; no_entries = refl; one_target = refl; three_lanes = refl; signed_lanes = refl; other_type = refl; fraction = refl; great_name = refl; in_order = refl; unnamed_block = refl; written_number = refl; used_number = refl; last_number = refl; no_next = refl }
+
+-- ---- instructions
+
+abbrev inst : List ℕ → Option InstTree
+inst s = read_whole operation (tokens [] s)
+
+abbrev last_inst : List ℕ → Option InstTree
+last_inst s = read_whole terminator (tokens [] s)
+
+abbrev x : OperandTree
+x = local (Text (codes "x"))
+
+abbrev y : OperandTree
+y = local (Text (codes "y"))
+
+record Values : Type 0 where
+  -- a number is held modulo 2^8, and `true` is 1
+  numbers : inst (codes "add i8 -1 , 300") ≡ Some (bare_inst (Binary Add no_flags) (Int 8) (number 255 ∷ number 44 ∷ []) [])
+  truths : inst (codes "and i1 true , false") ≡ Some (bare_inst (Binary And no_flags) (Int 1) (number 1 ∷ number 0 ∷ []) [])
+  null_pointer : inst (codes "icmp eq ptr %x , null") ≡ Some (bare_inst (Compare Eq Ptr) (Int 1) (x ∷ null ∷ []) [])
+  poison_lanes : inst (codes "mul < 2 x i8 > poison , < i8 -1 , i8 poison >") ≡ Some (bare_inst (Binary Mul no_flags) (Vector 2 8) (poison ∷ lanes (Some 255 ∷ None ∷ []) ∷ []) [])
+  all_zero : inst (codes "xor < 2 x i16 > zeroinitializer , splat ( i16 5 )") ≡ Some (bare_inst (Binary Xor no_flags) (Vector 2 16) (lanes (Some 0 ∷ Some 0 ∷ []) ∷ lanes (Some 5 ∷ Some 5 ∷ []) ∷ []) [])
+  bits : inst (codes "and < 2 x i1 > < i1 true , i1 false > , splat ( i1 poison )") ≡ Some (bare_inst (Binary And no_flags) (Vector 2 1) (lanes (Some 1 ∷ Some 0 ∷ []) ∷ lanes (None ∷ None ∷ []) ∷ []) [])
+  -- how many lanes are written isn't looked at
+  few_lanes : inst (codes "freeze < 4 x i8 > < i8 7 >") ≡ Some (bare_inst Freeze (Vector 4 8) (lanes (Some 7 ∷ []) ∷ []) [])
+  -- zeros and lanes at another type than a vector, lanes of another element type, a lane that is no constant, lanes in a lane
+  zero_number : inst (codes "add i32 zeroinitializer , 1") ≡ None
+  number_lanes : inst (codes "freeze i8 < i8 7 >") ≡ None
+  pointer_splat : inst (codes "freeze ptr splat ( ptr poison )") ≡ None
+  other_lanes : inst (codes "freeze < 2 x i8 > < i8 7 , i16 8 >") ≡ None
+  other_splat : inst (codes "freeze < 2 x i8 > splat ( i16 8 )") ≡ None
+  open_lane : inst (codes "freeze < 2 x i8 > < i8 7 , i8 %x >") ≡ None
+  null_lane : inst (codes "freeze < 2 x i8 > < i8 7 , i8 null >") ≡ None
+  zero_lane : inst (codes "freeze < 2 x i8 > splat ( < 2 x i8 > zeroinitializer )") ≡ None
+  no_lanes : inst (codes "freeze < 2 x i8 > < >") ≡ None
+  lane_comma : inst (codes "freeze < 2 x i8 > < i8 7 , >") ≡ None
+
+values : Values
+unfolding table local_name global_name label width vector_type value_type return_type lane constant_word typed_lane value typed_value typed_pair pointer_value index_value target alignment overflowing possibly_exact plain_binary or_operation predicates compared compare select freeze trunc zext sext ptrtoint entry_of_phi phi load store argument signature call extractelement insertelement shufflevector branch case_of_switch switch ret inst_attachments operation_words operation terminator_words terminator block kept_piece kept_run metadata_node attachment attachments left_out_words type_words value_words item_words instruction_words excluded_words kept memory_leaf array_begin type_parts parameter dotted_parameters declared_function defined_function target_line attribute_group comdat metadata type_definition initialiser_stops extra_behind behind_type variable_word variable_definition item module_form
+values = record { numbers = refl; truths = refl; null_pointer = refl; poison_lanes = refl; all_zero = refl; bits = refl; few_lanes = refl; zero_number = refl; number_lanes = refl; pointer_splat = refl; other_lanes = refl; other_splat = refl; open_lane = refl; null_lane = refl; zero_lane = refl; no_lanes = refl; lane_comma = refl }
+
+record Instructions : Type 0 where
+  -- flags in any order, each once at most
+  wraps : inst (codes "sub nsw nuw i8 %x , %y") ≡ Some (bare_inst (Binary Sub (wrap_flags (true, true))) (Int 8) (x ∷ y ∷ []) [])
+  one_wrap : inst (codes "shl nsw i8 %x , %y") ≡ Some (bare_inst (Binary Shl (wrap_flags (false, true))) (Int 8) (x ∷ y ∷ []) [])
+  twice : inst (codes "add nuw nuw i8 %x , %y") ≡ None
+  exactly_so : inst (codes "ashr exact i8 %x , %y") ≡ Some (bare_inst (Binary AShr (exact_flag true)) (Int 8) (x ∷ y ∷ []) [])
+  inexact : inst (codes "udiv i8 %x , %y") ≡ Some (bare_inst (Binary UDiv no_flags) (Int 8) (x ∷ y ∷ []) [])
+  apart_bits : inst (codes "or disjoint i8 %x , %y") ≡ Some (bare_inst (Binary Or (disjoint_flag true)) (Int 8) (x ∷ y ∷ []) [])
+  no_wraps : inst (codes "urem nuw i8 %x , %y") ≡ None
+  chosen : inst (codes "select < 2 x i1 > %x , < 2 x i8 > %y , < 2 x i8 > poison") ≡ Some (bare_inst (Select (Vector 2 1) (Vector 2 8)) (Vector 2 8) (x ∷ y ∷ poison ∷ []) [])
+  fewer_bits : inst (codes "trunc nsw i64 %x to i8") ≡ Some (bare_inst (Trunc (Int 64) false true) (Int 8) (x ∷ []) [])
+  more_bits : inst (codes "zext nneg i8 %x to i64") ≡ Some (bare_inst (Zext (Int 8) true) (Int 64) (x ∷ []) [])
+  sign_bits : inst (codes "sext < 2 x i8 > %x to < 2 x i32 >") ≡ Some (bare_inst (Sext (Vector 2 8)) (Vector 2 32) (x ∷ []) [])
+  address : inst (codes "ptrtoint ptr %x to i64") ≡ Some (bare_inst PtrToInt (Int 64) (x ∷ []) [])
+  -- without an alignment it is the natural one; it is held modulo 2^64, and has no sign
+  natural : inst (codes "load < 4 x i32 > , ptr %x") ≡ Some (bare_inst (Load 16) (Vector 4 32) (x ∷ []) [])
+  aligned_load : inst (codes "load i64 , ptr %x , align 18446744073709551618") ≡ Some (bare_inst (Load 2) (Int 64) (x ∷ []) [])
+  signed_load : inst (codes "load i64 , ptr %x , align -8") ≡ None
+  stored : inst (codes "store i16 7 , ptr %x , !a !0") ≡ Some (with_kept (bare_inst (Store (Int 16) 2) Void (number 7 ∷ x ∷ []) []) (codes "," ∷ codes "!a" ∷ codes "!0" ∷ []))
+  stored_so : inst (codes "store i16 7 , ptr %x , align 1 , !a !0 , !b ! { }") ≡ Some (with_kept (bare_inst (Store (Int 16) 1) Void (number 7 ∷ x ∷ []) []) (codes "," ∷ codes "!a" ∷ codes "!0" ∷ codes "," ∷ codes "!b" ∷ codes "!" ∷ codes "{" ∷ codes "}" ∷ []))
+  a_lane : inst (codes "extractelement < 4 x i8 > %x , i64 3") ≡ Some (bare_inst (Extract (Vector 4 8) 64) (Int 8) (x ∷ number 3 ∷ []) [])
+  another_lane : inst (codes "insertelement < 4 x i8 > %x , i8 5 , i32 %y") ≡ Some (bare_inst (Insert (Int 8) 32) (Vector 4 8) (x ∷ number 5 ∷ y ∷ []) [])
+  -- as many lanes as the mask has
+  mixed_lanes : inst (codes "shufflevector < 4 x i8 > %x , < 4 x i8 > poison , < 2 x i32 > < i32 3 , i32 poison >")
+      ≡ Some (bare_inst (Shuffle (Vector 4 8) (Vector 4 8) (Vector 2 32)) (Vector 2 8) (x ∷ poison ∷ lanes (Some 3 ∷ None ∷ []) ∷ []) [])
+  joined_values : inst (codes "phi < 2 x i8 > [ zeroinitializer , %a ] , [ %x , %b ] , !a !0")
+      ≡ Some (with_kept (bare_inst Phi (Vector 2 8) (lanes (Some 0 ∷ Some 0 ∷ []) ∷ x ∷ []) (Text (codes "a") ∷ Text (codes "b") ∷ [])) (codes "," ∷ codes "!a" ∷ codes "!0" ∷ []))
+  joined_numbers : inst (codes "phi i8 [ zeroinitializer , %a ]") ≡ None
+  switched : last_inst (codes "switch i8 %x , label %d [ i8 -1 , label %a i8 2 , label %b ] , !prof !3")
+      ≡ Some (with_kept (bare_inst (Switch 8 (255 ∷ 2 ∷ [])) Void (x ∷ []) (Text (codes "d") ∷ Text (codes "a") ∷ Text (codes "b") ∷ [])) (codes "," ∷ codes "!prof" ∷ codes "!3" ∷ []))
+  no_cases : last_inst (codes "switch i8 %x , label %d [ ]") ≡ Some (bare_inst (Switch 8 []) Void (x ∷ []) (Text (codes "d") ∷ []))
+  wide_case : last_inst (codes "switch i8 %x , label %d [ i16 2 , label %b ]") ≡ None
+  comma_case : last_inst (codes "switch i8 %x , label %d [ i8 1 , label %a , i8 2 , label %b ]") ≡ None
+  true_case : last_inst (codes "switch i1 %x , label %d [ i1 true , label %b ]") ≡ None
+  never : last_inst (codes "unreachable , !a !0") ≡ Some (with_kept (bare_inst Unreachable Void [] []) (codes "," ∷ codes "!a" ∷ codes "!0" ∷ []))
+  no_attachment : last_inst (codes "unreachable , !0") ≡ None
+
+instructions : Instructions
+unfolding table local_name global_name label width vector_type value_type return_type lane constant_word typed_lane value typed_value typed_pair pointer_value index_value target alignment overflowing possibly_exact plain_binary or_operation predicates compared compare select freeze trunc zext sext ptrtoint entry_of_phi phi load store argument signature call extractelement insertelement shufflevector branch case_of_switch switch ret inst_attachments operation_words operation terminator_words terminator block kept_piece kept_run metadata_node attachment attachments left_out_words type_words value_words item_words instruction_words excluded_words kept memory_leaf array_begin type_parts parameter dotted_parameters declared_function defined_function target_line attribute_group comdat metadata type_definition initialiser_stops extra_behind behind_type variable_word variable_definition item module_form
+instructions = record { wraps = refl; one_wrap = refl; twice = refl; exactly_so = refl; inexact = refl; apart_bits = refl; no_wraps = refl; chosen = refl; fewer_bits = refl; more_bits = refl; sign_bits = refl; address = refl; natural = refl; aligned_load = refl; signed_load = refl; stored = refl; stored_so = refl; a_lane = refl; another_lane = refl; mixed_lanes = refl; joined_values = refl; joined_numbers = refl; switched = refl; no_cases = refl; wide_case = refl; comma_case = refl; true_case = refl; never = refl; no_attachment = refl }
 
 -- ---- items
 
@@ -280,7 +362,7 @@ record Items : Type 0 where
   unclosed : reading (codes "declare void @f ( ) memory ( read") ≡ None
 
 items : Items
-unfolding table local_name global_name label width vector_type value_type return_type lane constant_word typed_lane value typed_value typed_pair pointer_value index_value target alignment overflowing possibly_exact plain_binary or_operation predicates compared compare select freeze trunc zext sext ptrtoint entry_of_phi phi load store extractelement insertelement shufflevector branch case_of_switch switch ret inst_attachments operation_words operation terminator_words terminator block kept_piece kept_run metadata_node attachment attachments left_out_words type_words value_words item_words instruction_words excluded_words kept memory_leaf array_begin type_parts parameter dotted_parameters declared_function defined_function target_line attribute_group comdat metadata type_definition initialiser_stops extra_behind behind_type variable_word variable_definition item module_form
+unfolding table local_name global_name label width vector_type value_type return_type lane constant_word typed_lane value typed_value typed_pair pointer_value index_value target alignment overflowing possibly_exact plain_binary or_operation predicates compared compare select freeze trunc zext sext ptrtoint entry_of_phi phi load store argument signature call extractelement insertelement shufflevector branch case_of_switch switch ret inst_attachments operation_words operation terminator_words terminator block kept_piece kept_run metadata_node attachment attachments left_out_words type_words value_words item_words instruction_words excluded_words kept memory_leaf array_begin type_parts parameter dotted_parameters declared_function defined_function target_line attribute_group comdat metadata type_definition initialiser_stops extra_behind behind_type variable_word variable_definition item module_form
 items = record { several = refl; named = refl; dots_alone = refl; dots_behind = refl; dots_comma = refl; dots_defined = refl; two_sections = refl; one_section = refl; signed_kept = refl; unsigned_kept = refl; two_variables = refl; signed_alignment = refl; great_array = refl; signed_array = refl; vector_of_arrays = refl; excluded = refl; unclosed = refl }
 
 -- ---- the order of what is collected
@@ -301,7 +383,7 @@ record Orders : Type 0 where
   functions : (collected_of mixed >>= λ m. Some (map (λ f. f.name) m.functions)) ≡ Some (Text (codes "f") ∷ Text (codes "g") ∷ [])
 
 orders : Orders
-unfolding table local_name global_name label width vector_type value_type return_type lane constant_word typed_lane value typed_value typed_pair pointer_value index_value target alignment overflowing possibly_exact plain_binary or_operation predicates compared compare select freeze trunc zext sext ptrtoint entry_of_phi phi load store extractelement insertelement shufflevector branch case_of_switch switch ret inst_attachments operation_words operation terminator_words terminator block kept_piece kept_run metadata_node attachment attachments left_out_words type_words value_words item_words instruction_words excluded_words kept memory_leaf array_begin type_parts parameter dotted_parameters declared_function defined_function target_line attribute_group comdat metadata type_definition initialiser_stops extra_behind behind_type variable_word variable_definition item module_form
+unfolding table local_name global_name label width vector_type value_type return_type lane constant_word typed_lane value typed_value typed_pair pointer_value index_value target alignment overflowing possibly_exact plain_binary or_operation predicates compared compare select freeze trunc zext sext ptrtoint entry_of_phi phi load store argument signature call extractelement insertelement shufflevector branch case_of_switch switch ret inst_attachments operation_words operation terminator_words terminator block kept_piece kept_run metadata_node attachment attachments left_out_words type_words value_words item_words instruction_words excluded_words kept memory_leaf array_begin type_parts parameter dotted_parameters declared_function defined_function target_line attribute_group comdat metadata type_definition initialiser_stops extra_behind behind_type variable_word variable_definition item module_form
 orders = record { head = refl; tail = refl; symbols = refl; functions = refl }
 
 -- ---- sizes

@@ -2,7 +2,7 @@
 use Rattle.std.specs.Prelude.{ℕ, ◌%◌, Bool, true, false, not, ◌&&◌, nat_le, count_by, is_some, length, List, [], ◌∷◌, ◌++◌, map, replicate, codes, find, nat_lt, ◌^◌, ◌==◌, Option, Some, None, if◌then◌else◌}
 use Rattle.std.specs.List.{list_all}
 use Rattle.forms.specs.declared.TokenKind.TheVariants.{Quoted, Local, Global, Comdat, Label, Word, Number, Metadata, AttributeGroup, Dots, Bang, Equal, Comma, LeftParen, RightParen, LeftBracket, RightBracket, LeftBrace, RightBrace, Less, Greater}
-use Rattle.forms.specs.Form.{Lexeme, Form, Stops, Spells, exactly, one, ahead, up_to, pair, either, mapped, made, optional, many, by_word}
+use Rattle.forms.specs.Form.{Lexeme, Form, Stops, Spells, exactly, one, ahead, up_to, pair, greedy, either, mapped, made, optional, many, by_word}
 use Rattle.forms.specs.Reading.{◌>>=◌}
 use Rattle.forms.specs.Gives.{mark}
 pub use Rattle.forms.specs.Combined.{word, behind, after_mark, between, marked, some, commas, or_none, list}
@@ -18,6 +18,11 @@ use Rattle.ir_types.specs.declared.inst.Pred.TheVariants.{Eq, Ne, Ugt, Uge, Ult,
 use Rattle.ir_types.specs.declared.inst.InstKind.TheVariants as kinds
 use Rattle.ir_types.specs.declared.opcode.Operation.{Operation}
 use Rattle.ir_types.specs.declared.opcode.Operation.TheVariants as operations
+use Rattle.ir_types.specs.declared.call.Actual.{Actual}
+use Rattle.ir_types.specs.declared.call.Callee.{Callee}
+use Rattle.ir_types.specs.declared.call.Signature.{Signature}
+use Rattle.ir_types.specs.declared.call.TailKind.{TailKind}
+use Rattle.ir_types.specs.declared.call.TailKind.TheVariants.{Unmarked, Tail, MustTail, NoTail}
 use Rattle.ir_types.specs.declared.opcode.FlagOrder.{FlagOrder}
 use Rattle.ir_types.specs.declared.opcode.FlagOrder.TheVariants.{Usual, Reversed}
 use Rattle.ir_types.specs.declared.opcode.ItemWord.{ItemWord}
@@ -208,6 +213,43 @@ operand_at t zeros = zeros_at t
 operand_at t (splat x) = splat_at t x
 operand_at t (lane_list xs) = lanes_at t xs
 
+-- ---- what is kept
+
+-- the words of types
+unfoldable pub type_words : List (List ℕ)
+type_words = codes "i1" ∷ codes "i8" ∷ codes "i16" ∷ codes "i32" ∷ codes "i64" ∷ codes "ptr" ∷ codes "void" ∷ []
+
+-- the words with which values begin
+unfoldable pub value_words : List (List ℕ)
+value_words = codes "true" ∷ codes "false" ∷ codes "null" ∷ codes "poison" ∷ codes "zeroinitializer" ∷ codes "splat" ∷ codes "getelementptr" ∷ []
+
+-- the words with which items begin
+unfoldable pub item_words : List (List ℕ × ItemWord)
+item_words =
+    (codes "source_filename", items.SourceFilename) ∷
+    (codes "target", items.Target) ∷
+    (codes "declare", items.Declare) ∷
+    (codes "define", items.Define) ∷
+    (codes "attributes", items.Attributes) ∷
+    []
+
+-- the words with which instructions begin
+unfoldable pub instruction_words : List (List ℕ)
+instruction_words =
+    codes "add" ∷ codes "sub" ∷ codes "mul" ∷ codes "shl" ∷ codes "udiv" ∷ codes "sdiv" ∷ codes "lshr" ∷ codes "ashr" ∷ codes "urem" ∷ codes "srem" ∷
+    codes "and" ∷ codes "xor" ∷ codes "or" ∷ codes "icmp" ∷ codes "select" ∷ codes "freeze" ∷ codes "trunc" ∷ codes "zext" ∷ codes "sext" ∷ codes "ptrtoint" ∷
+    codes "phi" ∷ codes "load" ∷ codes "store" ∷ codes "tail" ∷ codes "musttail" ∷ codes "notail" ∷ codes "call" ∷ codes "extractelement" ∷
+    codes "insertelement" ∷ codes "shufflevector" ∷ codes "br" ∷ codes "switch" ∷ codes "ret" ∷ codes "unreachable" ∷ []
+
+-- the words that no kept run has outside parentheses, but for `align` and `cc`, behind which a number may stand
+unfoldable pub excluded_words : List (List ℕ)
+excluded_words =
+    codes "align" ∷ codes "cc" ∷ codes "global" ∷ codes "constant" ∷ (type_words ++ (value_words ++ (map (λ e. e.0) item_words ++ (instruction_words ++ left_out_words))))
+
+-- K
+unfoldable pub kept : Form KeptTexts
+kept = kept_run excluded_words
+
 -- ---- parts of instructions
 
 -- a value with its type
@@ -267,6 +309,19 @@ alignment = optional (marked Comma (behind (codes "align") (made alignment_of (o
 abbrev pub align_or : Ty → Option ℕ → ℕ
 align_or t None = value_size t
 align_or t (Some n) = n
+
+-- elements, and whether dots stand behind them
+abbrev pub dotted : {A : Type 0} → List A × Option (Unit {0}) → List A × Bool
+dotted x = (x.0, is_some x.1)
+
+-- no elements and no dots
+abbrev pub or_no_elements : {A : Type 0} → Option (List A × Bool) → List A × Bool
+or_no_elements None = ([], false)
+or_no_elements (Some x) = x
+
+-- `...`, or elements parted by commas [, ...], or nothing
+abbrev pub dotted_list : {A : Type 0} → Form A → Form (List A × Bool)
+dotted_list f = mapped or_no_elements (optional (either (mapped (λ _. ([], true)) (mark Dots)) (mapped dotted (pair (commas f) (optional (marked Comma (mark Dots)))))))
 
 -- ---- flags
 
@@ -480,6 +535,37 @@ shuffle_tree x = bare_inst (kinds.Shuffle x.0.0 x.1.0.0 x.1.1.0) (shuffled x.0.0
 unfoldable pub shufflevector : Form InstTree
 shufflevector = mapped shuffle_tree three_values
 
+-- an argument at its type
+abbrev pub actual_at : Ty × (KeptTexts × WrittenValue) → Option (Actual × OperandTree)
+actual_at x = operand_at x.0 x.1.1 >>= λ a. Some (record { ty = x.0; kept = x.1.0 }, a)
+
+-- T K V, where K takes as much as it can
+unfoldable pub argument : Form (Actual × OperandTree)
+argument = made actual_at (pair value_type (greedy kept value))
+
+-- ( T, .. [, ...] )
+unfoldable pub signature : Form Signature
+signature = mapped (λ x. record { params = x.0; varargs = x.1 }) (between LeftParen RightParen (dotted_list value_type))
+
+-- what is called, of its parts
+abbrev pub callee_of : TailKind → KeptTexts × (Ty × (Option Signature × (Name × (List (Actual × OperandTree) × KeptTexts)))) → Callee
+callee_of tail x = record { tail = tail; before = x.0; signature = x.1.1.0; name = x.1.1.1.0; actuals = map (λ a. a.0) x.1.1.1.1.0; after = x.1.1.1.1.1 }
+
+-- a call, whose operands are the arguments
+abbrev pub call_tree : TailKind → KeptTexts × (Ty × (Option Signature × (Name × (List (Actual × OperandTree) × KeptTexts)))) → InstTree
+call_tree tail x = bare_inst (kinds.Call (callee_of tail x)) x.1.0 (map (λ a. a.1) x.1.1.1.1.0) []
+
+-- K R [( T, .. [, ...] )] @name ( T K V, .. ) K
+unfoldable pub call : TailKind → Form InstTree
+call tail = mapped (call_tree tail) (pair kept (pair return_type (pair (optional signature) (pair global_name (pair (between LeftParen RightParen (list argument)) kept)))))
+
+-- the same behind `call`, or where a word stands before it behind that and `call`
+abbrev pub call_behind : TailKind → Form InstTree
+call_behind Unmarked = call Unmarked
+call_behind Tail = behind (codes "call") (call Tail)
+call_behind MustTail = behind (codes "call") (call MustTail)
+call_behind NoTail = behind (codes "call") (call NoTail)
+
 -- a jump to a block
 abbrev pub jump_tree : Name → InstTree
 jump_tree l = bare_inst kinds.Jump Void [] (l ∷ [])
@@ -564,6 +650,10 @@ operation_words =
     (codes "phi", operations.Phi) ∷
     (codes "load", operations.Load) ∷
     (codes "store", operations.Store) ∷
+    (codes "call", operations.Call Unmarked) ∷
+    (codes "tail", operations.Call Tail) ∷
+    (codes "musttail", operations.Call MustTail) ∷
+    (codes "notail", operations.Call NoTail) ∷
     (codes "extractelement", operations.ExtractElement) ∷
     (codes "insertelement", operations.InsertElement) ∷
     (codes "shufflevector", operations.ShuffleVector) ∷
@@ -585,6 +675,7 @@ operation_behind operations.PtrToInt = ptrtoint
 operation_behind operations.Phi = phi
 operation_behind operations.Load = load
 operation_behind operations.Store = store
+operation_behind (operations.Call tail) = call_behind tail
 operation_behind operations.ExtractElement = extractelement
 operation_behind operations.InsertElement = insertelement
 operation_behind operations.ShuffleVector = shufflevector
@@ -632,62 +723,15 @@ block_tree x = record { label = x.0; insts = x.1.0 ++ x.1.1 ∷ [] }
 unfoldable pub block : Form WrittenBlock
 block = mapped block_tree (pair (optional label) (pair (many (line operation)) (line terminator)))
 
--- ---- what is kept
-
--- the words of types
-unfoldable pub type_words : List (List ℕ)
-type_words = codes "i1" ∷ codes "i8" ∷ codes "i16" ∷ codes "i32" ∷ codes "i64" ∷ codes "ptr" ∷ codes "void" ∷ []
-
--- the words with which values begin
-unfoldable pub value_words : List (List ℕ)
-value_words = codes "true" ∷ codes "false" ∷ codes "null" ∷ codes "poison" ∷ codes "zeroinitializer" ∷ codes "splat" ∷ codes "getelementptr" ∷ []
-
--- the words with which items begin
-unfoldable pub item_words : List (List ℕ × ItemWord)
-item_words =
-    (codes "source_filename", items.SourceFilename) ∷
-    (codes "target", items.Target) ∷
-    (codes "declare", items.Declare) ∷
-    (codes "define", items.Define) ∷
-    (codes "attributes", items.Attributes) ∷
-    []
-
--- the words with which instructions begin
-unfoldable pub instruction_words : List (List ℕ)
-instruction_words =
-    codes "add" ∷ codes "sub" ∷ codes "mul" ∷ codes "shl" ∷ codes "udiv" ∷ codes "sdiv" ∷ codes "lshr" ∷ codes "ashr" ∷ codes "urem" ∷ codes "srem" ∷
-    codes "and" ∷ codes "xor" ∷ codes "or" ∷ codes "icmp" ∷ codes "select" ∷ codes "freeze" ∷ codes "trunc" ∷ codes "zext" ∷ codes "sext" ∷ codes "ptrtoint" ∷
-    codes "phi" ∷ codes "load" ∷ codes "store" ∷ codes "tail" ∷ codes "musttail" ∷ codes "notail" ∷ codes "call" ∷ codes "extractelement" ∷
-    codes "insertelement" ∷ codes "shufflevector" ∷ codes "br" ∷ codes "switch" ∷ codes "ret" ∷ codes "unreachable" ∷ []
-
--- the words that no kept run has outside parentheses, but for `align` and `cc`, behind which a number may stand
-unfoldable pub excluded_words : List (List ℕ)
-excluded_words =
-    codes "align" ∷ codes "cc" ∷ codes "global" ∷ codes "constant" ∷ (type_words ++ (value_words ++ (map (λ e. e.0) item_words ++ (instruction_words ++ left_out_words))))
-
--- K
-unfoldable pub kept : Form KeptTexts
-kept = kept_run excluded_words
-
 -- ---- functions
 
 -- T K [%name]
 unfoldable pub parameter : Form WrittenParam
 parameter = mapped (λ x. record { ty = x.0; kept = x.1.0; name = x.1.1 }) (pair value_type (pair kept (optional local_name)))
 
--- parameters, behind which dots may stand
-abbrev pub dotted : List WrittenParam × Option (Unit {0}) → List WrittenParam × Bool
-dotted x = (x.0, is_some x.1)
-
--- no parameters and no dots
-abbrev pub or_no_params : Option (List WrittenParam × Bool) → List WrittenParam × Bool
-or_no_params None = ([], false)
-or_no_params (Some x) = x
-
 -- `...`, or T K [%name], .. [, ...], or nothing
 unfoldable pub dotted_parameters : Form (List WrittenParam × Bool)
-dotted_parameters =
-    mapped or_no_params (optional (either (mapped (λ _. ([], true)) (mark Dots)) (mapped dotted (pair (commas parameter) (optional (marked Comma (mark Dots)))))))
+dotted_parameters = dotted_list parameter
 
 -- the parts of a declared function, by their names
 abbrev pub declared_tree : KeptTexts × (Ty × (Name × ((List WrittenParam × Bool) × KeptTexts))) → WrittenFunction

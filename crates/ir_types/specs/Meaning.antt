@@ -1,5 +1,5 @@
 -- What a module does: its steps. A state in which the module says nothing of the next step stands still.
-use Rattle.std.specs.Prelude.{ℕ, replicate, ◌+◌, Bool, true, false, if◌then◌else◌, nat_eq, List, [], ◌∷◌, length, slice_get, find, take_while, Option, Some, None}
+use Rattle.std.specs.Prelude.{ℕ, map, replicate, ◌+◌, Bool, true, false, if◌then◌else◌, nat_eq, List, [], ◌∷◌, length, slice_get, find, take_while, Option, Some, None}
 use Rattle.forms.specs.Bind.{◌>>=◌}
 use Rattle.ir_types.specs.declared.name.Name.{Name}
 use Rattle.ir_types.specs.declared.name.ValueId.{ValueId}
@@ -8,7 +8,7 @@ use Rattle.ir_types.specs.declared.inst.Ty.TheVariants.{Int as IntTy, Ptr as Ptr
 use Rattle.ir_types.specs.declared.inst.Operand.{Operand}
 use Rattle.ir_types.specs.declared.inst.Operand.TheVariants.{Local, Int as IntOperand, Null, Poison as PoisonOperand, Lanes as LanesOperand}
 use Rattle.ir_types.specs.declared.inst.InstKind.{InstKind}
-use Rattle.ir_types.specs.declared.inst.InstKind.TheVariants.{Binary, Compare, Select, Freeze, Trunc, Zext, Sext, PtrToInt, Phi, Load, Store, Extract, Insert, Shuffle, Jump, Branch, Switch, Return, ReturnVoid, Unreachable}
+use Rattle.ir_types.specs.declared.inst.InstKind.TheVariants.{Binary, Compare, Select, Freeze, Trunc, Zext, Sext, PtrToInt, Phi, Load, Store, Call, Extract, Insert, Shuffle, Jump, Branch, Switch, Return, ReturnVoid, Unreachable}
 use Rattle.ir_types.specs.declared.inst.Inst.{Inst}
 use Rattle.ir_types.specs.declared.module.Block.{Block}
 use Rattle.ir_types.specs.declared.module.Param.{Param}
@@ -80,6 +80,7 @@ operand_types PtrToInt ty = PtrTy ∷ []
 operand_types Phi ty = []
 operand_types (Load align) ty = PtrTy ∷ []
 operand_types (Store of align) ty = of ∷ PtrTy ∷ []
+operand_types (Call callee) ty = map (λ a. a.ty) callee.actuals
 operand_types (Extract of width) ty = of ∷ IntTy width ∷ []
 operand_types (Insert element width) ty = ty ∷ element ∷ IntTy width ∷ []
 operand_types (Shuffle one other mask) ty = one ∷ other ∷ mask ∷ []

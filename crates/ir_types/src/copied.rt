@@ -1,8 +1,8 @@
 // Copies of modules and of their parts.
 
 use crate::{
-    Allocation, Block, Function, Inst, InstKind, MemTy, Module, Operand, Outcome, Param, Symbol,
-    TypeName, Value,
+    Actual, Allocation, Block, Callee, Function, Inst, InstKind, MemTy, Module, Operand, Outcome,
+    Param, Signature, Symbol, TypeName, Value,
 };
 use lists::Copies;
 use std::alloc::AllocError;
@@ -16,6 +16,41 @@ impl Copies for Operand {
             Operand::Poison => Ok(Operand::Poison),
             Operand::Lanes(lanes) => Ok(Operand::Lanes(lanes.copy()?)),
         }
+    }
+}
+
+impl Copies for Signature {
+    fn copy(&self) -> Result<Self, AllocError> {
+        Ok(Signature {
+            params: self.params.copy()?,
+            varargs: self.varargs,
+        })
+    }
+}
+
+impl Copies for Actual {
+    fn copy(&self) -> Result<Self, AllocError> {
+        Ok(Actual {
+            ty: self.ty,
+            kept: self.kept.copy()?,
+        })
+    }
+}
+
+impl Copies for Callee {
+    fn copy(&self) -> Result<Self, AllocError> {
+        let signature = match &self.signature {
+            Some(signature) => Some(signature.copy()?),
+            None => None,
+        };
+        Ok(Callee {
+            tail: self.tail,
+            before: self.before.copy()?,
+            signature,
+            name: self.name.copy()?,
+            actuals: self.actuals.copy()?,
+            after: self.after.copy()?,
+        })
     }
 }
 
@@ -33,6 +68,7 @@ impl Copies for InstKind {
             InstKind::Phi => Ok(InstKind::Phi),
             InstKind::Load(align) => Ok(InstKind::Load(*align)),
             InstKind::Store(ty, align) => Ok(InstKind::Store(*ty, *align)),
+            InstKind::Call(callee) => Ok(InstKind::Call(callee.copy()?)),
             InstKind::Extract(vector, width) => Ok(InstKind::Extract(*vector, *width)),
             InstKind::Insert(element, width) => Ok(InstKind::Insert(*element, *width)),
             InstKind::Shuffle(first, second, mask) => {

@@ -1,6 +1,6 @@
 // Instructions, their types and their operands.
 
-use crate::{Kept, ValueId};
+use crate::{Callee, Kept, ValueId};
 use lists::{Few, Items};
 
 /// A first-class type, or `Void` where there is no value.
@@ -138,6 +138,8 @@ pub enum InstKind {
     Load(u64),
     /// `store`: the value's type and the alignment in bytes. The operands are the value and the pointer.
     Store(Ty, u64),
+    /// `call`: what is called, and how. The operands are the arguments.
+    Call(Callee),
     /// `extractelement`: the vector's type and the index's width. The operands are the vector and the index.
     Extract(Ty, u32),
     /// `insertelement`: the element's type and the index's width. The operands are the vector, the element and the index.

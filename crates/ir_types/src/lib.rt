@@ -2,6 +2,7 @@
 //! which other modules it allows.
 #![tactic(auto)]
 
+mod call;
 mod copied;
 mod inst;
 mod memory_type;
@@ -10,6 +11,7 @@ mod name;
 mod opcode;
 mod value;
 
+pub use call::{Actual, Callee, Signature, TailKind};
 pub use inst::{BinOp, Flags, Inst, InstKind, Labels, Operand, Operands, Pred, Ty};
 pub use memory_type::{Extent, MemTy, NamedType, TypeId, TypeName};
 pub use module::{Block, FuncId, Function, Kept, Module, Param, Symbol, SymbolKind};

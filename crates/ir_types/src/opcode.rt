@@ -1,6 +1,6 @@
 // The words with which instructions and items begin.
 
-use crate::BinOp;
+use crate::{BinOp, TailKind};
 
 /// The words of instructions that don't end a block.
 #[derive(Clone, Copy, Debug, PartialEq, Eq)]
@@ -33,6 +33,8 @@ pub enum Operation {
     Load,
     /// `store`: into memory.
     Store,
+    /// `call`, or a word that stands before it.
+    Call(TailKind),
     /// `extractelement`: a lane of a vector.
     ExtractElement,
     /// `insertelement`: a vector with another lane.
