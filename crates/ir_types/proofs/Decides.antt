@@ -1,8 +1,8 @@
 -- One token ahead decides what the grammar reads; where a comma or a name with `=` leads, what stands behind it.
-use Rattle.std.proofs.Common.{◌≡◌, ℕ, zero, suc, true, false, List, [], ◌∷◌, codes, refl}
-use Rattle.forms.specs.declared.TokenKind.TheVariants.{Word}
-use Rattle.forms.specs.Form.{Form, many}
-use Rattle.forms.specs.Reading.{this, all_apart, decides, nullable, first, after}
+use Rattle.std.proofs.Common.{◌≡◌, ℕ, zero, suc, true, false, List, [], ◌∷◌, map, codes, refl}
+use Rattle.forms.specs.declared.TokenKind.TheVariants.{Local, Word, Number, Less}
+use Rattle.forms.specs.Form.{Form, pair, greedy, many}
+use Rattle.forms.specs.Reading.{this, any_of, all_apart, decides, nullable, first, after, hard}
 use Rattle.forms.specs.Nested.{PartsDecide, memory}
 use Rattle.forms.specs.Kept.{kept_piece, kept_run, metadata_node, attachment, attachments}
 use Rattle.forms.specs.LeftOut.{left_out_words}
@@ -39,6 +39,17 @@ items_decide m d n a o = rw (d, n, a, o) refl
 pub module_decides : (depth : ℕ) → decides (module_form depth) ≡ true
 unfolding module_form
 module_decides depth = items_decide (memory_type depth) (memory_decides type_parts parts_decide depth) (memory_takes type_parts parts_decide depth) (memory_after type_parts parts_decide depth) (not_opaque depth)
+
+-- ---- arguments: a kept run before a value
+
+-- a run goes on with nothing that begins a value but for a number behind `align` or `cc`, which it takes
+kept_before_values : all_apart (hard kept) (any_of Local ∷ any_of Number ∷ any_of Less ∷ map (λ w. this Word w) value_words) ≡ true
+unfolding kept_piece kept_run left_out_words type_words value_words item_words instruction_words excluded_words kept
+kept_before_values = refl
+
+argument_decides : decides (pair value_type (greedy kept value)) ≡ true
+unfolding local_name width vector_type value_type value kept_piece kept_run left_out_words type_words value_words item_words instruction_words excluded_words kept
+argument_decides = refl
 
 -- each of these takes a token
 
