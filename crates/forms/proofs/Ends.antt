@@ -2,8 +2,8 @@
 use Rattle.std.proofs.Common.{◌≡◌, ℕ, zero, suc, ◌+◌, ◌≤◌, Bool, true, false, cond, not, ◌||◌, List, [], ◌∷◌, ◌++◌, length, Option, Some, None, refl, ap, ◌∙◌, subst, append_assoc, length-append, arith, ◌⊎◌, inl, inr}
 use Rattle.std.proofs.lemmas.Bool.{and_from}
 use Rattle.forms.specs.declared.TokenKind.{TokenKind}
-use Rattle.forms.specs.Form.{Lexeme, exactly, one, one_but, same_text, entry, Spells, InOrder, IfThere}
-use Rattle.forms.specs.Reading.{◌>>=◌, Terminal, of_all, for_all, read_by_word, read_one_but, read_pair, next_in, read_each, read_exactly, read_one, all_apart}
+use Rattle.forms.specs.Form.{Lexeme, exactly, one, one_such, same_text, entry, Spells, InOrder, IfThere}
+use Rattle.forms.specs.Reading.{◌>>=◌, Terminal, of_all, for_all, read_by_word, read_one_such, read_pair, next_in, read_each, read_exactly, read_one, all_apart}
 use Rattle.forms.proofs.Parts.{for_entry}
 use Rattle.forms.proofs.Tokens.{kind_is, text_is}
 use Rattle.forms.proofs.Begins.{Begins, opened, not_opened, not_empty, split_next, later, test}
@@ -33,8 +33,8 @@ exactly_complete k s a used rest e _ = rw (e, and_from _ _ (kind_is k) (text_is 
 pub one_complete : (k : TokenKind) → Complete (Spells (one k)) (read_one k) []
 one_complete k a used rest e _ = rw (e, kind_is k) refl
 
-pub one_but_complete : (k : TokenKind) (ws : List (List ℕ)) → Complete (Spells (one_but k ws)) (read_one_but k ws) []
-one_but_complete k ws a used rest e _ = rw (e.0, kind_is k, e.1) refl
+pub one_such_complete : (k : TokenKind) (p : List ℕ → Bool) → Complete (Spells (one_such k p)) (read_one_such k p) []
+one_such_complete k p a used rest e _ = rw (e.0, kind_is k, e.1) refl
 
 pub ahead_complete : {A : Type 0} (k : TokenKind) (P : A → List Lexeme → Type 0) (r : List Lexeme → Option (A × List Lexeme)) (fa : List Terminal) → Complete P r fa
     → Complete (λ (c : List ℕ × A) ts. (rest : List Lexeme) × (ts ≡ record { kind = k; text = c.0 } ∷ rest) × P c.1 rest) (read_pair (read_one k) r) fa

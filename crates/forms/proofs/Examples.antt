@@ -1,7 +1,7 @@
 -- As many kept words as stand there before a value that may be a number.
 use Rattle.std.proofs.Common.{◌≡◌, ℕ, true, false, List, [], ◌∷◌, codes, Option, Some, None, refl}
 use Rattle.forms.specs.declared.TokenKind.TheVariants.{Quoted, Word, Number, AttributeGroup, Equal, LeftParen, RightParen}
-use Rattle.forms.specs.Form.{Lexeme, Form, exactly, one, one_but, enclosed, pair, greedy, either, mapped, optional, many}
+use Rattle.forms.specs.Form.{Lexeme, Form, exactly, one, one_such, is_none_of, enclosed, pair, greedy, either, mapped, optional, many}
 use Rattle.forms.specs.Reading.{decides, read_whole}
 
 data Piece : Type 0 where
@@ -19,7 +19,7 @@ numbered w = mapped (λ x. x.1) (pair (exactly Word w) (optional (one Number)))
 
 unfoldable piece : Form Piece
 piece =
-    either (mapped (λ x. plain x.0 x.1) (pair (one_but Word excluded) (optional (enclosed LeftParen RightParen))))
+    either (mapped (λ x. plain x.0 x.1) (pair (one_such Word (is_none_of excluded)) (optional (enclosed LeftParen RightParen))))
     (either (mapped aligned (numbered (codes "align")))
     (either (mapped convention (numbered (codes "cc")))
     (either (mapped (λ x. quoted x.0 x.1) (pair (one Quoted) (optional (mapped (λ x. x.1) (pair (exactly Equal []) (one Quoted))))))

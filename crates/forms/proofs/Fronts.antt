@@ -1,10 +1,10 @@
 -- With which token that begins which is read, whether or not one token ahead decides.
 use Rattle.std.proofs.Common.{false, cond, ◌&&◌, List, [], ◌∷◌, ◌++◌, length, Option, sym, subst, inl, inr}
 use Rattle.forms.specs.declared.TokenKind.TheVariants.{Word}
-use Rattle.forms.specs.Form.{Lexeme, Form, exactly, one, one_but, ahead, enclosed, up_to, pair, greedy, either, mapped, made, optional, many, by_word}
+use Rattle.forms.specs.Form.{Lexeme, Form, exactly, one, one_such, ahead, enclosed, up_to, pair, greedy, either, mapped, made, optional, many, by_word}
 use Rattle.forms.specs.Reading.{any_of, marks_then, nullable, first, opens, read}
 use Rattle.forms.proofs.Begins.{Begins, begins, by_token, entry_fits, ahead_begins, pair_begins, either_left, either_right, if_begins, each_begins}
-use Rattle.forms.proofs.Parts.{Sound, exactly_sound, one_sound, one_but_sound, enclosed_sound, up_to_sound, ahead_sound, pair_sound, either_sound, mapped_sound, made_sound, by_word_sound, optional_sound, each_sound}
+use Rattle.forms.proofs.Parts.{Sound, exactly_sound, one_sound, one_such_sound, enclosed_sound, up_to_sound, ahead_sound, pair_sound, either_sound, mapped_sound, made_sound, by_word_sound, optional_sound, each_sound}
 
 weaken : {A : Type 0} (P Q : A → List Lexeme → Type 0) (r : List Lexeme → Option (A × List Lexeme)) → Sound P r → ((a : A) (used : List Lexeme) → P a used → Q a used) → Sound Q r
 weaken P Q r s h ts x e = let t = s ts x e in record { used = t.used; parts = t.parts; spelled = h x.0 t.used t.spelled }
@@ -15,7 +15,7 @@ Front f a used = Begins (first f) (nullable f) used
 pub front : {A : Type 0} (f : Form A) → Sound (Front f) (read f)
 front (exactly k s) = weaken _ (Front (exactly k s)) _ (exactly_sound k s) (begins (exactly k s))
 front (one k) = weaken _ (Front (one k)) _ (one_sound k) (begins (one k))
-front (one_but k ws) = weaken _ (Front (one_but k ws)) _ (one_but_sound k ws) (begins (one_but k ws))
+front (one_such k p) = weaken _ (Front (one_such k p)) _ (one_such_sound k p) (begins (one_such k p))
 front (enclosed o c) = weaken _ (Front (enclosed o c)) _ (enclosed_sound o c) (begins (enclosed o c))
 front (up_to st) = weaken _ (Front (up_to st)) _ (up_to_sound st) (begins (up_to st))
 front (ahead k f) =

@@ -3,7 +3,7 @@ use Rattle.std.proofs.Common.{◌≡◌, ℕ, ◌≤◌, Bool, true, false, cond
 use Rattle.std.proofs.lemmas.Bool.{and_parts}
 use Rattle.forms.specs.declared.TokenKind.{TokenKind}
 use Rattle.forms.specs.declared.TokenKind.TheVariants.{Word}
-use Rattle.forms.specs.Form.{is_empty, step, for_some, runs, stops_at, Stops, Lexeme, Form, exactly, one, one_but, ahead, enclosed, up_to, pair, greedy, either, mapped, made, optional, many, by_word, entry, Spells, IfThere, IsLongest}
+use Rattle.forms.specs.Form.{is_empty, step, for_some, runs, stops_at, Stops, Lexeme, Form, exactly, one, one_such, ahead, enclosed, up_to, pair, greedy, either, mapped, made, optional, many, by_word, entry, Spells, IfThere, IsLongest}
 use Rattle.forms.specs.Reading.{◌>>=◌, Terminal, next_in, nullable, first, after, hard, opens, is_steady, read, read_one, read_pair, read_up_to, read_by_word, decides, all_apart}
 use Rattle.forms.proofs.Tokens.{kind_is}
 use Rattle.forms.proofs.Nests.{up_to_used, held, and_false}
@@ -181,7 +181,7 @@ reaches (exactly k s) d i = alone_reaches (Spells (exactly k s)) (read (exactly 
 reaches (one k) d i = alone_reaches (Spells (one k)) (read (one k)) (complete (one k) d)
 reaches (enclosed o c) d i = alone_reaches (Spells (enclosed o c)) (read (enclosed o c)) (complete (enclosed o c) d)
 reaches (up_to st) d i = λ a used rest x s e. run_reaches st (empty_is st.before_equal i) [] used rest x s.0 e
-reaches (one_but k ws) d i = alone_reaches (Spells (one_but k ws)) (read (one_but k ws)) (complete (one_but k ws) d)
+reaches (one_such k p) d i = alone_reaches (Spells (one_such k p)) (read (one_such k p)) (complete (one_such k p) d)
 reaches (ahead k f) d i = ahead_reaches k (Spells f) (read f) (reaches f d i)
 reaches (pair f g) d i =
     let p = and_parts (decides f) (decides g && all_apart (after f) (first g)) d in

@@ -3,8 +3,8 @@ use Rattle.std.proofs.Common.{◌≡◌, ℕ, zero, suc, Bool, true, false, cond
 use Rattle.std.proofs.lemmas.Bool.{and_parts}
 use Rattle.std.proofs.lemmas.Option.{cond_some}
 use Rattle.forms.specs.declared.TokenKind.{TokenKind}
-use Rattle.forms.specs.Form.{kind_code, Stops, same_text, Lexeme, exactly, one, one_but, enclosed, up_to, is_one_of, entry, Spells, InOrder, IfThere}
-use Rattle.forms.specs.Reading.{◌>>=◌, fits, this, any_of, any_but, read, read_each, read_one, read_one_but, read_pair, read_exactly, read_by_word, read_inside, read_up_to, for_all}
+use Rattle.forms.specs.Form.{kind_code, Stops, same_text, Lexeme, exactly, one, one_such, enclosed, up_to, entry, Spells, InOrder, IfThere}
+use Rattle.forms.specs.Reading.{◌>>=◌, fits, this, any_of, any_such, read, read_each, read_one, read_one_such, read_pair, read_exactly, read_by_word, read_inside, read_up_to, for_all}
 use Rattle.forms.specs.declared.TokenKind.TheVariants.{Word}
 use Rattle.forms.proofs.Nests.{inside_used, up_to_used}
 use Rattle.forms.proofs.Tokens.{same_kind, is_text}
@@ -64,17 +64,13 @@ one_sound k (t ∷ ts) x e =
     let made : List ℕ × List Lexeme = (t.text, ts) in
     subst (λ (y : List ℕ × List Lexeme). Takes (Spells (one k)) (t ∷ ts) y.0 y.1) (some_is made x (rw p.0 at e)) (record { used = t ∷ []; parts = refl; spelled = ap (λ (y : Lexeme). y ∷ []) et })
 
-not_true : (b : Bool) → not b ≡ true → b ≡ false
-not_true true e = absurd cc
-not_true false e = refl
-
-pub one_but_sound : (k : TokenKind) (ws : List (List ℕ)) → Sound (Spells (one_but k ws)) (read_one_but k ws)
-one_but_sound k ws [] x e = absurd cc
-one_but_sound k ws (t ∷ ts) x e =
-    let p = cond_some (fits (t ∷ ts) (any_but k ws)) (t.text, ts) x e in
-    let q = and_parts (eqb (kind_code t.kind) (kind_code k)) (not (is_one_of ws t.text)) p.0 in
+pub one_such_sound : (k : TokenKind) (p : List ℕ → Bool) → Sound (Spells (one_such k p)) (read_one_such k p)
+one_such_sound k p [] x e = absurd cc
+one_such_sound k p (t ∷ ts) x e =
+    let c = cond_some (fits (t ∷ ts) (any_such k p)) (t.text, ts) x e in
+    let q = and_parts (eqb (kind_code t.kind) (kind_code k)) (p t.text) c.0 in
     let et : t ≡ lexeme k t.text = ap (λ (m : TokenKind). lexeme m t.text) (same_kind t.kind k q.0) in
-    subst (λ (y : List ℕ × List Lexeme). Takes (Spells (one_but k ws)) (t ∷ ts) y.0 y.1) p.1 (record { used = t ∷ []; parts = refl; spelled = (ap (λ (y : Lexeme). y ∷ []) et, not_true _ q.1) })
+    subst (λ (y : List ℕ × List Lexeme). Takes (Spells (one_such k p)) (t ∷ ts) y.0 y.1) c.1 (record { used = t ∷ []; parts = refl; spelled = (ap (λ (y : Lexeme). y ∷ []) et, q.1) })
 
 pub ahead_sound : {A : Type 0} (k : TokenKind) (P : A → List Lexeme → Type 0) (r : List Lexeme → Option (A × List Lexeme)) → Sound P r
     → Sound (λ (c : List ℕ × A) ts. (rest : List Lexeme) × (ts ≡ lexeme k c.0 ∷ rest) × P c.1 rest) (read_pair (read_one k) r)

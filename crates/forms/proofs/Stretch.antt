@@ -4,10 +4,10 @@ use Rattle.std.proofs.lemmas.List.{append-nil}
 use Rattle.std.proofs.lemmas.Bool.{and_parts}
 use Rattle.forms.specs.declared.TokenKind.{TokenKind}
 use Rattle.forms.specs.declared.TokenKind.TheVariants.{Word}
-use Rattle.forms.specs.Form.{kind_code, Lexeme, Form, exactly, one, one_but, mapped, many, same_text, is_one_of, entry, Spells, IfThere, IsLongest}
-use Rattle.forms.specs.Reading.{◌>>=◌, Terminal, of_all, for_all, fits_one, next_in, nullable, first, opens, is_single, read, read_one, read_pair, read_by_word, all_apart}
+use Rattle.forms.specs.Form.{kind_code, Lexeme, Form, exactly, one, one_such, either, mapped, many, same_text, entry, Spells, IfThere, IsLongest}
+use Rattle.forms.specs.Reading.{◌>>=◌, Terminal, of_all, for_all, fits_one, next_in, nullable, first, opens, unfinished, read, read_one, read_pair, read_by_word, all_apart}
 use Rattle.forms.proofs.Tokens.{kind_is, same_kind, is_text}
-use Rattle.forms.proofs.Begins.{Begins, empty, by_token, begins, opened, not_opened, all_apart_none, split_next, later, test, not_true}
+use Rattle.forms.proofs.Begins.{Begins, empty, by_token, begins, opened, not_opened, all_apart_none, split_next, next_some, later, test, not_both}
 use Rattle.forms.proofs.Parts.{for_entry}
 use Rattle.forms.proofs.Ends.{Complete, entry_after}
 use Rattle.forms.proofs.Many.{many_step, many_done}
@@ -126,7 +126,7 @@ by_word_stretches table P r g q h c a used rest s stop =
       | inr l ↦ inr (record { next = l.next; more = l.more; value = l.value; parts = l.parts; spelled = (s.0, s.1, s.2 ++ l.next ∷ [], ap (λ (w : List Lexeme). w ++ l.next ∷ []) s.3, s.4, l.spelled) })
     ]
 
--- one token that opens a form of one token is all of it
+-- the first token alone spells a value
 pub record Alone {A : Type 0} (P : A → List Lexeme → Type 0) (ts : List Lexeme) : Type 0 where
   pub next : Lexeme
   pub more : List Lexeme
@@ -141,41 +141,39 @@ or_nothing false e = e
 token_is : (t : Lexeme) (k : TokenKind) → eqb (kind_code t.kind) (kind_code k) ≡ true → t ≡ record { kind = k; text = t.text }
 token_is t k e = ap (λ (m : TokenKind). record { kind = m; text = t.text }) (same_kind t.kind k e)
 
-pub alone : {A : Type 0} (f : Form A) → is_single f ≡ true → (ts : List Lexeme) → opens f ts ≡ true → Alone (Spells f) ts
-alone (exactly k s) d [] o = absurd cc
-alone (exactly k s) d (t ∷ ts) o =
+-- tokens open a form, and none of its values is left unfinished by the first
+pub alone : {A : Type 0} (f : Form A) (ts : List Lexeme) → opens f ts ≡ true → next_in (unfinished f) ts ≡ false → Alone (Spells f) ts
+alone (exactly k s) [] o n = absurd cc
+alone (exactly k s) (t ∷ ts) o n =
     let p = and_parts (eqb (kind_code t.kind) (kind_code k)) (same_text t.text s) (or_nothing _ o) in
     let et : t ≡ record { kind = k; text = s } = token_is t k p.0 ∙ ap (λ (w : List ℕ). record { kind = k; text = w }) (is_text t.text s p.1) in
     record { next = t; more = ts; value = tt; parts = refl; spelled = ap (λ (u : Lexeme). u ∷ []) et }
-alone (one k) d [] o = absurd cc
-alone (one k) d (t ∷ ts) o = record { next = t; more = ts; value = t.text; parts = refl; spelled = ap (λ (u : Lexeme). u ∷ []) (token_is t k (or_nothing _ o)) }
-alone (one_but k ws) d [] o = absurd cc
-alone (one_but k ws) d (t ∷ ts) o =
-    let p = and_parts (eqb (kind_code t.kind) (kind_code k)) (not (is_one_of ws t.text)) (or_nothing _ o) in
-    record { next = t; more = ts; value = t.text; parts = refl; spelled = (ap (λ (u : Lexeme). u ∷ []) (token_is t k p.0), not_true _ p.1) }
-alone (mapped h f) d ts o = let s = alone f d ts o in record { next = s.next; more = s.more; value = h s.value; parts = s.parts; spelled = (s.value, refl, s.spelled) }
-alone f d ts o = absurd cc
+alone (one k) [] o n = absurd cc
+alone (one k) (t ∷ ts) o n = record { next = t; more = ts; value = t.text; parts = refl; spelled = ap (λ (u : Lexeme). u ∷ []) (token_is t k (or_nothing _ o)) }
+alone (one_such k p) [] o n = absurd cc
+alone (one_such k p) (t ∷ ts) o n =
+    let q = and_parts (eqb (kind_code t.kind) (kind_code k)) (p t.text) (or_nothing _ o) in
+    record { next = t; more = ts; value = t.text; parts = refl; spelled = (ap (λ (u : Lexeme). u ∷ []) (token_is t k q.0), q.1) }
+alone (either f g) ts o n =
+    let q = split_next (unfinished f) (unfinished g) ts n in
+    elim (next_some (first f) (first g) ts o) [
+      | inl i ↦ let s = alone f ts i q.0 in record { next = s.next; more = s.more; value = s.value; parts = s.parts; spelled = inl s.spelled }
+      | inr i ↦ let s = alone g ts i q.1 in record { next = s.next; more = s.more; value = s.value; parts = s.parts; spelled = inr s.spelled }
+    ]
+alone (mapped h f) ts o n = let s = alone f ts o n in record { next = s.next; more = s.more; value = h s.value; parts = s.parts; spelled = (s.value, refl, s.spelled) }
+alone f ts o n = absurd (not_both (opens f ts) o n)
 
-not_single : (single : Bool) (ss : List Terminal) (ts : List Lexeme) → single ≡ false → next_in (cond single [] ss) ts ≡ false → next_in ss ts ≡ false
-not_single true ss ts d e = absurd cc
-not_single false ss ts d e = e
-
-pub optional_stretches : {A : Type 0} (P : A → List Lexeme → Type 0) (r : List Lexeme → Option (A × List Lexeme)) (hf ff : List Terminal) (n single : Bool) → n ≡ false → ((a : A) (used : List Lexeme) → P a used → Begins ff n used)
-    → (single ≡ true → (ts : List Lexeme) → next_in ff ts ≡ true → Alone P ts) → Stretches P r hf
-    → Stretches (IfThere P) (λ ts. cond (next_in ff ts) (r ts >>= λ x. Some (Some x.0, x.1)) (Some (None, ts))) (cond single [] ff ++ hf)
-optional_stretches P r hf ff n single en bp alone h (Some a) used rest s stop =
-    let i = split_next (cond single [] ff) hf rest stop in
+pub optional_stretches : {A : Type 0} (P : A → List Lexeme → Type 0) (r : List Lexeme → Option (A × List Lexeme)) (hf ff uf : List Terminal) (n : Bool) → n ≡ false → ((a : A) (used : List Lexeme) → P a used → Begins ff n used)
+    → ((ts : List Lexeme) → next_in ff ts ≡ true → next_in uf ts ≡ false → Alone P ts) → Stretches P r hf
+    → Stretches (IfThere P) (λ ts. cond (next_in ff ts) (r ts >>= λ x. Some (Some x.0, x.1)) (Some (None, ts))) (uf ++ hf)
+optional_stretches P r hf ff uf n en bp alone h (Some a) used rest s stop =
+    let i = split_next uf hf rest stop in
     let o : next_in ff (used ++ rest) ≡ true = opened ff n used rest en (bp a used s) in
     elim (h a used rest s i.1) [ inl e ↦ inl (rw (o, e) refl) | inr l ↦ inr (record { next = l.next; more = l.more; value = Some l.value; parts = l.parts; spelled = l.spelled }) ]
-optional_stretches P r hf ff n single en bp alone h None used rest e stop =
+optional_stretches P r hf ff uf n en bp alone h None used rest e stop =
     elim (test (next_in ff rest)) [
       | inr o ↦ inl (rw (e, o) refl)
-      | inl o ↦ elim (test single) [
-        | inl d ↦ let l = alone d rest o in inr (record { next = l.next; more = l.more; value = Some l.value; parts = l.parts; spelled = rw e l.spelled })
-        | inr d ↦
-            let i : next_in ff rest ≡ false = not_single single ff rest d (split_next (cond single [] ff) hf rest stop).0 in
-            absurd (let bad : true ≡ false = sym o ∙ i in cc)
-      ]
+      | inl o ↦ let l = alone rest o (split_next uf hf rest stop).0 in inr (record { next = l.next; more = l.more; value = Some l.value; parts = l.parts; spelled = rw e l.spelled })
     ]
 
 one_more : {A : Type 0} (f : Form A) (ts us rest : List Lexeme) (a : A) (more : List A) → nullable f ≡ false → opens f ts ≡ true → read f ts ≡ Some (a, us) → read (many f) us ≡ Some (more, rest) → read (many f) ts ≡ Some (a ∷ more, rest)

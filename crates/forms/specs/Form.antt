@@ -20,6 +20,10 @@ abbrev pub is_one_of : List (List ℕ) → List ℕ → Bool
 is_one_of [] w = false
 is_one_of (v ∷ vs) w = same_text v w || is_one_of vs w
 
+-- the text is none of these
+abbrev pub is_none_of : List (List ℕ) → List ℕ → Bool
+is_none_of ws w = not (is_one_of ws w)
+
 -- a number for each kind, by which a test can compare them: different kinds have different numbers (proofs/Tokens.antt, `same_kind`)
 abbrev pub kind_code : TokenKind → ℕ
 kind_code Quoted = 0
@@ -134,8 +138,8 @@ pub data Form : Type 0 → Type 1 where
   exactly : TokenKind → List ℕ → Form (Unit {0})
   -- a token of this kind, as its text
   one : TokenKind → Form (List ℕ)
-  -- a token of this kind that is none of these, as its text
-  one_but : TokenKind → List (List ℕ) → Form (List ℕ)
+  -- a token of this kind whose text passes the test, as that text
+  one_such : TokenKind → (List ℕ → Bool) → Form (List ℕ)
   -- a token of this kind, as its text, and a form behind it: read only where the form's beginning stands behind the token
   ahead : {A : Type 0} → TokenKind → Form A → Form (List ℕ × A)
   -- a balanced list behind a token of the first kind and before one of the second, which closes it, as its texts
@@ -182,7 +186,7 @@ entry (e ∷ es) w = if same_text w e.0 then Some e.1 else entry es w
 abbrev pub Spells : {A : Type 0} → Form A → A → List Lexeme → Type 0
 Spells (exactly k s) a ts = ts ≡ record { kind = k; text = s } ∷ []
 Spells (one k) a ts = ts ≡ record { kind = k; text = a } ∷ []
-Spells (one_but k ws) a ts = (ts ≡ record { kind = k; text = a } ∷ []) × (is_one_of ws a ≡ false)
+Spells (one_such k p) a ts = (ts ≡ record { kind = k; text = a } ∷ []) × (p a ≡ true)
 Spells (enclosed o c) a ts = (v : List ℕ) × (inner : List Lexeme) × (w : List ℕ) × (ts ≡ record { kind = o; text = v } ∷ (inner ++ record { kind = c; text = w } ∷ [])) × (nests [] inner ≡ true) × (a ≡ texts inner)
 Spells (up_to st) a ts = (runs st [] ts ≡ true) × (a ≡ texts ts)
 Spells (ahead k f) a ts = (rest : List Lexeme) × (ts ≡ record { kind = k; text = a.0 } ∷ rest) × Spells f a.1 rest

@@ -2,7 +2,7 @@
 use Rattle.std.specs.Prelude.{ℕ, Bool, true, false, not, ◌==◌, List, [], ◌∷◌, ◌++◌, codes, Option, Some, None, if◌then◌else◌}
 use Rattle.forms.specs.declared.TokenKind.{TokenKind}
 use Rattle.forms.specs.declared.TokenKind.TheVariants.{Quoted, Word, Number, Comma, Metadata, AttributeGroup, Bang, Equal, LeftParen, RightParen, LeftBrace, RightBrace}
-use Rattle.forms.specs.Form.{Form, exactly, one, one_but, ahead, enclosed, either, mapped, made, optional, many}
+use Rattle.forms.specs.Form.{Form, exactly, one, one_such, is_none_of, ahead, enclosed, either, mapped, made, optional, many}
 use Rattle.forms.specs.Combined.{or_none}
 use Rattle.forms.specs.Lexical.{is_digit}
 use Rattle.forms.specs.Nested.{concat, joined}
@@ -19,7 +19,7 @@ kept_token k w = mapped (λ _. w ∷ []) (exactly k w)
 abbrev pub kept_if : (List ℕ → Bool) → List ℕ → Option (List (List ℕ))
 kept_if p w = if p w then Some (w ∷ []) else None
 
--- a token of this kind for which the test holds
+-- a token of this kind, refused where its text does not pass the test
 abbrev pub kept_such : TokenKind → (List ℕ → Bool) → Form (List (List ℕ))
 kept_such k p = made (kept_if p) (one k)
 
@@ -39,16 +39,20 @@ in_braces = mapped (λ xs. codes "{" ∷ (xs ++ codes "}" ∷ [])) (enclosed Lef
 
 -- a word that is none of these, alone or followed by a balanced list in parentheses
 abbrev pub kept_word : List (List ℕ) → Form (List (List ℕ))
-kept_word excluded = joined (mapped (λ w. w ∷ []) (one_but Word excluded)) (perhaps in_parens)
+kept_word excluded = joined (mapped (λ w. w ∷ []) (one_such Word (is_none_of excluded))) (perhaps in_parens)
 
 -- digits without a sign
 abbrev pub is_unsigned : List ℕ → Bool
 is_unsigned [] = false
 is_unsigned (c ∷ ds) = not (c == 45)
 
+-- a number without a sign; behind a form that it may follow, one with a sign is left
+abbrev pub kept_unsigned : Form (List (List ℕ))
+kept_unsigned = mapped (λ w. w ∷ []) (one_such Number is_unsigned)
+
 -- a word that may also be followed by a number without a sign
 abbrev pub kept_numbered : List ℕ → Form (List (List ℕ))
-kept_numbered w = joined (kept_token Word w) (perhaps (either (kept_such Number is_unsigned) in_parens))
+kept_numbered w = joined (kept_token Word w) (perhaps (either kept_unsigned in_parens))
 
 -- a string, alone or followed by `=` and a string
 abbrev pub kept_string : Form (List (List ℕ))

@@ -2,7 +2,7 @@
 use Rattle.std.specs.Prelude.{ℕ, zero, suc, Bool, true, false, not, ◌&&◌, ◌||◌, List, [], ◌∷◌, ◌++◌, length, Option, Some, None, ◌==◌, if◌then◌else◌}
 use Rattle.forms.specs.declared.TokenKind.{TokenKind}
 use Rattle.forms.specs.declared.TokenKind.TheVariants.{Word, Equal}
-use Rattle.forms.specs.Form.{kind_code, is_closer, is_empty, step, has_kind, Stops, stops_at, Lexeme, Form, exactly, one, one_but, ahead, enclosed, up_to, pair, greedy, either, mapped, made, optional, many, by_word, same_text, is_one_of, entry}
+use Rattle.forms.specs.Form.{kind_code, is_closer, is_empty, step, has_kind, Stops, stops_at, Lexeme, Form, exactly, one, one_such, ahead, enclosed, up_to, pair, greedy, either, mapped, made, optional, many, by_word, same_text, is_one_of, entry}
 pub use Rattle.forms.specs.Bind.{◌>>=◌}
 
 -- what a token can be asked for
@@ -11,8 +11,8 @@ pub data Terminal : Type 0 where
   this : TokenKind → List ℕ → Terminal
   -- to be of this kind
   any_of : TokenKind → Terminal
-  -- to be of this kind, with none of these texts
-  any_but : TokenKind → List (List ℕ) → Terminal
+  -- to be of this kind, with a text that passes the test
+  any_such : TokenKind → (List ℕ → Bool) → Terminal
   -- to be of this kind, and what the token behind it can be asked for
   mark_then : TokenKind → Terminal → Terminal
   -- a token, and no stop
@@ -23,7 +23,7 @@ abbrev pub fits : List Lexeme → Terminal → Bool
 fits [] s = false
 fits (t ∷ ts) (this k s) = (kind_code t.kind == kind_code k) && same_text t.text s
 fits (t ∷ ts) (any_of k) = kind_code t.kind == kind_code k
-fits (t ∷ ts) (any_but k ws) = (kind_code t.kind == kind_code k) && not (is_one_of ws t.text)
+fits (t ∷ ts) (any_such k p) = (kind_code t.kind == kind_code k) && p t.text
 fits (t ∷ ts) (mark_then k s) = (kind_code t.kind == kind_code k) && fits ts s
 fits (t ∷ ts) (going_on st) = not (stops_at st (t ∷ ts))
 
@@ -41,7 +41,7 @@ next_in ss (t ∷ ts) = fits_one (t ∷ ts) ss
 abbrev pub nullable : {A : Type 0} → Form A → Bool
 nullable (exactly k s) = false
 nullable (one k) = false
-nullable (one_but k ws) = false
+nullable (one_such k p) = false
 nullable (ahead k f) = false
 nullable (enclosed o c) = false
 nullable (up_to st) = true
@@ -84,7 +84,7 @@ first (exactly k s) = this k s ∷ []
 first (one k) = any_of k ∷ []
 first (enclosed o c) = any_of o ∷ []
 first (up_to st) = going_on (at_once st) ∷ []
-first (one_but k ws) = any_but k ws ∷ []
+first (one_such k p) = any_such k p ∷ []
 first (ahead k f) = if nullable f then any_of k ∷ [] else marks_then k (first f)
 first (pair f g) = first f ++ (if nullable f then first g else [])
 first (greedy f g) = first f ++ (if nullable f then first g else [])
@@ -101,7 +101,7 @@ after (exactly k s) = []
 after (one k) = []
 after (enclosed o c) = []
 after (up_to st) = going_on st ∷ []
-after (one_but k ws) = []
+after (one_such k p) = []
 after (ahead k f) = after f
 after (pair f g) = after g ++ (if nullable g then after f else [])
 after (greedy f g) = after g
@@ -112,13 +112,14 @@ after (by_word table f) = of_all table (λ k. after (f k))
 after (optional f) = first f ++ after f
 after (many f) = first f ++ after f
 
--- a token takes all of the form
-abbrev pub is_single : {A : Type 0} → Form A → Bool
-is_single (exactly k s) = true
-is_single (one k) = true
-is_single (one_but k ws) = true
-is_single (mapped h f) = is_single f
-is_single f = false
+-- with which tokens a value can begin, but for those that are a value alone
+abbrev pub unfinished : {A : Type 0} → Form A → List Terminal
+unfinished (exactly k s) = []
+unfinished (one k) = []
+unfinished (one_such k p) = []
+unfinished (either f g) = unfinished f ++ unfinished g
+unfinished (mapped h f) = unfinished f
+unfinished f = first f
 
 -- with which tokens a value could go on, but for one token that would make a longer value
 abbrev pub hard : {A : Type 0} → Form A → List Terminal
@@ -126,7 +127,7 @@ hard (exactly k s) = []
 hard (one k) = []
 hard (enclosed o c) = []
 hard (up_to st) = going_on st ∷ []
-hard (one_but k ws) = []
+hard (one_such k p) = []
 hard (ahead k f) = hard f
 hard (pair f g) = hard g ++ (if nullable g then hard f else [])
 hard (greedy f g) = after g
@@ -134,7 +135,7 @@ hard (either f g) = hard f ++ hard g
 hard (mapped h f) = hard f
 hard (made h f) = after f
 hard (by_word table f) = of_all table (λ k. hard (f k))
-hard (optional f) = (if is_single f then [] else first f) ++ hard f
+hard (optional f) = unfinished f ++ hard f
 hard (many f) = first f ++ hard f
 
 -- no token behind a value takes from it
@@ -143,7 +144,7 @@ is_steady (exactly k s) = true
 is_steady (one k) = true
 is_steady (enclosed o c) = true
 is_steady (up_to st) = is_empty st.before_equal
-is_steady (one_but k ws) = true
+is_steady (one_such k p) = true
 is_steady (ahead k f) = is_steady f
 is_steady (pair f g) = is_steady f && is_steady g
 is_steady (greedy f g) = is_steady f && is_steady g
@@ -173,10 +174,10 @@ abbrev pub read_one : TokenKind → List Lexeme → Option (List ℕ × List Lex
 read_one k [] = None
 read_one k (t ∷ ts) = if fits (t ∷ ts) (any_of k) then Some (t.text, ts) else None
 
--- the same, where it is none of these
-abbrev pub read_one_but : TokenKind → List (List ℕ) → List Lexeme → Option (List ℕ × List Lexeme)
-read_one_but k ws [] = None
-read_one_but k ws (t ∷ ts) = if fits (t ∷ ts) (any_but k ws) then Some (t.text, ts) else None
+-- the same, where it passes the test
+abbrev pub read_one_such : TokenKind → (List ℕ → Bool) → List Lexeme → Option (List ℕ × List Lexeme)
+read_one_such k p [] = None
+read_one_such k p (t ∷ ts) = if fits (t ∷ ts) (any_such k p) then Some (t.text, ts) else None
 
 -- one value and then another
 abbrev pub read_pair : {A B : Type 0} → (List Lexeme → Option (A × List Lexeme)) → (List Lexeme → Option (B × List Lexeme)) → List Lexeme → Option ((A × B) × List Lexeme)
@@ -208,7 +209,7 @@ read (exactly k s) ts = read_exactly k s ts
 read (one k) ts = read_one k ts
 read (enclosed o c) ts = read_one o ts >>= λ x. read_inside c [] x.1
 read (up_to st) ts = read_up_to st [] ts
-read (one_but k ws) ts = read_one_but k ws ts
+read (one_such k p) ts = read_one_such k p ts
 read (ahead k f) ts = read_pair (read_one k) (read f) ts
 read (pair f g) ts = read_pair (read f) (read g) ts
 read (greedy f g) ts = read_pair (read f) (read g) ts
@@ -223,7 +224,7 @@ read (many f) ts = read_each (opens f) (read f) (length ts) ts
 abbrev pub kind_of : Terminal → TokenKind
 kind_of (this k s) = k
 kind_of (any_of k) = k
-kind_of (any_but k ws) = k
+kind_of (any_such k p) = k
 kind_of (mark_then k s) = k
 kind_of (going_on st) = Word
 
@@ -237,8 +238,8 @@ is_stop st s = has_kind st.kinds (kind_of s)
 -- no tokens fit both
 abbrev pub apart : Terminal → Terminal → Bool
 apart (this k s) (this l r) = not (kind_code k == kind_code l) || not (same_text s r)
-apart (this k s) (any_but l ws) = not (kind_code k == kind_code l) || is_one_of ws s
-apart (any_but k ws) (this l s) = not (kind_code k == kind_code l) || is_one_of ws s
+apart (this k s) (any_such l p) = not (kind_code k == kind_code l) || not (p s)
+apart (any_such k p) (this l s) = not (kind_code k == kind_code l) || not (p s)
 apart (mark_then k s) (mark_then l r) = not (kind_code k == kind_code l) || apart s r
 apart (going_on st) r = is_stop st r
 apart s (going_on st) = is_stop st s
@@ -260,7 +261,7 @@ decides (exactly k s) = true
 decides (one k) = true
 decides (enclosed o c) = is_closer c
 decides (up_to st) = not (has_kind st.kinds Equal) && not (has_kind st.before_equal Equal)
-decides (one_but k ws) = true
+decides (one_such k p) = true
 decides (ahead k f) = decides f
 decides (pair f g) = decides f && (decides g && all_apart (after f) (first g))
 decides (greedy f g) = decides f && (decides g && (is_steady f && (not (nullable g) && all_apart (hard f) (first g))))

@@ -5,8 +5,8 @@ use Rattle.std.proofs.lemmas.Option.{cond_some}
 use Rattle.forms.specs.declared.TokenKind.{TokenKind}
 use Rattle.forms.specs.declared.TokenKind.TheVariants.{Quoted, Word, Number, Metadata, AttributeGroup, Bang, Equal, LeftParen, RightParen, LeftBrace, RightBrace}
 use Rattle.forms.specs.Combined.{or_none}
-use Rattle.forms.specs.Form.{Lexeme, Form, Stops, one_but, enclosed, up_to, either, mapped, many, Spells, InOrder, IfThere, texts}
-use Rattle.forms.specs.Kept.{kept_one, kept_token, kept_such, perhaps, in_parens, in_braces, kept_word, kept_numbered, kept_string, kept_piece, kept_run, is_unsigned, is_numbered, is_named, metadata_node, attachment, attachments, kept_behind_comma}
+use Rattle.forms.specs.Form.{Lexeme, Form, Stops, one_such, is_none_of, enclosed, up_to, either, mapped, many, Spells, InOrder, IfThere, texts}
+use Rattle.forms.specs.Kept.{kept_one, kept_token, kept_such, perhaps, in_parens, in_braces, kept_word, kept_unsigned, kept_numbered, kept_string, kept_piece, kept_run, is_unsigned, is_numbered, is_named, metadata_node, attachment, attachments, kept_behind_comma}
 use Rattle.forms.specs.Lexical.{kind_of, LexesTo, here, space, comment, token}
 use Rattle.forms.specs.Nested.{concat, joined}
 use Rattle.forms.proofs.MarkTexts.{left_paren, right_paren, left_brace, right_brace}
@@ -36,8 +36,8 @@ are_lexed text ts rest (token kind word h l) = (h.token, are_lexed _ _ rest l)
 pub verbatim_one : (k : TokenKind) → Verbatim (kept_one k)
 verbatim_one k = record { says = λ kept ts h s. sym s.1 ∙ sym (ap texts s.2) }
 
-pub verbatim_one_but : (k : TokenKind) (ws : List (List ℕ)) → Verbatim (mapped (λ w. w ∷ []) (one_but k ws))
-verbatim_one_but k ws = record { says = λ kept ts h s. sym s.1 ∙ sym (ap texts s.2.0) }
+pub verbatim_one_such : (k : TokenKind) (p : List ℕ → Bool) → Verbatim (mapped (λ w. w ∷ []) (one_such k p))
+verbatim_one_such k p = record { says = λ kept ts h s. sym s.1 ∙ sym (ap texts s.2.0) }
 
 pub verbatim_token : (k : TokenKind) (w : List ℕ) → Verbatim (kept_token k w)
 verbatim_token k w = record { says = λ kept ts h s. sym s.1 ∙ sym (ap texts s.2) }
@@ -114,12 +114,12 @@ verbatim_braces = verbatim_enclosed LeftBrace RightBrace (codes "{") (codes "}")
 -- ---- runs
 
 verbatim_word : (ws : List (List ℕ)) → Verbatim (kept_word ws)
-verbatim_word ws = verbatim_joined (mapped (λ w. w ∷ []) (one_but Word ws)) (perhaps in_parens) (verbatim_one_but Word ws) (verbatim_perhaps in_parens verbatim_parens)
+verbatim_word ws = verbatim_joined (mapped (λ w. w ∷ []) (one_such Word (is_none_of ws))) (perhaps in_parens) (verbatim_one_such Word (is_none_of ws)) (verbatim_perhaps in_parens verbatim_parens)
 
 verbatim_numbered : (w : List ℕ) → Verbatim (kept_numbered w)
 verbatim_numbered w =
-    let number = either (kept_such Number is_unsigned) in_parens in
-    verbatim_joined (kept_token Word w) (perhaps number) (verbatim_token Word w) (verbatim_perhaps number (verbatim_either (kept_such Number is_unsigned) in_parens (verbatim_such Number is_unsigned) verbatim_parens))
+    let number = either kept_unsigned in_parens in
+    verbatim_joined (kept_token Word w) (perhaps number) (verbatim_token Word w) (verbatim_perhaps number (verbatim_either kept_unsigned in_parens (verbatim_one_such Number is_unsigned) verbatim_parens))
 
 verbatim_string : Verbatim kept_string
 verbatim_string =

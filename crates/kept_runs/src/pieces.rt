@@ -1,10 +1,10 @@
 // Kept runs and their pieces.
 
 ghost use Rattle.std.specs.Prelude.{◌≡◌, map, codes};
-ghost use Rattle.forms.specs.declared.TokenKind.TheVariants.{Word, Number, Equal, Quoted, AttributeGroup};
+ghost use Rattle.forms.specs.declared.TokenKind.TheVariants.{Word, Equal, Quoted, AttributeGroup};
 ghost use Rattle.forms.specs.Form.{either};
 ghost use Rattle.forms.specs.Gives.{Gives, left};
-ghost use Rattle.forms.specs.Kept.{is_unsigned, kept_one, kept_such, perhaps, in_parens, kept_word, kept_numbered, kept_string, kept_piece, kept_run};
+ghost use Rattle.forms.specs.Kept.{is_unsigned, kept_one, perhaps, in_parens, kept_word, kept_unsigned, kept_numbered, kept_string, kept_piece, kept_run};
 ghost use Rattle.forms.specs.Machine.{behind};
 ghost use Rattle.forms.specs.Nested.{joined};
 ghost use Rattle.forms.specs.Reading.{read, opens};
@@ -51,13 +51,23 @@ fn is_unsigned(text: &[u8]) -> bool
     }
 }
 
+/// Whether a number without a sign stands next.
+fn begins_unsigned(tokens: Cursor<'_>) -> bool
+    ensures { result ≡ opens kept_unsigned (left tokens.entry) }
+{
+    match tokens.split_first() {
+        Some((TokenKind::Number, text, _)) => is_unsigned(text),
+        _ => false,
+    }
+}
+
 /// Keeps a number without a sign.
 ///
 /// # Errors
 ///
 /// Where none stands next, or there is no room.
 pub fn keep_unsigned<'t>(tokens: Cursor<'t>, texts: &mut Texts) -> Result<Cursor<'t>, SyntaxFault>
-    ensures { Gives (λ rest. (texts.new, left rest)) result (behind texts.old (read (kept_such Number is_unsigned) (left tokens.entry))) }
+    ensures { Gives (λ rest. (texts.new, left rest)) result (behind texts.old (read kept_unsigned (left tokens.entry))) }
 {
     let (text, rest) = tokens.one(TokenKind::Number)?;
     if !is_unsigned(text) {
@@ -73,9 +83,9 @@ fn perhaps_number<'t>(
     tokens: Cursor<'t>,
     texts: &mut Texts,
 ) -> Result<Cursor<'t>, SyntaxFault>
-    ensures { Gives (λ rest. (texts.new, left rest)) result (behind texts.old (read (perhaps (either (kept_such Number is_unsigned) in_parens)) (left tokens.entry))) }
+    ensures { Gives (λ rest. (texts.new, left rest)) result (behind texts.old (read (perhaps (either kept_unsigned in_parens)) (left tokens.entry))) }
 {
-    if tokens.is_next(TokenKind::Number) {
+    if begins_unsigned(tokens) {
         return keep_unsigned(tokens, texts);
     }
     perhaps_parens(alloc, tokens, texts)
