@@ -12,11 +12,16 @@ use Rattle.ir_types.specs.declared.name.Name.{Name}
 use Rattle.ir_types.specs.declared.name.Name.TheVariants.{Text, Number}
 use Rattle.ir_types.specs.declared.inst.Ty.TheVariants.{Int, Ptr, Vector, Void}
 use Rattle.ir_types.specs.declared.inst.Pred.TheVariants.{Eq, Slt}
-use Rattle.ir_types.specs.declared.inst.InstKind.TheVariants.{Binary, Compare, Select, Freeze, Trunc, Zext, Sext, PtrToInt, Phi, Load, Store, Extract, Insert, Shuffle, Jump, Branch, Switch, Return, ReturnVoid, Unreachable}
+use Rattle.ir_types.specs.declared.call.Actual.{Actual}
+use Rattle.ir_types.specs.declared.call.Signature.{Signature}
+use Rattle.ir_types.specs.declared.call.TailKind.{TailKind}
+use Rattle.ir_types.specs.declared.call.TailKind.TheVariants.{Unmarked, Tail, MustTail, NoTail}
+use Rattle.ir_types.specs.declared.inst.InstKind.{InstKind}
+use Rattle.ir_types.specs.declared.inst.InstKind.TheVariants.{Binary, Compare, Select, Freeze, Trunc, Zext, Sext, PtrToInt, Phi, Load, Store, Call, Extract, Insert, Shuffle, Jump, Branch, Switch, Return, ReturnVoid, Unreachable}
 use Rattle.ir_types.specs.declared.inst.BinOp.TheVariants.{Add, Sub, Mul, Shl, UDiv, AShr, And, Or, Xor}
 use Rattle.ir_types.specs.Written.{number_of, number_at, unescaped, name_behind, name_before}
 use Rattle.ir_types.specs.TypeNodes.{TypeNode, scalar, called, array, opening, closing}
-use Rattle.ir_types.specs.Tree.{OperandTree, local, number, null, poison, lanes, InstTree, BlockTree, FunctionTree, WrittenFunction, TypeNameTree, defined, opaque, missing, ModuleTree, Item, head_line, comdat_line, type_item, variable_item, function_item, metadata_line}
+use Rattle.ir_types.specs.Tree.{KeptTexts, OperandTree, local, number, null, poison, lanes, InstTree, BlockTree, FunctionTree, WrittenFunction, TypeNameTree, defined, opaque, missing, ModuleTree, Item, head_line, comdat_line, type_item, variable_item, function_item, metadata_line}
 use Rattle.ir_types.specs.Grammar.{local_name, global_name, label, width, vector_type, value_type, return_type, lane, constant_word, typed_lane, value, typed_value, typed_pair, pointer_value, index_value, target, alignment, overflowing, possibly_exact, plain_binary, or_operation, predicates, compared, compare, select, freeze, trunc, zext, sext, ptrtoint, entry_of_phi, phi, load, store, argument, signature, call, extractelement, insertelement, shufflevector, branch, case_of_switch, switch, ret, inst_attachments, bare_inst, named_by, with_kept, no_flags, wrap_flags, exact_flag, disjoint_flag, operation_words, operation, terminator_words, terminator, block, type_words, value_words, item_words, instruction_words, excluded_words, kept, memory_leaf, array_begin, type_parts, parameter, dotted_parameters, declared_function, defined_function, target_line, attribute_group, comdat, metadata, type_definition, initialiser_stops, extra_behind, behind_type, variable_word, variable_definition, item, module_form}
 use Rattle.ir_types.specs.Sizes.{Layout, value_size, struct_layout}
 use Rattle.ir_types.specs.Numbered.{numbered_module}
@@ -301,6 +306,34 @@ record Instructions : Type 0 where
 instructions : Instructions
 unfolding table local_name global_name label width vector_type value_type return_type lane constant_word typed_lane value typed_value typed_pair pointer_value index_value target alignment overflowing possibly_exact plain_binary or_operation predicates compared compare select freeze trunc zext sext ptrtoint entry_of_phi phi load store argument signature call extractelement insertelement shufflevector branch case_of_switch switch ret inst_attachments operation_words operation terminator_words terminator block kept_piece kept_run metadata_node attachment attachments left_out_words type_words value_words item_words instruction_words excluded_words kept memory_leaf array_begin type_parts parameter dotted_parameters declared_function defined_function target_line attribute_group comdat metadata type_definition initialiser_stops extra_behind behind_type variable_word variable_definition item module_form
 instructions = record { wraps = refl; one_wrap = refl; twice = refl; exactly_so = refl; inexact = refl; apart_bits = refl; no_wraps = refl; chosen = refl; fewer_bits = refl; more_bits = refl; sign_bits = refl; address = refl; natural = refl; aligned_load = refl; signed_load = refl; stored = refl; stored_so = refl; a_lane = refl; another_lane = refl; mixed_lanes = refl; joined_values = refl; joined_numbers = refl; switched = refl; no_cases = refl; wide_case = refl; comma_case = refl; true_case = refl; never = refl; no_attachment = refl }
+
+-- ---- calls
+
+-- what is called by the name f
+abbrev called_f : TailKind → KeptTexts → Option Signature → List Actual → KeptTexts → InstKind
+called_f tail before signature actuals after = Call (record { tail = tail; before = before; signature = signature; name = Text (codes "f"); actuals = actuals; after = after })
+
+record Calls : Type 0 where
+  whole : inst (codes "tail call fastcc noundef i32 ( i32 , ... ) @f ( i32 noundef %x , ptr align 8 null ) #0 , !a !0")
+      ≡ Some (with_kept (bare_inst (called_f Tail (codes "fastcc" ∷ codes "noundef" ∷ []) (Some (record { params = Int 32 ∷ []; varargs = true }))
+      (record { ty = Int 32; kept = codes "noundef" ∷ [] } ∷ record { ty = Ptr; kept = codes "align" ∷ codes "8" ∷ [] } ∷ []) (codes "#0" ∷ [])) (Int 32) (x ∷ null ∷ []) []) (codes "," ∷ codes "!a" ∷ codes "!0" ∷ []))
+  bare : inst (codes "call void @f ( )") ≡ Some (bare_inst (called_f Unmarked [] None [] []) Void [] [])
+  dots : inst (codes "musttail call void ( ... ) @f ( )") ≡ Some (bare_inst (called_f MustTail [] (Some (record { params = []; varargs = true })) [] []) Void [] [])
+  no_types : inst (codes "notail call void ( ) @f ( )") ≡ Some (bare_inst (called_f NoTail [] (Some (record { params = []; varargs = false })) [] []) Void [] [])
+  -- a number behind `align` is the run's, one with a sign is the value
+  aligned_value : inst (codes "call void @f ( i8 align 4 5 )") ≡ Some (bare_inst (called_f Unmarked [] None (record { ty = Int 8; kept = codes "align" ∷ codes "4" ∷ [] } ∷ []) []) Void (number 5 ∷ []) [])
+  signed_value : inst (codes "call void @f ( i8 align -4 )") ≡ Some (bare_inst (called_f Unmarked [] None (record { ty = Int 8; kept = codes "align" ∷ [] } ∷ []) []) Void (number 252 ∷ []) [])
+  no_value : inst (codes "call void @f ( i8 align 4 )") ≡ None
+  only_comma : inst (codes "call void ( , ... ) @f ( )") ≡ None
+  argument_comma : inst (codes "call void @f ( i8 5 , )") ≡ None
+  dots_argument : inst (codes "call void @f ( i8 5 , ... )") ≡ None
+  local_callee : inst (codes "call void %f ( )") ≡ None
+  no_call : inst (codes "tail void @f ( )") ≡ None
+  two_words : inst (codes "tail musttail call void @f ( )") ≡ None
+
+calls : Calls
+unfolding table local_name global_name label width vector_type value_type return_type lane constant_word typed_lane value typed_value typed_pair pointer_value index_value target alignment overflowing possibly_exact plain_binary or_operation predicates compared compare select freeze trunc zext sext ptrtoint entry_of_phi phi load store argument signature call extractelement insertelement shufflevector branch case_of_switch switch ret inst_attachments operation_words operation terminator_words terminator block kept_piece kept_run metadata_node attachment attachments left_out_words type_words value_words item_words instruction_words excluded_words kept memory_leaf array_begin type_parts parameter dotted_parameters declared_function defined_function target_line attribute_group comdat metadata type_definition initialiser_stops extra_behind behind_type variable_word variable_definition item module_form
+calls = record { whole = refl; bare = refl; dots = refl; no_types = refl; aligned_value = refl; signed_value = refl; no_value = refl; only_comma = refl; argument_comma = refl; dots_argument = refl; local_callee = refl; no_call = refl; two_words = refl }
 
 -- ---- items
 
