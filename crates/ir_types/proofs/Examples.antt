@@ -1,7 +1,7 @@
 -- Worked examples of what names, numbers and texts stand for.
 use Rattle.std.specs.List.{filter_map}
 use Rattle.std.proofs.Common.{◌≡◌, ℕ, true, false, length, take, ◌+◌, ◌%◌, ◌^◌, List, [], ◌∷◌, ◌++◌, map, codes, Option, Some, None, if◌then◌else◌, eqb, refl, Bool}
-use Rattle.std.specs.Prelude.{is_some}
+use Rattle.std.specs.Prelude.{is_some, slice_get, ◌-◌}
 use Rattle.forms.specs.declared.TokenKind.{TokenKind}
 use Rattle.forms.specs.Form.{Lexeme}
 use Rattle.forms.specs.Lexical.{kind_of, table}
@@ -16,16 +16,15 @@ use Rattle.ir_types.specs.declared.call.Actual.{Actual}
 use Rattle.ir_types.specs.declared.call.Signature.{Signature}
 use Rattle.ir_types.specs.declared.call.TailKind.{TailKind}
 use Rattle.ir_types.specs.declared.call.TailKind.TheVariants.{Unmarked, Tail, MustTail, NoTail}
-use Rattle.ir_types.specs.declared.inst.InstKind.{InstKind}
-use Rattle.ir_types.specs.declared.inst.InstKind.TheVariants.{Binary, Compare, Select, Freeze, Trunc, Zext, Sext, PtrToInt, Phi, Load, Store, Call, Extract, Insert, Shuffle, Jump, Branch, Switch, Return, ReturnVoid, Unreachable}
+use Rattle.ir_types.specs.Kinds.{Kind, Offset, Binary, Compare, Select, Freeze, Trunc, Zext, Sext, PtrToInt, Phi, Load, Store, Call, Extract, Insert, Shuffle, Jump, Branch, Switch, Return, ReturnVoid, Unreachable}
 use Rattle.ir_types.specs.declared.inst.BinOp.TheVariants.{Add, Sub, Mul, Shl, UDiv, AShr, And, Or, Xor}
 use Rattle.ir_types.specs.Written.{number_of, number_at, unescaped, name_behind, name_before}
 use Rattle.ir_types.specs.TypeNodes.{TypeNode, scalar, called, array, opening, closing}
-use Rattle.ir_types.specs.Tree.{KeptTexts, OperandTree, local, number, null, poison, lanes, InstTree, BlockTree, FunctionTree, WrittenFunction, TypeNameTree, defined, opaque, missing, ModuleTree, Item, head_line, comdat_line, type_item, variable_item, function_item, metadata_line}
-use Rattle.ir_types.specs.Grammar.{local_name, global_name, label, width, vector_type, value_type, return_type, lane, constant_word, typed_lane, value, typed_value, typed_pair, pointer_value, index_value, target, alignment, overflowing, possibly_exact, plain_binary, or_operation, predicates, compared, compare, select, freeze, trunc, zext, sext, ptrtoint, entry_of_phi, phi, load, store, argument, signature, call, extractelement, insertelement, shufflevector, branch, case_of_switch, switch, ret, inst_attachments, bare_inst, named_by, with_kept, no_flags, wrap_flags, exact_flag, disjoint_flag, operation_words, operation, terminator_words, terminator, block, type_words, value_words, item_words, instruction_words, excluded_words, kept, memory_leaf, array_begin, type_parts, parameter, dotted_parameters, declared_function, defined_function, target_line, attribute_group, comdat, metadata, type_definition, initialiser_stops, extra_behind, behind_type, variable_word, variable_definition, item, module_form}
+use Rattle.ir_types.specs.Tree.{KeptTexts, OperandTree, local, number, null, poison, lanes, global, InstTree, BlockTree, FunctionTree, WrittenFunction, TypeNameTree, defined, opaque, missing, ModuleTree, Item, head_line, comdat_line, type_item, variable_item, function_item, metadata_line}
+use Rattle.ir_types.specs.Grammar.{local_name, global_name, label, width, vector_type, value_type, return_type, three_flags, inst_memory, lane, constant_word, typed_lane, constant_offset, value, typed_value, typed_pair, pointer_value, index_value, target, alignment, overflowing, possibly_exact, plain_binary, or_operation, predicates, compared, compare, select, freeze, trunc, zext, sext, ptrtoint, entry_of_phi, phi, getelementptr, load, store, argument, signature, call, extractelement, insertelement, shufflevector, branch, case_of_switch, switch, ret, inst_attachments, bare_inst, named_by, with_kept, no_flags, wrap_flags, exact_flag, disjoint_flag, operation_words, operation, terminator_words, terminator, block, type_words, value_words, item_words, instruction_words, excluded_words, kept, memory_leaf, array_begin, type_parts, parameter, dotted_parameters, declared_function, defined_function, target_line, attribute_group, comdat, metadata, type_definition, initialiser_stops, extra_behind, behind_type, variable_word, variable_definition, item, module_form}
 use Rattle.ir_types.specs.Sizes.{Layout, value_size, struct_layout}
 use Rattle.ir_types.specs.Numbered.{numbered_module}
-use Rattle.ir_types.specs.Collected.{as_function, resolved_module}
+use Rattle.ir_types.specs.Collected.{as_function, collected}
 
 -- a backslash, and a string between quotation marks
 abbrev slash : ℕ
@@ -223,7 +222,7 @@ record Readings : Type 0 where
   no_next : names_in (codes "define i32 @f ( ) { %4294967295 = add i32 1 , 2 add i32 1 , 2 ret i32 0 }") ≡ None
 
 readings : Readings
-unfolding table local_name global_name label width vector_type value_type return_type lane constant_word typed_lane value typed_value typed_pair pointer_value index_value target alignment overflowing possibly_exact plain_binary or_operation predicates compared compare select freeze trunc zext sext ptrtoint entry_of_phi phi load store argument signature call extractelement insertelement shufflevector branch case_of_switch switch ret inst_attachments operation_words operation terminator_words terminator block kept_piece kept_run metadata_node attachment attachments left_out_words type_words value_words item_words instruction_words excluded_words kept memory_leaf array_begin type_parts parameter dotted_parameters declared_function defined_function target_line attribute_group comdat metadata type_definition initialiser_stops extra_behind behind_type variable_word variable_definition item module_form
+unfolding table local_name global_name label width vector_type value_type return_type three_flags inst_memory lane constant_word typed_lane constant_offset value typed_value typed_pair pointer_value index_value target alignment overflowing possibly_exact plain_binary or_operation predicates compared compare select freeze trunc zext sext ptrtoint entry_of_phi phi getelementptr load store argument signature call extractelement insertelement shufflevector branch case_of_switch switch ret inst_attachments operation_words operation terminator_words terminator block kept_piece kept_run metadata_node attachment attachments left_out_words type_words value_words item_words instruction_words excluded_words kept memory_leaf array_begin type_parts parameter dotted_parameters declared_function defined_function target_line attribute_group comdat metadata type_definition initialiser_stops extra_behind behind_type variable_word variable_definition item module_form
 readings = record { whole = refl; numbers = refl; none = refl; operands = refl; no_block = refl; no_terminator = refl; open_block = refl; parameter_comma = refl; only_comma = refl; operand_comma = refl; entry_comma = refl; no_entries = refl; one_target = refl; three_lanes = refl; signed_lanes = refl; other_type = refl; fraction = refl; great_name = refl; in_order = refl; unnamed_block = refl; written_number = refl; used_number = refl; last_number = refl; no_next = refl }
 
 -- ---- instructions
@@ -263,7 +262,7 @@ record Values : Type 0 where
   lane_comma : inst (codes "freeze < 2 x i8 > < i8 7 , >") ≡ None
 
 values : Values
-unfolding table local_name global_name label width vector_type value_type return_type lane constant_word typed_lane value typed_value typed_pair pointer_value index_value target alignment overflowing possibly_exact plain_binary or_operation predicates compared compare select freeze trunc zext sext ptrtoint entry_of_phi phi load store argument signature call extractelement insertelement shufflevector branch case_of_switch switch ret inst_attachments operation_words operation terminator_words terminator block kept_piece kept_run metadata_node attachment attachments left_out_words type_words value_words item_words instruction_words excluded_words kept memory_leaf array_begin type_parts parameter dotted_parameters declared_function defined_function target_line attribute_group comdat metadata type_definition initialiser_stops extra_behind behind_type variable_word variable_definition item module_form
+unfolding table local_name global_name label width vector_type value_type return_type three_flags inst_memory lane constant_word typed_lane constant_offset value typed_value typed_pair pointer_value index_value target alignment overflowing possibly_exact plain_binary or_operation predicates compared compare select freeze trunc zext sext ptrtoint entry_of_phi phi getelementptr load store argument signature call extractelement insertelement shufflevector branch case_of_switch switch ret inst_attachments operation_words operation terminator_words terminator block kept_piece kept_run metadata_node attachment attachments left_out_words type_words value_words item_words instruction_words excluded_words kept memory_leaf array_begin type_parts parameter dotted_parameters declared_function defined_function target_line attribute_group comdat metadata type_definition initialiser_stops extra_behind behind_type variable_word variable_definition item module_form
 values = record { numbers = refl; truths = refl; null_pointer = refl; poison_lanes = refl; all_zero = refl; bits = refl; few_lanes = refl; zero_number = refl; number_lanes = refl; pointer_splat = refl; other_lanes = refl; other_splat = refl; open_lane = refl; null_lane = refl; zero_lane = refl; no_lanes = refl; lane_comma = refl }
 
 record Instructions : Type 0 where
@@ -304,13 +303,13 @@ record Instructions : Type 0 where
   no_attachment : last_inst (codes "unreachable , !0") ≡ None
 
 instructions : Instructions
-unfolding table local_name global_name label width vector_type value_type return_type lane constant_word typed_lane value typed_value typed_pair pointer_value index_value target alignment overflowing possibly_exact plain_binary or_operation predicates compared compare select freeze trunc zext sext ptrtoint entry_of_phi phi load store argument signature call extractelement insertelement shufflevector branch case_of_switch switch ret inst_attachments operation_words operation terminator_words terminator block kept_piece kept_run metadata_node attachment attachments left_out_words type_words value_words item_words instruction_words excluded_words kept memory_leaf array_begin type_parts parameter dotted_parameters declared_function defined_function target_line attribute_group comdat metadata type_definition initialiser_stops extra_behind behind_type variable_word variable_definition item module_form
+unfolding table local_name global_name label width vector_type value_type return_type three_flags inst_memory lane constant_word typed_lane constant_offset value typed_value typed_pair pointer_value index_value target alignment overflowing possibly_exact plain_binary or_operation predicates compared compare select freeze trunc zext sext ptrtoint entry_of_phi phi getelementptr load store argument signature call extractelement insertelement shufflevector branch case_of_switch switch ret inst_attachments operation_words operation terminator_words terminator block kept_piece kept_run metadata_node attachment attachments left_out_words type_words value_words item_words instruction_words excluded_words kept memory_leaf array_begin type_parts parameter dotted_parameters declared_function defined_function target_line attribute_group comdat metadata type_definition initialiser_stops extra_behind behind_type variable_word variable_definition item module_form
 instructions = record { wraps = refl; one_wrap = refl; twice = refl; exactly_so = refl; inexact = refl; apart_bits = refl; no_wraps = refl; chosen = refl; fewer_bits = refl; more_bits = refl; sign_bits = refl; address = refl; natural = refl; aligned_load = refl; signed_load = refl; stored = refl; stored_so = refl; a_lane = refl; another_lane = refl; mixed_lanes = refl; joined_values = refl; joined_numbers = refl; switched = refl; no_cases = refl; wide_case = refl; comma_case = refl; true_case = refl; never = refl; no_attachment = refl }
 
 -- ---- calls
 
 -- what is called by the name f
-abbrev called_f : TailKind → KeptTexts → Option Signature → List Actual → KeptTexts → InstKind
+abbrev called_f : TailKind → KeptTexts → Option Signature → List Actual → KeptTexts → Kind
 called_f tail before signature actuals after = Call (record { tail = tail; before = before; signature = signature; name = Text (codes "f"); actuals = actuals; after = after })
 
 record Calls : Type 0 where
@@ -332,7 +331,7 @@ record Calls : Type 0 where
   two_words : inst (codes "tail musttail call void @f ( )") ≡ None
 
 calls : Calls
-unfolding table local_name global_name label width vector_type value_type return_type lane constant_word typed_lane value typed_value typed_pair pointer_value index_value target alignment overflowing possibly_exact plain_binary or_operation predicates compared compare select freeze trunc zext sext ptrtoint entry_of_phi phi load store argument signature call extractelement insertelement shufflevector branch case_of_switch switch ret inst_attachments operation_words operation terminator_words terminator block kept_piece kept_run metadata_node attachment attachments left_out_words type_words value_words item_words instruction_words excluded_words kept memory_leaf array_begin type_parts parameter dotted_parameters declared_function defined_function target_line attribute_group comdat metadata type_definition initialiser_stops extra_behind behind_type variable_word variable_definition item module_form
+unfolding table local_name global_name label width vector_type value_type return_type three_flags inst_memory lane constant_word typed_lane constant_offset value typed_value typed_pair pointer_value index_value target alignment overflowing possibly_exact plain_binary or_operation predicates compared compare select freeze trunc zext sext ptrtoint entry_of_phi phi getelementptr load store argument signature call extractelement insertelement shufflevector branch case_of_switch switch ret inst_attachments operation_words operation terminator_words terminator block kept_piece kept_run metadata_node attachment attachments left_out_words type_words value_words item_words instruction_words excluded_words kept memory_leaf array_begin type_parts parameter dotted_parameters declared_function defined_function target_line attribute_group comdat metadata type_definition initialiser_stops extra_behind behind_type variable_word variable_definition item module_form
 calls = record { whole = refl; bare = refl; dots = refl; no_types = refl; aligned_value = refl; signed_value = refl; no_value = refl; only_comma = refl; argument_comma = refl; dots_argument = refl; local_callee = refl; no_call = refl; two_words = refl }
 
 -- ---- items
@@ -342,7 +341,7 @@ abbrev types : List ℕ
 types = codes "@v = internal constant [ 3 x %w ] zeroinitializer , align 4 %a = type { i8 , %b , %u } %b = type < { %t , [ 0 x i64 ] } > %c = type opaque %d = type { }"
 
 abbrev type_names : List ℕ → Option (List TypeNameTree)
-type_names s = reading s >>= numbered_module >>= resolved_module >>= λ m. Some m.type_names
+type_names s = reading s >>= numbered_module >>= λ items. Some (collected items).type_names
 
 abbrev missing_type : List ℕ → TypeNameTree
 missing_type s = record { name = Text s; ty = missing }
@@ -395,13 +394,13 @@ record Items : Type 0 where
   unclosed : reading (codes "declare void @f ( ) memory ( read") ≡ None
 
 items : Items
-unfolding table local_name global_name label width vector_type value_type return_type lane constant_word typed_lane value typed_value typed_pair pointer_value index_value target alignment overflowing possibly_exact plain_binary or_operation predicates compared compare select freeze trunc zext sext ptrtoint entry_of_phi phi load store argument signature call extractelement insertelement shufflevector branch case_of_switch switch ret inst_attachments operation_words operation terminator_words terminator block kept_piece kept_run metadata_node attachment attachments left_out_words type_words value_words item_words instruction_words excluded_words kept memory_leaf array_begin type_parts parameter dotted_parameters declared_function defined_function target_line attribute_group comdat metadata type_definition initialiser_stops extra_behind behind_type variable_word variable_definition item module_form
+unfolding table local_name global_name label width vector_type value_type return_type three_flags inst_memory lane constant_word typed_lane constant_offset value typed_value typed_pair pointer_value index_value target alignment overflowing possibly_exact plain_binary or_operation predicates compared compare select freeze trunc zext sext ptrtoint entry_of_phi phi getelementptr load store argument signature call extractelement insertelement shufflevector branch case_of_switch switch ret inst_attachments operation_words operation terminator_words terminator block kept_piece kept_run metadata_node attachment attachments left_out_words type_words value_words item_words instruction_words excluded_words kept memory_leaf array_begin type_parts parameter dotted_parameters declared_function defined_function target_line attribute_group comdat metadata type_definition initialiser_stops extra_behind behind_type variable_word variable_definition item module_form
 items = record { several = refl; named = refl; dots_alone = refl; dots_behind = refl; dots_comma = refl; dots_defined = refl; two_sections = refl; one_section = refl; signed_kept = refl; unsigned_kept = refl; two_variables = refl; signed_alignment = refl; great_array = refl; signed_array = refl; vector_of_arrays = refl; excluded = refl; unclosed = refl }
 
 -- ---- the order of what is collected
 
 abbrev collected_of : List ℕ → Option ModuleTree
-collected_of s = reading s >>= numbered_module >>= resolved_module
+collected_of s = reading s >>= numbered_module >>= λ items. Some (collected items)
 
 abbrev mixed : List ℕ
 mixed = codes "!1 = ! { } define void @f ( ) { ret void } $k = comdat any @v = global i8 0 attributes #0 = { } declare void @g ( ) target triple = \"t\" @w = global i8 1 !0 = ! { }"
@@ -416,8 +415,79 @@ record Orders : Type 0 where
   functions : (collected_of mixed >>= λ m. Some (map (λ f. f.name) m.functions)) ≡ Some (Text (codes "f") ∷ Text (codes "g") ∷ [])
 
 orders : Orders
-unfolding table local_name global_name label width vector_type value_type return_type lane constant_word typed_lane value typed_value typed_pair pointer_value index_value target alignment overflowing possibly_exact plain_binary or_operation predicates compared compare select freeze trunc zext sext ptrtoint entry_of_phi phi load store argument signature call extractelement insertelement shufflevector branch case_of_switch switch ret inst_attachments operation_words operation terminator_words terminator block kept_piece kept_run metadata_node attachment attachments left_out_words type_words value_words item_words instruction_words excluded_words kept memory_leaf array_begin type_parts parameter dotted_parameters declared_function defined_function target_line attribute_group comdat metadata type_definition initialiser_stops extra_behind behind_type variable_word variable_definition item module_form
+unfolding table local_name global_name label width vector_type value_type return_type three_flags inst_memory lane constant_word typed_lane constant_offset value typed_value typed_pair pointer_value index_value target alignment overflowing possibly_exact plain_binary or_operation predicates compared compare select freeze trunc zext sext ptrtoint entry_of_phi phi getelementptr load store argument signature call extractelement insertelement shufflevector branch case_of_switch switch ret inst_attachments operation_words operation terminator_words terminator block kept_piece kept_run metadata_node attachment attachments left_out_words type_words value_words item_words instruction_words excluded_words kept memory_leaf array_begin type_parts parameter dotted_parameters declared_function defined_function target_line attribute_group comdat metadata type_definition initialiser_stops extra_behind behind_type variable_word variable_definition item module_form
 orders = record { head = refl; tail = refl; symbols = refl; functions = refl }
+
+-- ---- symbols and what stands behind them
+
+-- the operands of the first instruction of a module's first function
+abbrev first_args : List (Item FunctionTree) → Option (List OperandTree)
+first_args items = slice_get (filter_map as_function items) 0 >>= λ f. slice_get f.body 0 >>= λ b. slice_get b.insts 0 >>= λ i. Some i.args
+
+-- of a pointer behind some types, as it is compared with null
+abbrev constant : (types pointer : List ℕ) → Option (List OperandTree)
+constant types pointer = reading (types ++ codes " define void @f ( ) { icmp eq ptr null , " ++ pointer ++ codes " ret void }") >>= numbered_module >>= first_args
+
+-- so many bytes behind @v
+abbrev behind_v : ℕ → Option (List OperandTree)
+behind_v n = Some (null ∷ global (Text (codes "v")) n ∷ [])
+
+abbrev structs : List ℕ
+structs = codes "%s = type { i8 , i32 , [ 4 x i16 ] } %p = type < { i8 , %s } > %n = type %m %m = type { i8 , %s } %c = type { %c } %o = type opaque"
+
+record Constants : Type 0 where
+  bare : constant [] (codes "@v") ≡ behind_v 0
+  -- whole types, a member, an element of it
+  member : constant structs (codes "getelementptr inbounds ( %s , ptr @v , i64 1 , i32 2 , i64 3 )") ≡ behind_v 30
+  packed : constant structs (codes "getelementptr ( %p , ptr @v , i64 0 , i32 1 , i32 1 )") ≡ behind_v 5
+  named_twice : constant structs (codes "getelementptr nuw inbounds nusw ( %n , ptr @v , i32 2 , i32 1 )") ≡ behind_v 44
+  -- indexes are signed
+  before : constant [] (codes "getelementptr ( i32 , ptr @v , i64 -1 )") ≡ behind_v (2 ^ 64 - 4)
+  small_before : constant [] (codes "getelementptr ( i16 , ptr @v , i8 255 )") ≡ behind_v (2 ^ 64 - 2)
+  around : constant [] (codes "getelementptr ( [ 8 x i8 ] , ptr @v , i64 1 , i64 -8 )") ≡ behind_v 0
+  beyond : constant [] (codes "getelementptr ( [ 8 x i8 ] , ptr @v , i64 0 , i64 9 )") ≡ behind_v 9
+  -- 2^60 + 1 times 16, and an array of none, whose elements are too large to step over
+  no_type : constant [] (codes "getelementptr ( other , ptr @v , i64 0 )") ≡ None
+  great_step : constant [] (codes "getelementptr ( < 4 x i32 > , ptr @v , i64 1152921504606846977 )") ≡ behind_v 16
+  none_of_great : constant [] (codes "getelementptr ( [ 0 x [ 18446744073709551615 x i64 ] ] , ptr @v , i64 5 )") ≡ behind_v 0
+  into_great : constant [] (codes "getelementptr ( [ 0 x [ 18446744073709551615 x i64 ] ] , ptr @v , i64 0 , i64 0 )") ≡ None
+  great : constant [] (codes "getelementptr ( [ 2305843009213693952 x i8 ] , ptr @v , i64 0 )") ≡ None
+  almost_great : constant [] (codes "getelementptr ( [ 2305843009213693951 x i8 ] , ptr @v , i64 8 )") ≡ behind_v (2 ^ 64 - 8)
+  -- no member, nothing to lead into, no size, no index
+  no_member : constant structs (codes "getelementptr ( %s , ptr @v , i64 0 , i32 3 )") ≡ None
+  negative_member : constant structs (codes "getelementptr ( %s , ptr @v , i64 0 , i32 -1 )") ≡ None
+  into_number : constant structs (codes "getelementptr ( %s , ptr @v , i64 0 , i32 0 , i64 0 )") ≡ None
+  into_lanes : constant [] (codes "getelementptr ( < 2 x i8 > , ptr @v , i64 0 , i64 1 )") ≡ None
+  itself : constant structs (codes "getelementptr ( %c , ptr @v , i64 0 )") ≡ None
+  unknown_type : constant structs (codes "getelementptr ( %o , ptr @v , i64 0 )") ≡ None
+  missing_struct : constant structs (codes "getelementptr ( { i8 , %q } , ptr @v , i64 0 )") ≡ None
+  no_index : constant [] (codes "getelementptr ( i8 , ptr @v )") ≡ None
+  local_index : constant [] (codes "getelementptr ( i8 , ptr @v , i64 %x )") ≡ None
+  -- a pointer behind another, whose type is written by its nodes
+  stepped_from : inst (codes "getelementptr nusw inbounds [ 4 x { i8 , %t } ] , ptr %x , i64 0 , i32 %y , !a !0")
+      ≡ Some (with_kept (bare_inst (Offset (array 4 ∷ opening false ∷ scalar (Int 8) ∷ called (Text (codes "t")) ∷ closing ∷ []) (64 ∷ 32 ∷ []) true false true) Ptr (x ∷ number 0 ∷ y ∷ []) []) (codes "," ∷ codes "!a" ∷ codes "!0" ∷ []))
+  packed_from : inst (codes "getelementptr < { i8 } > , ptr %x , i64 0") ≡ Some (bare_inst (Offset (opening true ∷ scalar (Int 8) ∷ closing ∷ []) (64 ∷ []) false false false) Ptr (x ∷ number 0 ∷ []) [])
+  lanes_from : inst (codes "getelementptr < 2 x i8 > , ptr %x , i64 0") ≡ Some (bare_inst (Offset (scalar (Vector 2 8) ∷ []) (64 ∷ []) false false false) Ptr (x ∷ number 0 ∷ []) [])
+  no_steps : inst (codes "getelementptr i8 , ptr %x") ≡ None
+  flag_twice : inst (codes "getelementptr nuw nuw i8 , ptr %x , i64 0") ≡ None
+  void_from : inst (codes "getelementptr void , ptr %x , i64 0") ≡ None
+  unclosed_type : inst (codes "getelementptr [ 4 x i8 , ptr %x , i64 0") ≡ None
+
+constants : Constants
+unfolding table local_name global_name label width vector_type value_type return_type three_flags inst_memory lane constant_word typed_lane constant_offset value typed_value typed_pair pointer_value index_value target alignment overflowing possibly_exact plain_binary or_operation predicates compared compare select freeze trunc zext sext ptrtoint entry_of_phi phi getelementptr load store argument signature call extractelement insertelement shufflevector branch case_of_switch switch ret inst_attachments operation_words operation terminator_words terminator block kept_piece kept_run metadata_node attachment attachments left_out_words type_words value_words item_words instruction_words excluded_words kept memory_leaf array_begin type_parts parameter dotted_parameters declared_function defined_function target_line attribute_group comdat metadata type_definition initialiser_stops extra_behind behind_type variable_word variable_definition item module_form
+constants = record { bare = refl; member = refl; packed = refl; named_twice = refl; before = refl; small_before = refl; around = refl; beyond = refl; no_type = refl; great_step = refl; none_of_great = refl; into_great = refl; great = refl; almost_great = refl; no_member = refl; negative_member = refl; into_number = refl; into_lanes = refl; itself = refl; unknown_type = refl; missing_struct = refl; no_index = refl; local_index = refl; stepped_from = refl; packed_from = refl; lanes_from = refl; no_steps = refl; flag_twice = refl; void_from = refl; unclosed_type = refl }
+
+-- the symbols and types that functions use stand behind the others, by first use
+abbrev users : List ℕ
+users = codes "define void @f ( ) { call void @h ( ptr @b , ptr @v ) icmp eq ptr @a , getelementptr ( i8 , ptr @b , i64 1 ) getelementptr %u , ptr @f , i64 0 ret void } @v = global %w 0 %t = type i8 declare void @g ( )"
+
+record Uses : Type 0 where
+  symbols : (collected_of users >>= λ m. Some (map (λ s. s.name) m.symbols)) ≡ Some (Text (codes "v") ∷ Text (codes "f") ∷ Text (codes "g") ∷ Text (codes "b") ∷ Text (codes "a") ∷ [])
+  types : (collected_of users >>= λ m. Some (map (λ t. t.name) m.type_names)) ≡ Some (Text (codes "t") ∷ Text (codes "w") ∷ Text (codes "u") ∷ [])
+
+uses : Uses
+unfolding table local_name global_name label width vector_type value_type return_type three_flags inst_memory lane constant_word typed_lane constant_offset value typed_value typed_pair pointer_value index_value target alignment overflowing possibly_exact plain_binary or_operation predicates compared compare select freeze trunc zext sext ptrtoint entry_of_phi phi getelementptr load store argument signature call extractelement insertelement shufflevector branch case_of_switch switch ret inst_attachments operation_words operation terminator_words terminator block kept_piece kept_run metadata_node attachment attachments left_out_words type_words value_words item_words instruction_words excluded_words kept memory_leaf array_begin type_parts parameter dotted_parameters declared_function defined_function target_line attribute_group comdat metadata type_definition initialiser_stops extra_behind behind_type variable_word variable_definition item module_form
+uses = record { symbols = refl; types = refl }
 
 -- ---- sizes
 

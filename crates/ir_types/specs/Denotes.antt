@@ -5,7 +5,10 @@ use Rattle.std.specs.List.{AllByRecursion}
 use Rattle.ir_types.specs.declared.name.Name.{Name}
 use Rattle.ir_types.specs.declared.name.ValueId.{ValueId}
 use Rattle.ir_types.specs.declared.inst.Operand.{Operand}
-use Rattle.ir_types.specs.declared.inst.Operand.TheVariants.{Local, Int, Null, Poison, Lanes}
+use Rattle.ir_types.specs.declared.inst.Operand.TheVariants.{Local, Int, Null, Poison, Lanes, Global}
+use Rattle.ir_types.specs.declared.inst.InstKind.{InstKind}
+use Rattle.ir_types.specs.declared.inst.InstKind.TheVariants as kinds
+use Rattle.ir_types.specs.declared.memory_type.MemTy.{MemTy}
 use Rattle.ir_types.specs.declared.inst.Inst.{Inst}
 use Rattle.ir_types.specs.declared.module.Block.{Block}
 use Rattle.ir_types.specs.declared.module.Param.{Param}
@@ -22,35 +25,68 @@ use Rattle.ir_types.specs.Types.{AreTypes}
 use Rattle.ir_types.specs.TypeNodes.{TypeNode, type_nodes}
 use Rattle.ir_types.specs.Sizes.{AreExtents}
 use Rattle.ir_types.specs.Names.{name_at, IsTable}
-use Rattle.ir_types.specs.Tree.{OperandTree, local, number, null, poison, lanes, InstTree, BlockTree, ParamTree, FunctionTree, NamedTree, defined, opaque, missing, TypeNameTree, SymbolKindTree, variable, function, missing_symbol, SymbolTree, ModuleTree}
+use Rattle.ir_types.specs.Kinds.{Kind, Binary, Compare, Select, Freeze, Trunc, Zext, Sext, PtrToInt, Phi, Offset, Load, Store, Call, Extract, Insert, Shuffle, Jump, Branch, Switch, ReturnVoid, Return, Unreachable}
+use Rattle.ir_types.specs.Tree.{OperandTree, local, number, null, poison, lanes, global, InstTree, BlockTree, ParamTree, FunctionTree, NamedTree, defined, opaque, missing, TypeNameTree, SymbolKindTree, variable, function, missing_symbol, SymbolTree, ModuleTree}
 
 -- the name at a place
 abbrev pub name_in : List Name → ValueId → Name
 name_in ns i = name_at ns i.0
 
--- an operand, a local by its name
-abbrev pub operand_in : List Name → Operand → OperandTree
-operand_in ns (Local i) = local (name_in ns i)
-operand_in ns (Int n) = number n
-operand_in ns Null = null
-operand_in ns Poison = poison
-operand_in ns (Lanes xs) = lanes xs
+-- what a module has for the positions in its functions: the names of its symbols and of its types, and its types
+pub record Tables : Type 0 where
+  pub symbols : List Name
+  pub type_names : List Name
+  pub types : List MemTy
 
--- an instruction, with the names of its locals, its labels and its result
-abbrev pub inst_in : List Name → Inst → InstTree
-inst_in ns i = record { kind = i.kind; ty = i.ty; args = map (operand_in ns) i.args; labels = map (name_in ns) i.labels; result = option_map (name_in ns) i.result; wide = i.wide; kept = i.kept }
+-- an operand, a local and a symbol by their names
+abbrev pub operand_in : Tables → List Name → Operand → OperandTree
+operand_in t ns (Local i) = local (name_in ns i)
+operand_in t ns (Int n) = number n
+operand_in t ns Null = null
+operand_in t ns Poison = poison
+operand_in t ns (Lanes xs) = lanes xs
+operand_in t ns (Global i o) = global (name_at t.symbols i) o
+
+-- what an instruction does, a memory type by its nodes
+abbrev pub kind_in : Tables → InstKind → Kind
+kind_in t (kinds.Binary op flags) = Binary op flags
+kind_in t (kinds.Compare p of) = Compare p of
+kind_in t (kinds.Select condition last) = Select condition last
+kind_in t kinds.Freeze = Freeze
+kind_in t (kinds.Trunc from nuw nsw) = Trunc from nuw nsw
+kind_in t (kinds.Zext from nneg) = Zext from nneg
+kind_in t (kinds.Sext from) = Sext from
+kind_in t kinds.PtrToInt = PtrToInt
+kind_in t kinds.Phi = Phi
+kind_in t (kinds.Offset id widths inbounds nuw nusw) = Offset (type_nodes t.type_names t.types id) widths inbounds nuw nusw
+kind_in t (kinds.Load align) = Load align
+kind_in t (kinds.Store of align) = Store of align
+kind_in t (kinds.Call callee) = Call callee
+kind_in t (kinds.Extract of width) = Extract of width
+kind_in t (kinds.Insert element width) = Insert element width
+kind_in t (kinds.Shuffle one other mask) = Shuffle one other mask
+kind_in t kinds.Jump = Jump
+kind_in t kinds.Branch = Branch
+kind_in t (kinds.Switch width cases) = Switch width cases
+kind_in t kinds.ReturnVoid = ReturnVoid
+kind_in t (kinds.Return of) = Return of
+kind_in t kinds.Unreachable = Unreachable
+
+-- an instruction, with the names of its operands, its labels and its result
+abbrev pub inst_in : Tables → List Name → Inst → InstTree
+inst_in t ns i = record { kind = kind_in t i.kind; ty = i.ty; args = map (operand_in t ns) i.args; labels = map (name_in ns) i.labels; result = option_map (name_in ns) i.result; wide = i.wide; kept = i.kept }
 
 -- a block, with its label and its instructions
-abbrev pub block_in : List Name → Block → BlockTree
-block_in ns b = record { name = name_in ns b.name; insts = map (inst_in ns) b.insts }
+abbrev pub block_in : Tables → List Name → Block → BlockTree
+block_in t ns b = record { name = name_in ns b.name; insts = map (inst_in t ns) b.insts }
 
 -- a parameter, with its name
 abbrev pub param_in : List Name → Param → ParamTree
 param_in ns p = record { ty = p.ty; kept = p.kept; name = name_in ns p.name }
 
--- a function: each place is one in its names
-abbrev pub tree_of_function : Function → FunctionTree
-tree_of_function f = record { name = f.name; before = f.before; ret = f.ret; params = map (param_in f.names) f.params; varargs = f.varargs; after = f.after; body = map (block_in f.names) f.body }
+-- a function: each place is one in its names, or in the module's lists
+abbrev pub function_in : Tables → Function → FunctionTree
+function_in t f = record { name = f.name; before = f.before; ret = f.ret; params = map (param_in f.names) f.params; varargs = f.varargs; after = f.after; body = map (block_in t f.names) f.body }
 
 -- the names of types
 abbrev pub type_names_of : Module → List Name
@@ -80,9 +116,13 @@ symbol_kind_in m symbols.Missing = missing_symbol
 abbrev pub symbol_in : Module → Symbol → SymbolTree
 symbol_in m s = record { name = s.name; kind = symbol_kind_in m s.kind; before = s.before; after = s.after }
 
--- a module: each position of a type replaced by its nodes
+-- a module's lists for its functions
+abbrev pub tables_of : Module → Tables
+tables_of m = record { symbols = map (λ (s : Symbol). s.name) m.symbols; type_names = type_names_of m; types = m.types }
+
+-- a module: each position replaced by what it names
 abbrev pub tree_of : Module → ModuleTree
-tree_of m = record { head = m.head; type_names = map (type_name_in m) m.type_names; symbols = map (symbol_in m) m.symbols; functions = map tree_of_function m.functions; tail = m.tail }
+tree_of m = record { head = m.head; type_names = map (type_name_in m) m.type_names; symbols = map (symbol_in m) m.symbols; functions = map (function_in (tables_of m)) m.functions; tail = m.tail }
 
 -- the module says what the tree says
 pub record Denotes (m : Module) (tree : ModuleTree) : Type 0 where

@@ -2,8 +2,10 @@
 use Rattle.std.specs.Prelude.{ℕ, ◌%◌, Bool, true, false, not, ◌&&◌, nat_le, count_by, is_some, length, List, [], ◌∷◌, ◌++◌, map, replicate, codes, find, nat_lt, ◌^◌, ◌==◌, Option, Some, None, if◌then◌else◌}
 use Rattle.std.specs.List.{list_all}
 use Rattle.forms.specs.declared.TokenKind.TheVariants.{Quoted, Local, Global, Comdat, Label, Word, Number, Metadata, AttributeGroup, Dots, Bang, Equal, Comma, LeftParen, RightParen, LeftBracket, RightBracket, LeftBrace, RightBrace, Less, Greater}
-use Rattle.forms.specs.Form.{Lexeme, Form, Stops, Spells, exactly, one, ahead, up_to, pair, greedy, either, mapped, made, optional, many, by_word}
-use Rattle.forms.specs.Reading.{◌>>=◌}
+use Rattle.forms.specs.Form.{Lexeme, Form, Stops, Spells, is_one_of, exactly, one, one_such, enclosed, ahead, up_to, pair, greedy, either, mapped, made, optional, many, by_word}
+use Rattle.forms.specs.Reading.{◌>>=◌, read_whole}
+use Rattle.forms.specs.declared.TokenKind.{TokenKind}
+use Rattle.forms.specs.Lexical.{kind_of}
 use Rattle.forms.specs.Gives.{mark}
 pub use Rattle.forms.specs.Combined.{word, behind, after_mark, between, marked, some, commas, or_none, list}
 use Rattle.ir_types.specs.declared.name.Name.{Name}
@@ -12,10 +14,10 @@ use Rattle.ir_types.specs.declared.inst.Ty.TheVariants.{Int, Ptr, Vector, Void}
 use Rattle.ir_types.specs.declared.inst.BinOp.{BinOp}
 use Rattle.ir_types.specs.declared.inst.BinOp.TheVariants.{Add, Sub, Mul, Shl, UDiv, SDiv, URem, SRem, LShr, AShr, And, Or, Xor}
 use Rattle.ir_types.specs.declared.inst.Flags.{Flags}
-use Rattle.ir_types.specs.declared.inst.InstKind.{InstKind}
+use Rattle.ir_types.specs.Kinds.{Kind}
+use Rattle.ir_types.specs.Kinds as kinds
 use Rattle.ir_types.specs.declared.inst.Pred.{Pred}
 use Rattle.ir_types.specs.declared.inst.Pred.TheVariants.{Eq, Ne, Ugt, Uge, Ult, Ule, Sgt, Sge, Slt, Sle}
-use Rattle.ir_types.specs.declared.inst.InstKind.TheVariants as kinds
 use Rattle.ir_types.specs.declared.opcode.Operation.{Operation}
 use Rattle.ir_types.specs.declared.opcode.Operation.TheVariants as operations
 use Rattle.ir_types.specs.declared.call.Actual.{Actual}
@@ -25,6 +27,8 @@ use Rattle.ir_types.specs.declared.call.TailKind.{TailKind}
 use Rattle.ir_types.specs.declared.call.TailKind.TheVariants.{Unmarked, Tail, MustTail, NoTail}
 use Rattle.ir_types.specs.declared.opcode.FlagOrder.{FlagOrder}
 use Rattle.ir_types.specs.declared.opcode.FlagOrder.TheVariants.{Usual, Reversed}
+use Rattle.ir_types.specs.declared.opcode.OffsetFlag.{OffsetFlag}
+use Rattle.ir_types.specs.declared.opcode.OffsetFlag.TheVariants.{Inbounds, Nuw, Nusw}
 use Rattle.ir_types.specs.declared.opcode.ItemWord.{ItemWord}
 use Rattle.ir_types.specs.declared.opcode.ItemWord.TheVariants as items
 use Rattle.ir_types.specs.declared.opcode.Extra.{Extra}
@@ -40,7 +44,7 @@ use Rattle.forms.specs.Kept.{kept_one, kept_token, kept_such, perhaps, in_braces
 use Rattle.forms.specs.LeftOut.{left_out_words}
 use Rattle.ir_types.specs.Sizes.{value_size}
 use Rattle.ir_types.specs.TypeNodes.{TypeNode, scalar, called, array, opening, closing}
-use Rattle.ir_types.specs.Tree.{KeptTexts, OperandTree, local, number, null, poison, lanes, InstTree, WrittenParam, WrittenBlock, WrittenFunction, VariableTree, Item, head_line, comdat_line, type_item, variable_item, function_item, attribute_line, metadata_line}
+use Rattle.ir_types.specs.Tree.{KeptTexts, OperandTree, local, number, null, poison, lanes, global, indexed, InstTree, WrittenParam, WrittenBlock, WrittenFunction, VariableTree, Item, head_line, comdat_line, type_item, variable_item, function_item, attribute_line, metadata_line}
 
 -- ---- names, types and values
 
@@ -106,6 +110,99 @@ type_parts = record { leaf = memory_leaf; array_head = array_begin; opening = op
 abbrev pub memory_type : ℕ → Form (List TypeNode)
 memory_type depth = memory type_parts depth
 
+-- ---- flags
+
+-- [flag]
+abbrev pub one_flag : List ℕ → Form Bool
+one_flag w = mapped is_some (optional (exactly Word w))
+
+-- the one of two flags that stands first
+abbrev pub flag_orders : (first second : List ℕ) → List (List ℕ × FlagOrder)
+flag_orders first second = (first, Usual) ∷ (second, Reversed) ∷ []
+
+-- what is behind it: perhaps the other
+abbrev pub other_flag : (first second : List ℕ) → FlagOrder → Form (Bool × Bool)
+other_flag first second Usual = mapped (λ b. (true, b)) (one_flag second)
+other_flag first second Reversed = mapped (λ b. (b, true)) (one_flag first)
+
+-- neither flag where none stands there
+abbrev pub or_neither : Option (Bool × Bool) → Bool × Bool
+or_neither None = (false, false)
+or_neither (Some x) = x
+
+-- [first] [second], in any order
+abbrev pub two_flags : (first second : List ℕ) → Form (Bool × Bool)
+two_flags first second = mapped or_neither (optional (by_word (flag_orders first second) (other_flag first second)))
+
+-- the first of three flags that stands there, in any order
+abbrev pub offset_flags : List (List ℕ × OffsetFlag)
+offset_flags = (codes "inbounds", Inbounds) ∷ (codes "nuw", Nuw) ∷ (codes "nusw", Nusw) ∷ []
+
+-- what is behind it: perhaps the others
+abbrev pub other_offset_flags : OffsetFlag → Form (Bool × (Bool × Bool))
+other_offset_flags Inbounds = mapped (λ x. (true, (x.0, x.1))) (two_flags (codes "nuw") (codes "nusw"))
+other_offset_flags Nuw = mapped (λ x. (x.0, (true, x.1))) (two_flags (codes "inbounds") (codes "nusw"))
+other_offset_flags Nusw = mapped (λ x. (x.0, (x.1, true))) (two_flags (codes "inbounds") (codes "nuw"))
+
+-- none of them where none stands there
+abbrev pub or_none_of_three : Option (Bool × (Bool × Bool)) → Bool × (Bool × Bool)
+or_none_of_three None = (false, (false, false))
+or_none_of_three (Some x) = x
+
+-- [inbounds] [nuw] [nusw], in any order
+unfoldable pub three_flags : Form (Bool × (Bool × Bool))
+three_flags = mapped or_none_of_three (optional (by_word offset_flags other_offset_flags))
+
+abbrev pub no_flags : Flags
+no_flags = record { nuw = false; nsw = false; exact = false; disjoint = false }
+
+-- `nuw` and `nsw`
+abbrev pub wrap_flags : Bool × Bool → Flags
+wrap_flags x = record { nuw = x.0; nsw = x.1; exact = false; disjoint = false }
+
+-- `exact`
+abbrev pub exact_flag : Bool → Flags
+exact_flag b = record { nuw = false; nsw = false; exact = b; disjoint = false }
+
+-- `disjoint`
+abbrev pub disjoint_flag : Bool → Flags
+disjoint_flag b = record { nuw = false; nsw = false; exact = false; disjoint = b }
+
+-- ---- memory types in instructions
+
+-- the words of types
+unfoldable pub type_words : List (List ℕ)
+type_words = codes "i1" ∷ codes "i8" ∷ codes "i16" ∷ codes "i32" ∷ codes "i64" ∷ codes "ptr" ∷ codes "void" ∷ []
+
+-- a token of this kind, as a list
+abbrev pub token_list : TokenKind → List ℕ → List Lexeme
+token_list k w = record { kind = k; text = w } ∷ []
+
+-- TEMPORARY until `enclosed` gives tokens
+abbrev pub token_again : List ℕ → Lexeme
+token_again w = record { kind = elim (kind_of w) [ None ↦ Word | Some k ↦ k ]; text = w }
+
+abbrev pub bracketed : TokenKind → TokenKind → Form (List Lexeme)
+bracketed o c = mapped (λ ws. record { kind = o; text = [] } ∷ (map token_again ws ++ record { kind = c; text = [] } ∷ [])) (enclosed o c)
+
+-- the tokens of a memory type: a word of a type, a local name, or a balanced list in brackets
+abbrev pub type_tokens : Form (List Lexeme)
+type_tokens =
+    either (mapped (token_list Word) (one_such Word (is_one_of type_words)))
+    (either (mapped (token_list Local) (one Local))
+    (either (bracketed LeftBracket RightBracket)
+    (either (bracketed LeftBrace RightBrace) (bracketed Less Greater))))
+
+-- the memory type that all of the tokens spell
+abbrev pub type_spelled : List Lexeme → Option (List TypeNode)
+type_spelled ts = read_whole (memory_type (length ts)) ts
+
+-- M in an instruction
+unfoldable pub inst_memory : Form (List TypeNode)
+inst_memory = made type_spelled type_tokens
+
+-- ---- values
+
 -- a constant lane as it is written
 pub data WrittenLane : Type 0 where
   -- a number, by its digits and a sign or none
@@ -144,6 +241,10 @@ pub data WrittenValue : Type 0 where
   splat : Ty × WrittenLane → WrittenValue
   -- lanes, each with its type
   lane_list : List (Ty × WrittenLane) → WrittenValue
+  -- a symbol
+  symbol : Name → WrittenValue
+  -- a symbol that is stepped through as a memory type, by indexes, each with its width
+  stepped : List TypeNode × (Name × List (ℕ × ℕ)) → WrittenValue
 
 -- a value that is one word
 unfoldable pub constant_word : Form WrittenValue
@@ -157,13 +258,28 @@ constant_word =
 unfoldable pub typed_lane : Form (Ty × WrittenLane)
 typed_lane = pair value_type lane
 
--- V := %name | number | true | false | null | poison | zeroinitializer | splat ( T V ) | < T V, .. >
+-- an index with its width, modulo 2^w
+abbrev pub index_of : ℕ × List ℕ → ℕ × ℕ
+index_of x = (x.0, number_at x.0 x.1)
+
+-- , iN number
+abbrev pub comma_index : Form (ℕ × ℕ)
+comma_index = after_mark Comma (mapped index_of (pair width (one Number)))
+
+-- getelementptr [inbounds] [nuw] [nusw] ( M, ptr @name, iN number, .. ): the flags are left out
+unfoldable pub constant_offset : Form (List TypeNode × (Name × List (ℕ × ℕ)))
+constant_offset =
+    behind (codes "getelementptr") (mapped (λ x. x.1) (pair three_flags (between LeftParen RightParen (pair inst_memory (pair (after_mark Comma (behind (codes "ptr") global_name)) (some comma_index))))))
+
+-- V := %name | number | true | false | null | poison | zeroinitializer | splat ( T V ) | < T V, .. > | @name | getelementptr .. ( M, ptr @name, .. )
 unfoldable pub value : Form WrittenValue
 value =
     either (mapped named local_name)
     (either (mapped digits (one Number))
     (either constant_word
-    (either (mapped splat (behind (codes "splat") (between LeftParen RightParen typed_lane))) (mapped lane_list (between Less Greater (commas typed_lane))))))
+    (either (mapped splat (behind (codes "splat") (between LeftParen RightParen typed_lane)))
+    (either (mapped lane_list (between Less Greater (commas typed_lane)))
+    (either (mapped symbol global_name) (mapped stepped constant_offset))))))
 
 -- the bits of a type's numbers; where there is no width, 64
 abbrev pub width_of : Ty → ℕ
@@ -212,12 +328,10 @@ operand_at t poison_word = Some poison
 operand_at t zeros = zeros_at t
 operand_at t (splat x) = splat_at t x
 operand_at t (lane_list xs) = lanes_at t xs
+operand_at t (symbol n) = Some (global n 0)
+operand_at t (stepped x) = Some (indexed x.0 x.1.0 x.1.1)
 
 -- ---- what is kept
-
--- the words of types
-unfoldable pub type_words : List (List ℕ)
-type_words = codes "i1" ∷ codes "i8" ∷ codes "i16" ∷ codes "i32" ∷ codes "i64" ∷ codes "ptr" ∷ codes "void" ∷ []
 
 -- the words with which values begin
 unfoldable pub value_words : List (List ℕ)
@@ -323,49 +437,10 @@ or_no_elements (Some x) = x
 abbrev pub dotted_list : {A : Type 0} → Form A → Form (List A × Bool)
 dotted_list f = mapped or_no_elements (optional (either (mapped (λ _. ([], true)) (mark Dots)) (mapped dotted (pair (commas f) (optional (marked Comma (mark Dots)))))))
 
--- ---- flags
-
--- [flag]
-abbrev pub one_flag : List ℕ → Form Bool
-one_flag w = mapped is_some (optional (exactly Word w))
-
--- the one of two flags that stands first
-abbrev pub flag_orders : (first second : List ℕ) → List (List ℕ × FlagOrder)
-flag_orders first second = (first, Usual) ∷ (second, Reversed) ∷ []
-
--- what is behind it: perhaps the other
-abbrev pub other_flag : (first second : List ℕ) → FlagOrder → Form (Bool × Bool)
-other_flag first second Usual = mapped (λ b. (true, b)) (one_flag second)
-other_flag first second Reversed = mapped (λ b. (b, true)) (one_flag first)
-
--- neither flag where none stands there
-abbrev pub or_neither : Option (Bool × Bool) → Bool × Bool
-or_neither None = (false, false)
-or_neither (Some x) = x
-
--- [first] [second], in any order
-abbrev pub two_flags : (first second : List ℕ) → Form (Bool × Bool)
-two_flags first second = mapped or_neither (optional (by_word (flag_orders first second) (other_flag first second)))
-
-abbrev pub no_flags : Flags
-no_flags = record { nuw = false; nsw = false; exact = false; disjoint = false }
-
--- `nuw` and `nsw`
-abbrev pub wrap_flags : Bool × Bool → Flags
-wrap_flags x = record { nuw = x.0; nsw = x.1; exact = false; disjoint = false }
-
--- `exact`
-abbrev pub exact_flag : Bool → Flags
-exact_flag b = record { nuw = false; nsw = false; exact = b; disjoint = false }
-
--- `disjoint`
-abbrev pub disjoint_flag : Bool → Flags
-disjoint_flag b = record { nuw = false; nsw = false; exact = false; disjoint = b }
-
 -- ---- instructions, without the name of the result and attachments
 
 -- an instruction of its kind, its result's type, its operands and labels
-abbrev pub bare_inst : InstKind → Ty → List OperandTree → List Name → InstTree
+abbrev pub bare_inst : Kind → Ty → List OperandTree → List Name → InstTree
 bare_inst kind ty args labels = record { kind = kind; ty = ty; args = args; labels = labels; result = None; wide = false; kept = [] }
 
 -- an operation of two operands at one type, which is the result's
@@ -443,7 +518,7 @@ unfoldable pub freeze : Form InstTree
 freeze = mapped freeze_tree typed_value
 
 -- a cast of a value to a type
-abbrev pub cast_tree : (Ty → InstKind) → (Ty × OperandTree) × Ty → InstTree
+abbrev pub cast_tree : (Ty → Kind) → (Ty × OperandTree) × Ty → InstTree
 cast_tree kind x = bare_inst (kind x.0.0) x.1 (x.0.1 ∷ []) []
 
 -- [nuw] [nsw] T V to T
@@ -482,6 +557,17 @@ phi_tree x = entries_at x.0 x.1 >>= λ args. Some (bare_inst kinds.Phi x.0 args 
 -- T [ V, %name ], ..
 unfoldable pub phi : Form InstTree
 phi = made phi_tree (pair value_type (commas entry_of_phi))
+
+-- a pointer that is stepped from through a memory type, by indexes
+abbrev pub offset_tree : (Bool × (Bool × Bool)) × (List TypeNode × (OperandTree × ((ℕ × OperandTree) × List (ℕ × OperandTree)))) → InstTree
+offset_tree x =
+    let indexes = x.1.1.1.0 ∷ x.1.1.1.1 in
+    bare_inst (kinds.Offset x.1.0 (map (λ i. i.0) indexes) x.0.0 x.0.1.0 x.0.1.1) Ptr (x.1.1.0 ∷ map (λ i. i.1) indexes) []
+
+-- [inbounds] [nuw] [nusw] M, ptr V, iN V, ..
+unfoldable pub getelementptr : Form InstTree
+getelementptr =
+    mapped offset_tree (pair three_flags (pair inst_memory (pair (after_mark Comma pointer_value) (pair (after_mark Comma index_value) (many (marked Comma index_value))))))
 
 -- a load from a pointer
 abbrev pub load_tree : Ty × (OperandTree × Option ℕ) → InstTree
@@ -648,6 +734,7 @@ operation_words =
     (codes "sext", operations.Sext) ∷
     (codes "ptrtoint", operations.PtrToInt) ∷
     (codes "phi", operations.Phi) ∷
+    (codes "getelementptr", operations.GetElementPtr) ∷
     (codes "load", operations.Load) ∷
     (codes "store", operations.Store) ∷
     (codes "call", operations.Call Unmarked) ∷
@@ -673,6 +760,7 @@ operation_behind operations.Zext = zext
 operation_behind operations.Sext = sext
 operation_behind operations.PtrToInt = ptrtoint
 operation_behind operations.Phi = phi
+operation_behind operations.GetElementPtr = getelementptr
 operation_behind operations.Load = load
 operation_behind operations.Store = store
 operation_behind (operations.Call tail) = call_behind tail

@@ -2,9 +2,11 @@ pub mod Names
 pub mod Types
 pub mod TypeNodes
 pub mod Sizes
+pub mod Kinds
 pub mod Tree
 pub mod Written
 pub mod Grammar
+pub mod Offsets
 pub mod Numbered
 pub mod Collected
 pub mod Denotes

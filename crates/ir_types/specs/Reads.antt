@@ -6,20 +6,19 @@ use Rattle.ir_types.specs.declared.module.Module.{Module}
 use Rattle.ir_types.specs.Tree.{FunctionTree, WrittenFunction, Item, ModuleTree}
 use Rattle.ir_types.specs.Grammar.{SpellsModule}
 use Rattle.ir_types.specs.Numbered.{numbered_module}
-use Rattle.ir_types.specs.Collected.{resolved_module}
+use Rattle.ir_types.specs.Collected.{collected}
 use Rattle.ir_types.specs.Denotes.{Denotes}
 
--- the text's tokens spell items as they are written, things without a name take their numbers, and the module denotes what they are collected to
+-- the text's tokens spell items as they are written, things without a name take their numbers and constants are counted in bytes, and the module denotes
+-- what they are collected to
 pub record Reads (text : List ℕ) (m : Module) : Type 0 where
   pub tokens : List Lexeme
   pub written : List (Item WrittenFunction)
   pub numbered : List (Item FunctionTree)
-  pub resolved : ModuleTree
   pub lexes : Lexes text tokens
   pub spelled : SpellsModule written tokens
   pub numbers : numbered_module written ≡ Some numbered
-  pub resolves : resolved_module numbered ≡ Some resolved
-  pub denotes : Denotes m resolved
+  pub denotes : Denotes m (collected numbered)
 
 -- two modules are the same where they denote one tree
 pub record SameModule (m n : Module) : Type 0 where

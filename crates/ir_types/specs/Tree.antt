@@ -2,7 +2,7 @@
 use Rattle.std.specs.Prelude.{ℕ, Bool, List, Option}
 use Rattle.ir_types.specs.declared.name.Name.{Name}
 use Rattle.ir_types.specs.declared.inst.Ty.{Ty}
-use Rattle.ir_types.specs.declared.inst.InstKind.{InstKind}
+use Rattle.ir_types.specs.Kinds.{Kind}
 use Rattle.ir_types.specs.TypeNodes.{TypeNode}
 
 -- tokens that are kept as they stand, as their texts
@@ -19,10 +19,14 @@ pub data OperandTree : Type 0 where
   poison : OperandTree
   -- constant lanes, none for a poison lane
   lanes : List (Option ℕ) → OperandTree
+  -- a symbol, and so many bytes behind it, modulo 2^64
+  global : Name → ℕ → OperandTree
+  -- a symbol, and how it is stepped through as a memory type: by indexes, each with its width; only where it is not counted in bytes yet
+  indexed : List TypeNode → Name → List (ℕ × ℕ) → OperandTree
 
 -- an instruction: its result's name, where it has one, whether a number that is written in it is out of its type's range, and its attachments
 pub record InstTree : Type 0 where
-  pub kind : InstKind
+  pub kind : Kind
   pub ty : Ty
   pub args : List OperandTree
   pub labels : List Name

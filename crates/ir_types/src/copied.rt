@@ -15,6 +15,7 @@ impl Copies for Operand {
             Operand::Null => Ok(Operand::Null),
             Operand::Poison => Ok(Operand::Poison),
             Operand::Lanes(lanes) => Ok(Operand::Lanes(lanes.copy()?)),
+            Operand::Global(symbol, bytes) => Ok(Operand::Global(*symbol, *bytes)),
         }
     }
 }
@@ -66,6 +67,13 @@ impl Copies for InstKind {
             InstKind::Sext(from) => Ok(InstKind::Sext(*from)),
             InstKind::PtrToInt => Ok(InstKind::PtrToInt),
             InstKind::Phi => Ok(InstKind::Phi),
+            InstKind::Offset(ty, widths, inbounds, nuw, nusw) => Ok(InstKind::Offset(
+                *ty,
+                widths.copy()?,
+                *inbounds,
+                *nuw,
+                *nusw,
+            )),
             InstKind::Load(align) => Ok(InstKind::Load(*align)),
             InstKind::Store(ty, align) => Ok(InstKind::Store(*ty, *align)),
             InstKind::Call(callee) => Ok(InstKind::Call(callee.copy()?)),

@@ -1,6 +1,6 @@
 // Instructions, their types and their operands.
 
-use crate::{Callee, Kept, ValueId};
+use crate::{Callee, Kept, TypeId, ValueId};
 use lists::{Few, Items};
 
 /// A first-class type, or `Void` where there is no value.
@@ -98,6 +98,8 @@ pub enum Operand {
     Poison,
     /// A vector's constant lanes, each a number modulo 2^w of its element's width w, or none for poison.
     Lanes(Items<Option<u64>>),
+    /// A symbol, by its place in the module's list, and so many bytes behind it, modulo 2^64.
+    Global(u32, u64),
 }
 
 impl Default for Operand {
@@ -134,6 +136,9 @@ pub enum InstKind {
     PtrToInt,
     /// `phi`: an operand and a label for each entry.
     Phi,
+    /// `getelementptr`: the memory type that is stepped through, the widths of the indexes, `inbounds`, `nuw` and `nusw`. The operands are the
+    /// pointer and the indexes.
+    Offset(TypeId, Items<u32>, bool, bool, bool),
     /// `load`: the alignment in bytes. The operand is the pointer.
     Load(u64),
     /// `store`: the value's type and the alignment in bytes. The operands are the value and the pointer.

@@ -29,6 +29,8 @@ pub enum Operation {
     PtrToInt,
     /// `phi`: a value that depends on the block before.
     Phi,
+    /// `getelementptr`: a pointer behind another.
+    GetElementPtr,
     /// `load`: what lies in memory.
     Load,
     /// `store`: into memory.
@@ -61,6 +63,17 @@ pub enum FlagOrder {
     Usual,
     /// The other.
     Reversed,
+}
+
+/// The flags of `getelementptr`.
+#[derive(Clone, Copy, Debug, PartialEq, Eq)]
+pub enum OffsetFlag {
+    /// `inbounds`.
+    Inbounds,
+    /// `nuw`: no unsigned wrap.
+    Nuw,
+    /// `nusw`: no unsigned wrap of the pointer, by signed steps.
+    Nusw,
 }
 
 /// The words of items.
