@@ -1,60 +1,68 @@
--- As many kept words as stand there before a value that may be a number.
-use Rattle.std.proofs.Common.{◌≡◌, ℕ, true, false, List, [], ◌∷◌, codes, Option, Some, None, refl}
-use Rattle.forms.specs.declared.TokenKind.TheVariants.{Quoted, Word, Number, AttributeGroup, Equal, LeftParen, RightParen}
-use Rattle.forms.specs.Form.{Lexeme, Form, exactly, one, one_such, is_none_of, enclosed, pair, greedy, either, mapped, optional, many}
+-- A kept run, as long as it can be, before a value that may be a number.
+use Rattle.std.proofs.Common.{◌≡◌, ℕ, true, false, List, [], ◌∷◌, ◌++◌, codes, Option, Some, None, if◌then◌else◌, eqb, refl}
+use Rattle.forms.specs.declared.TokenKind.{TokenKind}
+use Rattle.forms.specs.declared.TokenKind.TheVariants.{Local, Word, Number}
+use Rattle.forms.specs.Form.{Lexeme, Form, exactly, one, pair, greedy, either, mapped}
+use Rattle.forms.specs.Kept.{kept_token, kept_such, kept_unsigned, is_unsigned, perhaps, kept_piece, kept_run}
+use Rattle.forms.specs.Lexical.{kind_of, table}
+use Rattle.forms.specs.Nested.{joined}
 use Rattle.forms.specs.Reading.{decides, read_whole}
-
-data Piece : Type 0 where
-  plain : List ℕ → Option (List (List ℕ)) → Piece
-  aligned : Option (List ℕ) → Piece
-  convention : Option (List ℕ) → Piece
-  quoted : List ℕ → Option (List ℕ) → Piece
-  group : List ℕ → Piece
 
 unfoldable excluded : List (List ℕ)
 excluded = codes "i32" ∷ codes "align" ∷ codes "cc" ∷ codes "null" ∷ []
 
-abbrev numbered : List ℕ → Form (Option (List ℕ))
-numbered w = mapped (λ x. x.1) (pair (exactly Word w) (optional (one Number)))
-
-unfoldable piece : Form Piece
-piece =
-    either (mapped (λ x. plain x.0 x.1) (pair (one_such Word (is_none_of excluded)) (optional (enclosed LeftParen RightParen))))
-    (either (mapped aligned (numbered (codes "align")))
-    (either (mapped convention (numbered (codes "cc")))
-    (either (mapped (λ x. quoted x.0 x.1) (pair (one Quoted) (optional (mapped (λ x. x.1) (pair (exactly Equal []) (one Quoted))))))
-    (mapped group (one AttributeGroup)))))
-
--- a value: a number, or a word that no kept run takes
+-- a value: a name, a number, or a word that no kept run takes
 unfoldable value : Form (List ℕ)
-value = either (one Number) (mapped (λ x. codes "null") (exactly Word (codes "null")))
+value = either (one Local) (either (one Number) (mapped (λ _. codes "null") (exactly Word (codes "null"))))
 
-unfoldable kept_then_value : Form (List Piece × List ℕ)
-kept_then_value = greedy (many piece) value
+unfoldable kept_then_value : Form (List (List ℕ) × List ℕ)
+kept_then_value = greedy (kept_run excluded) value
 
 kept_decides : decides kept_then_value ≡ true
-unfolding kept_then_value piece excluded value
+unfolding kept_then_value kept_run kept_piece excluded value
 kept_decides = refl
 
-abbrev word : List ℕ → Lexeme
-word w = record { kind = Word; text = w }
-
-abbrev number : List ℕ → Lexeme
-number w = record { kind = Number; text = w }
-
-kept_two_numbers : read_whole kept_then_value (word (codes "nonnull") ∷ word (codes "align") ∷ number (codes "8") ∷ number (codes "5") ∷ []) ≡ Some (plain (codes "nonnull") None ∷ aligned (Some (codes "8")) ∷ [], codes "5")
-unfolding kept_then_value piece excluded value
-kept_two_numbers = refl
-
-kept_one_number : read_whole kept_then_value (word (codes "align") ∷ number (codes "5") ∷ []) ≡ None
-unfolding kept_then_value piece excluded value
-kept_one_number = refl
-
-kept_word : read_whole kept_then_value (word (codes "align") ∷ word (codes "null") ∷ []) ≡ Some (aligned None ∷ [], codes "null")
-unfolding kept_then_value piece excluded value
-kept_word = refl
-
 -- a plain pair does not decide there
-plain_pair : decides (pair (many piece) value) ≡ false
-unfolding piece excluded value
+plain_pair : decides (pair (kept_run excluded) value) ≡ false
+unfolding kept_run kept_piece excluded value
 plain_pair = refl
+
+-- behind a word a number with a sign is to be left: where it is refused, one token ahead does not decide
+left_number : decides (greedy (joined (kept_token Word (codes "align")) (perhaps kept_unsigned)) (one Number)) ≡ true
+left_number = refl
+
+refused_number : decides (greedy (joined (kept_token Word (codes "align")) (perhaps (kept_such Number is_unsigned))) (one Number)) ≡ false
+refused_number = refl
+
+-- ---- texts, in which a space stands between any two tokens
+
+abbrev token : List ℕ → Option TokenKind → List Lexeme
+token w None = []
+token w (Some k) = record { kind = k; text = w } ∷ []
+
+abbrev tokens : List ℕ → List ℕ → List Lexeme
+tokens w [] = token w (kind_of w)
+tokens w (c ∷ cs) = if eqb c 32 then token w (kind_of w) ++ tokens [] cs else tokens (w ++ c ∷ []) cs
+
+abbrev reading : List ℕ → Option (List (List ℕ) × List ℕ)
+reading s = read_whole kept_then_value (tokens [] s)
+
+record Readings : Type 0 where
+  no_run : reading (codes "5") ≡ Some ([], codes "5")
+  word_then_number : reading (codes "noundef 5") ≡ Some (codes "noundef" ∷ [], codes "5")
+  -- the number behind `align` is the run's
+  number_then_name : reading (codes "align 8 %x") ≡ Some (codes "align" ∷ codes "8" ∷ [], codes "%x")
+  two_numbers : reading (codes "nonnull align 8 5") ≡ Some (codes "nonnull" ∷ codes "align" ∷ codes "8" ∷ [], codes "5")
+  one_number : reading (codes "align 5") ≡ None
+  no_number : reading (codes "align %x") ≡ Some (codes "align" ∷ [], codes "%x")
+  -- a number with a sign is the value, and so is a number behind a list in parentheses
+  signed_number : reading (codes "align -4") ≡ Some (codes "align" ∷ [], codes "-4")
+  signed_behind : reading (codes "align 8 -4") ≡ Some (codes "align" ∷ codes "8" ∷ [], codes "-4")
+  list_then_number : reading (codes "align ( 8 ) 3") ≡ Some (codes "align" ∷ codes "(" ∷ codes "8" ∷ codes ")" ∷ [], codes "3")
+  -- a word that begins a value ends the run
+  word_value : reading (codes "noundef align null") ≡ Some (codes "noundef" ∷ codes "align" ∷ [], codes "null")
+  several : reading (codes "cc 10 \"a\" = \"b\" #0 %x") ≡ Some (codes "cc" ∷ codes "10" ∷ codes "\"a\"" ∷ codes "=" ∷ codes "\"b\"" ∷ codes "#0" ∷ [], codes "%x")
+
+readings : Readings
+unfolding table kept_then_value kept_run kept_piece excluded value
+readings = record { no_run = refl; word_then_number = refl; number_then_name = refl; two_numbers = refl; one_number = refl; no_number = refl; signed_number = refl; signed_behind = refl; list_then_number = refl; word_value = refl; several = refl }

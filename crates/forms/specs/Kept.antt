@@ -1,5 +1,5 @@
 -- Tokens that are kept as they stand: the value of each of these forms is the list of its tokens' texts.
-use Rattle.std.specs.Prelude.{ℕ, Bool, true, false, not, ◌==◌, List, [], ◌∷◌, ◌++◌, codes, Option, Some, None, if◌then◌else◌}
+use Rattle.std.specs.Prelude.{ℕ, Bool, false, not, ◌==◌, List, [], ◌∷◌, ◌++◌, codes, Option, Some, None, if◌then◌else◌}
 use Rattle.forms.specs.declared.TokenKind.{TokenKind}
 use Rattle.forms.specs.declared.TokenKind.TheVariants.{Quoted, Word, Number, Comma, Metadata, AttributeGroup, Bang, Equal, LeftParen, RightParen, LeftBrace, RightBrace}
 use Rattle.forms.specs.Form.{Form, exactly, one, one_such, is_none_of, ahead, enclosed, either, mapped, made, optional, many}

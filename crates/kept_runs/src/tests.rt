@@ -2,7 +2,7 @@
 
 use crate::{
     Stops, begins_attachment, begins_run, keep, keep_attachment, keep_attachments, keep_braces,
-    keep_node, keep_parens, keep_run, keep_up_to, keep_word,
+    keep_node, keep_parens, keep_run, keep_unsigned, keep_up_to, keep_word,
 };
 use forms::{Cursor, SyntaxFault, Token, TokenKind};
 use lists::Texts;
@@ -31,6 +31,8 @@ const TO: Word = (TokenKind::Word, b"to");
 const ALIGN: Word = (TokenKind::Word, b"align");
 
 const FOUR: Word = (TokenKind::Number, b"4");
+
+const SIGNED: Word = (TokenKind::Number, b"-4");
 
 const STRING: Word = (TokenKind::Quoted, b"\"s\"");
 
@@ -157,6 +159,23 @@ fn keeps_runs(rt: HostRuntime) -> Result<(), SyntaxFault> {
     let rest = keep_run(rt.alloc(), cursor, &excluded, &mut texts)?;
     assert!(rt; are_kept(&texts, &words[..15]));
     assert!(rt; !begins_run(rest, &excluded));
+    Ok(())
+}
+
+#[test]
+fn leaves_signed_numbers(rt: HostRuntime) -> Result<(), SyntaxFault> {
+    let words = [ALIGN, FOUR, ALIGN, SIGNED];
+    let (text, tokens) = written(rt.alloc(), &words)?;
+    let cursor = Cursor {
+        text: text.as_slice(),
+        rest: tokens.as_slice(),
+    };
+    let excluded: [&[u8]; 1] = [b"align"];
+    let mut texts = Texts::new(rt.alloc());
+    let rest = keep_run(rt.alloc(), cursor, &excluded, &mut texts)?;
+    assert!(rt; are_kept(&texts, &words[..3]));
+    assert!(rt; rest.is_next(TokenKind::Number));
+    assert!(rt; keep_unsigned(rest, &mut texts).is_err());
     Ok(())
 }
 
