@@ -1,9 +1,13 @@
 -- What is awaited behind the tokens that a form spells.
-use Rattle.std.specs.Prelude.{ℕ, Bool, true, false, ◌&&◌, ◌==◌, List, [], ◌∷◌, Option, Some, None, if◌then◌else◌}
+use Rattle.std.specs.Prelude.{ℕ, ◌-◌, Bool, true, false, ◌&&◌, ◌==◌, List, [], ◌∷◌, length, take, drop, Option, Some, None, if◌then◌else◌}
 use Rattle.forms.specs.declared.TokenKind.{TokenKind}
 use Rattle.forms.specs.declared.TokenKind.TheVariants.{Word}
 use Rattle.forms.specs.Form.{kind_code, step, Lexeme, Form, exactly, one, one_such, ahead, enclosed, up_to, pair, greedy, either, mapped, made, optional, many, by_word}
 use Rattle.forms.specs.Bind.{◌>>=◌}
+
+-- the tokens but for the first and the last
+abbrev pub inside : List Lexeme → List Lexeme
+inside ts = take (length ts - 2) (drop 1 ts)
 
 -- what is awaited behind the tokens
 abbrev pub steps : List TokenKind → List Lexeme → Option (List TokenKind)
