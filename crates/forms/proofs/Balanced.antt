@@ -4,7 +4,6 @@ use Rattle.std.proofs.lemmas.Bool.{and_parts, and_from}
 use Rattle.forms.specs.declared.TokenKind.{TokenKind}
 use Rattle.forms.specs.declared.TokenKind.TheVariants.{Word, RightBracket, RightBrace, Greater}
 use Rattle.forms.specs.Form.{kind_code, closer, is_closer, closed, opened, step, is_empty, for_some, nests, runs, stops_at, Stops, same_text, Lexeme, Form, exactly, one, one_such, ahead, enclosed, up_to, pair, greedy, either, mapped, made, optional, many, by_word, entry, Spells, InOrder, IfThere}
-use Rattle.forms.specs.Bind.{◌>>=◌}
 use Rattle.forms.specs.Balanced.{steps, same_kinds, agreed, all_agreed, stack_after}
 use Rattle.forms.specs.Nested.{TypeParts, memory, one_deeper, array_of, struct_of}
 use Rattle.forms.proofs.Tokens.{same_kind, kind_is}

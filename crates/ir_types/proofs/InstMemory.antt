@@ -1,10 +1,10 @@
 -- A memory type in an instruction is read as any memory type.
 use Rattle.std.proofs.Common.{◌≡◌, ℕ, ◌≤◌, true, List, [], ◌∷◌, ◌++◌, length, codes, Some, refl, sym, ap, ◌∙◌, subst, length-append, arith, inl, inr}
 use Rattle.std.proofs.lemmas.List.{append-nil}
-use Rattle.forms.specs.declared.TokenKind.TheVariants.{Local, Word, Number, LeftBracket, RightBracket, Less, Greater}
-use Rattle.forms.specs.Form.{Lexeme, is_one_of, nests, one, exactly, pair, made, Spells}
+use Rattle.forms.specs.declared.TokenKind.TheVariants.{Word, Number, Less, Greater}
+use Rattle.forms.specs.Form.{Lexeme, is_one_of, one, exactly, pair, made, Spells}
 use Rattle.forms.specs.Reading.{◌>>=◌, read}
-use Rattle.forms.specs.Nested.{SpellsMemory, memory}
+use Rattle.forms.specs.Nested.{SpellsMemory}
 use Rattle.forms.proofs.Balanced.{balanced}
 use Rattle.forms.proofs.Between.{same_values}
 use Rattle.forms.proofs.Complete.{complete}
