@@ -19,6 +19,7 @@ use Rattle.ir_types.specs.declared.call.TailKind.TheVariants.{Unmarked, Tail, Mu
 use Rattle.ir_types.specs.Kinds.{Kind, Offset, Binary, Compare, Select, Freeze, Trunc, Zext, Sext, PtrToInt, Phi, Load, Store, Call, Extract, Insert, Shuffle, Jump, Branch, Switch, Return, ReturnVoid, Unreachable}
 use Rattle.ir_types.specs.declared.inst.BinOp.TheVariants.{Add, Sub, Mul, Shl, UDiv, AShr, And, Or, Xor}
 use Rattle.ir_types.specs.Written.{number_of, number_at, unescaped, name_behind, name_before}
+use Rattle.ir_types.specs.Offsets.{definitions_in}
 use Rattle.ir_types.specs.TypeNodes.{TypeNode, scalar, called, array, opening, closing}
 use Rattle.ir_types.specs.Tree.{KeptTexts, OperandTree, local, number, null, poison, lanes, global, InstTree, BlockTree, FunctionTree, WrittenFunction, TypeNameTree, defined, opaque, missing, ModuleTree, Item, head_line, comdat_line, type_item, variable_item, function_item, metadata_line}
 use Rattle.ir_types.specs.Grammar.{local_name, global_name, label, width, vector_type, value_type, return_type, three_flags, inst_memory, lane, constant_word, typed_lane, constant_offset, value, typed_value, typed_pair, pointer_value, index_value, target, alignment, overflowing, possibly_exact, plain_binary, or_operation, predicates, compared, compare, select, freeze, trunc, zext, sext, ptrtoint, entry_of_phi, phi, getelementptr, load, store, argument, signature, call, extractelement, insertelement, shufflevector, branch, case_of_switch, switch, ret, inst_attachments, bare_inst, named_by, with_kept, no_flags, wrap_flags, exact_flag, disjoint_flag, operation_words, operation, terminator_words, terminator, block, type_words, value_words, item_words, instruction_words, excluded_words, kept, memory_leaf, array_begin, type_parts, parameter, dotted_parameters, declared_function, defined_function, target_line, attribute_group, comdat, metadata, type_definition, initialiser_stops, extra_behind, behind_type, variable_word, variable_definition, item, module_form}
@@ -118,7 +119,7 @@ tokens w [] = token w (kind_of w)
 tokens w (c ∷ cs) = if eqb c 32 then token w (kind_of w) ++ tokens [] cs else tokens (w ++ c ∷ []) cs
 
 abbrev read_items : List Lexeme → Option (List (Item WrittenFunction))
-read_items ts = read_whole (module_form (length ts)) ts
+read_items ts = read_whole (module_form [] (length ts)) ts
 
 abbrev reading : List ℕ → Option (List (Item WrittenFunction))
 reading s = read_items (tokens [] s)
@@ -228,10 +229,10 @@ readings = record { whole = refl; numbers = refl; none = refl; operands = refl; 
 -- ---- instructions
 
 abbrev inst : List ℕ → Option InstTree
-inst s = read_whole operation (tokens [] s)
+inst s = read_whole (operation []) (tokens [] s)
 
 abbrev last_inst : List ℕ → Option InstTree
-last_inst s = read_whole terminator (tokens [] s)
+last_inst s = read_whole (terminator []) (tokens [] s)
 
 abbrev x : OperandTree
 x = local (Text (codes "x"))
@@ -424,9 +425,14 @@ orders = record { head = refl; tail = refl; symbols = refl; functions = refl }
 abbrev first_args : List (Item FunctionTree) → Option (List OperandTree)
 first_args items = slice_get (filter_map as_function items) 0 >>= λ f. slice_get f.body 0 >>= λ b. slice_get b.insts 0 >>= λ i. Some i.args
 
--- of a pointer behind some types, as it is compared with null
+-- a function that compares a pointer with null, behind some types
+abbrev compares : (types pointer : List ℕ) → List Lexeme
+compares types pointer = tokens [] (types ++ codes " define void @f ( ) { icmp eq ptr null , " ++ pointer ++ codes " ret void }")
+
+-- the operands of the comparison, where the types are those that are defined
 abbrev constant : (types pointer : List ℕ) → Option (List OperandTree)
-constant types pointer = reading (types ++ codes " define void @f ( ) { icmp eq ptr null , " ++ pointer ++ codes " ret void }") >>= numbered_module >>= first_args
+constant types pointer =
+    reading types >>= λ items. read_whole (module_form (definitions_in items) (length (compares types pointer))) (compares types pointer) >>= numbered_module >>= first_args
 
 -- so many bytes behind @v
 abbrev behind_v : ℕ → Option (List OperandTree)

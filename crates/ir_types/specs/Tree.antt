@@ -21,8 +21,6 @@ pub data OperandTree : Type 0 where
   lanes : List (Option ℕ) → OperandTree
   -- a symbol, and so many bytes behind it, modulo 2^64
   global : Name → ℕ → OperandTree
-  -- a symbol, and how it is stepped through as a memory type: by indexes, each with its width; only where it is not counted in bytes yet
-  indexed : List TypeNode → Name → List (ℕ × ℕ) → OperandTree
 
 -- an instruction: its result's name, where it has one, whether a number that is written in it is out of its type's range, and its attachments
 pub record InstTree : Type 0 where
