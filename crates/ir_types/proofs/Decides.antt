@@ -7,6 +7,7 @@ use Rattle.forms.specs.Nested.{PartsDecide, memory}
 use Rattle.forms.specs.Kept.{kept_piece, kept_run, metadata_node, attachment, attachments}
 use Rattle.forms.specs.LeftOut.{left_out_words}
 use Rattle.forms.proofs.NestedDecides.{memory_decides, memory_takes, memory_after}
+use Rattle.ir_types.specs.Offsets.{Definitions}
 use Rattle.ir_types.specs.TypeNodes.{TypeNode}
 use Rattle.ir_types.specs.Tree.{WrittenFunction, Item, comdat_line, metadata_line}
 use Rattle.ir_types.specs.Grammar.{local_name, global_name, label, width, vector_type, value_type, memory_leaf, array_begin, type_parts, memory_type, return_type, three_flags, inst_memory, lane, constant_word, typed_lane, constant_offset, value, typed_value, typed_pair, pointer_value, index_value, target, alignment, overflowing, possibly_exact, plain_binary, or_operation, predicates, compared, compare, select, freeze, trunc, zext, sext, ptrtoint, entry_of_phi, phi, getelementptr, load, store, argument, signature, call, extractelement, insertelement, shufflevector, branch, case_of_switch, switch, ret, inst_attachments, operation_words, operation, terminator_words, terminator, line, block, type_words, value_words, item_words, instruction_words, excluded_words, kept, parameter, dotted_parameters, declared_function, defined_function, target_line, attribute_group, comdat, metadata, type_definition, initialiser_stops, extra_behind, behind_type, variable_word, variable_definition, item_behind, item, module_form}
@@ -33,8 +34,8 @@ not_opaque zero = refl
 not_opaque (suc d) = refl
 
 -- items that begin with a word
-abbrev with_word : Form (Item WrittenFunction)
-with_word = by_word item_words item_behind
+abbrev with_word : Definitions → Form (Item WrittenFunction)
+with_word defs = by_word item_words (item_behind defs)
 
 -- the others, where memory types are of the form m
 abbrev without_word : Form (List TypeNode) → Form (Item WrittenFunction)
@@ -43,9 +44,9 @@ without_word m = either (mapped comdat_line comdat) (either (mapped metadata_lin
 many_decide : {A : Type 0} (f g : Form A) → decides f ≡ true → decides g ≡ true → nullable f ≡ false → nullable g ≡ false → all_apart (first f) (first g) ≡ true → all_apart (after f ++ after g) (first f ++ first g) ≡ true → decides (many (either f g)) ≡ true
 many_decide f g df dg nf ng fg afg = rw (df, dg, nf, ng, fg, afg) refl
 
-words_decide : decides with_word ≡ true
+words_decide : (defs : Definitions) → decides (with_word defs) ≡ true
 unfolding local_name global_name label width vector_type value_type return_type three_flags inst_memory lane constant_word typed_lane constant_offset value typed_value typed_pair pointer_value index_value target alignment overflowing possibly_exact plain_binary or_operation predicates compared compare select freeze trunc zext sext ptrtoint entry_of_phi phi getelementptr load store argument signature call extractelement insertelement shufflevector branch case_of_switch switch ret inst_attachments operation_words operation terminator_words terminator block kept_piece kept_run metadata_node attachment attachments left_out_words type_words value_words item_words instruction_words excluded_words kept parameter dotted_parameters declared_function defined_function target_line attribute_group comdat metadata memory_leaf type_definition initialiser_stops extra_behind behind_type variable_word variable_definition item
-words_decide = refl
+words_decide defs = refl
 
 others_decide : (m : Form (List TypeNode)) → decides m ≡ true → nullable m ≡ false → after m ≡ [] → all_apart (first m) (this Word (codes "opaque") ∷ []) ≡ true → decides (without_word m) ≡ true
 unfolding local_name global_name label width vector_type value_type return_type three_flags inst_memory lane constant_word typed_lane constant_offset value typed_value typed_pair pointer_value index_value target alignment overflowing possibly_exact plain_binary or_operation predicates compared compare select freeze trunc zext sext ptrtoint entry_of_phi phi getelementptr load store argument signature call extractelement insertelement shufflevector branch case_of_switch switch ret inst_attachments operation_words operation terminator_words terminator block kept_piece kept_run metadata_node attachment attachments left_out_words type_words value_words item_words instruction_words excluded_words kept parameter dotted_parameters declared_function defined_function target_line attribute_group comdat metadata memory_leaf type_definition initialiser_stops extra_behind behind_type variable_word variable_definition item
@@ -57,26 +58,26 @@ unfolding local_name global_name label width vector_type value_type return_type 
 others_after m n a = rw (n, a) refl
 
 -- whatever the form of memory types is
-items_decide : (m : Form (List TypeNode)) → decides m ≡ true → nullable m ≡ false → after m ≡ [] → all_apart (first m) (this Word (codes "opaque") ∷ []) ≡ true → decides (many (item m)) ≡ true
+items_decide : (defs : Definitions) (m : Form (List TypeNode)) → decides m ≡ true → nullable m ≡ false → after m ≡ [] → all_apart (first m) (this Word (codes "opaque") ∷ []) ≡ true → decides (many (item defs m)) ≡ true
 unfolding local_name global_name label width vector_type value_type return_type three_flags inst_memory lane constant_word typed_lane constant_offset value typed_value typed_pair pointer_value index_value target alignment overflowing possibly_exact plain_binary or_operation predicates compared compare select freeze trunc zext sext ptrtoint entry_of_phi phi getelementptr load store argument signature call extractelement insertelement shufflevector branch case_of_switch switch ret inst_attachments operation_words operation terminator_words terminator block kept_piece kept_run metadata_node attachment attachments left_out_words type_words value_words item_words instruction_words excluded_words kept parameter dotted_parameters declared_function defined_function target_line attribute_group comdat metadata memory_leaf type_definition initialiser_stops extra_behind behind_type variable_word variable_definition item
-items_decide m d n a o =
-    many_decide with_word (without_word m) words_decide (others_decide m d n a o) refl refl refl
-    (subst (λ (l : List Terminal). all_apart (after with_word ++ l) (first with_word ++ first (without_word m)) ≡ true) (sym (others_after m n a)) refl)
+items_decide defs m d n a o =
+    many_decide (with_word defs) (without_word m) (words_decide defs) (others_decide m d n a o) refl refl refl
+    (subst (λ (l : List Terminal). all_apart (after (with_word defs) ++ l) (first (with_word defs) ++ first (without_word m)) ≡ true) (sym (others_after m n a)) refl)
 
-pub module_decides : (depth : ℕ) → decides (module_form depth) ≡ true
+pub module_decides : (defs : Definitions) (depth : ℕ) → decides (module_form defs depth) ≡ true
 unfolding module_form
-module_decides depth = items_decide (memory_type depth) (memory_decides type_parts parts_decide depth) (memory_takes type_parts parts_decide depth) (memory_after type_parts parts_decide depth) (not_opaque depth)
+module_decides defs depth = items_decide defs (memory_type depth) (memory_decides type_parts parts_decide depth) (memory_takes type_parts parts_decide depth) (memory_after type_parts parts_decide depth) (not_opaque depth)
 
 -- each of these takes a token
 
-pub line_takes : nullable (line operation) ≡ false
+pub line_takes : (defs : Definitions) → nullable (line (operation defs)) ≡ false
 unfolding operation
-line_takes = refl
+line_takes defs = refl
 
-pub block_takes : nullable block ≡ false
+pub block_takes : (defs : Definitions) → nullable (block defs) ≡ false
 unfolding block operation terminator
-block_takes = refl
+block_takes defs = refl
 
-pub item_takes : (m : Form (List TypeNode)) → nullable (item m) ≡ false
+pub item_takes : (defs : Definitions) (m : Form (List TypeNode)) → nullable (item defs m) ≡ false
 unfolding type_definition variable_definition comdat metadata item
-item_takes m = refl
+item_takes defs m = refl

@@ -19,8 +19,9 @@ use Rattle.ir_types.specs.declared.call.TailKind.TheVariants.{Unmarked, Tail, Mu
 use Rattle.ir_types.specs.Kinds.{Kind, Offset, Binary, Compare, Select, Freeze, Trunc, Zext, Sext, PtrToInt, Phi, Load, Store, Call, Extract, Insert, Shuffle, Jump, Branch, Switch, Return, ReturnVoid, Unreachable}
 use Rattle.ir_types.specs.declared.inst.BinOp.TheVariants.{Add, Sub, Mul, Shl, UDiv, AShr, And, Or, Xor}
 use Rattle.ir_types.specs.Written.{number_of, number_at, unescaped, name_behind, name_before}
+use Rattle.ir_types.specs.Offsets.{definitions_in}
 use Rattle.ir_types.specs.TypeNodes.{TypeNode, scalar, called, array, opening, closing}
-use Rattle.ir_types.specs.Tree.{KeptTexts, OperandTree, local, number, null, poison, lanes, global, InstTree, BlockTree, FunctionTree, WrittenFunction, TypeNameTree, defined, opaque, missing, ModuleTree, Item, head_line, comdat_line, type_item, variable_item, function_item, metadata_line}
+use Rattle.ir_types.specs.Tree.{KeptTexts, OperandTree, local, number, null, poison, lanes, global, InstTree, BlockTree, FunctionTree, WrittenFunction, TypeNameTree, defined, opaque, ModuleTree, Item, head_line, comdat_line, type_item, variable_item, function_item, metadata_line}
 use Rattle.ir_types.specs.Grammar.{local_name, global_name, label, width, vector_type, value_type, return_type, three_flags, inst_memory, lane, constant_word, typed_lane, constant_offset, value, typed_value, typed_pair, pointer_value, index_value, target, alignment, overflowing, possibly_exact, plain_binary, or_operation, predicates, compared, compare, select, freeze, trunc, zext, sext, ptrtoint, entry_of_phi, phi, getelementptr, load, store, argument, signature, call, extractelement, insertelement, shufflevector, branch, case_of_switch, switch, ret, inst_attachments, bare_inst, named_by, with_kept, no_flags, wrap_flags, exact_flag, disjoint_flag, operation_words, operation, terminator_words, terminator, block, type_words, value_words, item_words, instruction_words, excluded_words, kept, memory_leaf, array_begin, type_parts, parameter, dotted_parameters, declared_function, defined_function, target_line, attribute_group, comdat, metadata, type_definition, initialiser_stops, extra_behind, behind_type, variable_word, variable_definition, item, module_form}
 use Rattle.ir_types.specs.Sizes.{Layout, value_size, struct_layout}
 use Rattle.ir_types.specs.Numbered.{numbered_module}
@@ -118,7 +119,7 @@ tokens w [] = token w (kind_of w)
 tokens w (c ∷ cs) = if eqb c 32 then token w (kind_of w) ++ tokens [] cs else tokens (w ++ c ∷ []) cs
 
 abbrev read_items : List Lexeme → Option (List (Item WrittenFunction))
-read_items ts = read_whole (module_form (length ts)) ts
+read_items ts = read_whole (module_form [] (length ts)) ts
 
 abbrev reading : List ℕ → Option (List (Item WrittenFunction))
 reading s = read_items (tokens [] s)
@@ -228,10 +229,10 @@ readings = record { whole = refl; numbers = refl; none = refl; operands = refl; 
 -- ---- instructions
 
 abbrev inst : List ℕ → Option InstTree
-inst s = read_whole operation (tokens [] s)
+inst s = read_whole (operation []) (tokens [] s)
 
 abbrev last_inst : List ℕ → Option InstTree
-last_inst s = read_whole terminator (tokens [] s)
+last_inst s = read_whole (terminator []) (tokens [] s)
 
 abbrev x : OperandTree
 x = local (Text (codes "x"))
@@ -336,15 +337,12 @@ calls = record { whole = refl; bare = refl; dots = refl; no_types = refl; aligne
 
 -- ---- items
 
--- a definition that uses a type defined behind it, one that is nowhere, and a struct of none; a variable that uses another
+-- a definition that uses a type defined behind it and one that is nowhere, and a struct of none; a variable that uses another
 abbrev types : List ℕ
 types = codes "@v = internal constant [ 3 x %w ] zeroinitializer , align 4 %a = type { i8 , %b , %u } %b = type < { %t , [ 0 x i64 ] } > %c = type opaque %d = type { }"
 
 abbrev type_names : List ℕ → Option (List TypeNameTree)
 type_names s = reading s >>= numbered_module >>= λ items. Some (collected items).type_names
-
-abbrev missing_type : List ℕ → TypeNameTree
-missing_type s = record { name = Text s; ty = missing }
 
 record Items : Type 0 where
   -- variables, comdats, declarations and metadata
@@ -364,14 +362,13 @@ record Items : Type 0 where
       }) ∷
       metadata_line (codes "!0" ∷ codes "=" ∷ codes "!" ∷ codes "{" ∷ codes "}" ∷ []) ∷
       [])
-  -- definitions in their order, and then what types use and what variables use
+  -- definitions in their order
   named : type_names types
       ≡ Some (
       record { name = Text (codes "a"); ty = defined (opening false ∷ scalar (Int 8) ∷ called (Text (codes "b")) ∷ called (Text (codes "u")) ∷ closing ∷ []) } ∷
       record { name = Text (codes "b"); ty = defined (opening true ∷ called (Text (codes "t")) ∷ array 0 ∷ scalar (Int 64) ∷ closing ∷ []) } ∷
       record { name = Text (codes "c"); ty = opaque } ∷
       record { name = Text (codes "d"); ty = defined (opening false ∷ closing ∷ []) } ∷
-      missing_type (codes "u") ∷ missing_type (codes "t") ∷ missing_type (codes "w") ∷
       [])
   -- dots behind parameters, alone, and behind a comma alone; two sections
   dots_alone : names_in (codes "declare void @f ( ... )") ≡ Some ([] ∷ [])
@@ -424,9 +421,14 @@ orders = record { head = refl; tail = refl; symbols = refl; functions = refl }
 abbrev first_args : List (Item FunctionTree) → Option (List OperandTree)
 first_args items = slice_get (filter_map as_function items) 0 >>= λ f. slice_get f.body 0 >>= λ b. slice_get b.insts 0 >>= λ i. Some i.args
 
--- of a pointer behind some types, as it is compared with null
+-- a function that compares a pointer with null, behind some types
+abbrev compares : (types pointer : List ℕ) → List Lexeme
+compares types pointer = tokens [] (types ++ codes " define void @f ( ) { icmp eq ptr null , " ++ pointer ++ codes " ret void }")
+
+-- the operands of the comparison, where the types are those that are defined
 abbrev constant : (types pointer : List ℕ) → Option (List OperandTree)
-constant types pointer = reading (types ++ codes " define void @f ( ) { icmp eq ptr null , " ++ pointer ++ codes " ret void }") >>= numbered_module >>= first_args
+constant types pointer =
+    reading types >>= λ items. read_whole (module_form (definitions_in items) (length (compares types pointer))) (compares types pointer) >>= numbered_module >>= first_args
 
 -- so many bytes behind @v
 abbrev behind_v : ℕ → Option (List OperandTree)
@@ -476,18 +478,6 @@ record Constants : Type 0 where
 constants : Constants
 unfolding table local_name global_name label width vector_type value_type return_type three_flags inst_memory lane constant_word typed_lane constant_offset value typed_value typed_pair pointer_value index_value target alignment overflowing possibly_exact plain_binary or_operation predicates compared compare select freeze trunc zext sext ptrtoint entry_of_phi phi getelementptr load store argument signature call extractelement insertelement shufflevector branch case_of_switch switch ret inst_attachments operation_words operation terminator_words terminator block kept_piece kept_run metadata_node attachment attachments left_out_words type_words value_words item_words instruction_words excluded_words kept memory_leaf array_begin type_parts parameter dotted_parameters declared_function defined_function target_line attribute_group comdat metadata type_definition initialiser_stops extra_behind behind_type variable_word variable_definition item module_form
 constants = record { bare = refl; member = refl; packed = refl; named_twice = refl; before = refl; small_before = refl; around = refl; beyond = refl; no_type = refl; great_step = refl; none_of_great = refl; into_great = refl; great = refl; almost_great = refl; no_member = refl; negative_member = refl; into_number = refl; into_lanes = refl; itself = refl; unknown_type = refl; missing_struct = refl; no_index = refl; local_index = refl; stepped_from = refl; packed_from = refl; lanes_from = refl; no_steps = refl; flag_twice = refl; void_from = refl; unclosed_type = refl }
-
--- the symbols and types that functions use stand behind the others, by first use
-abbrev users : List ℕ
-users = codes "define void @f ( ) { call void @h ( ptr @b , ptr @v ) icmp eq ptr @a , getelementptr ( i8 , ptr @b , i64 1 ) getelementptr %u , ptr @f , i64 0 ret void } @v = global %w 0 %t = type i8 declare void @g ( )"
-
-record Uses : Type 0 where
-  symbols : (collected_of users >>= λ m. Some (map (λ s. s.name) m.symbols)) ≡ Some (Text (codes "v") ∷ Text (codes "f") ∷ Text (codes "g") ∷ Text (codes "b") ∷ Text (codes "a") ∷ [])
-  types : (collected_of users >>= λ m. Some (map (λ t. t.name) m.type_names)) ≡ Some (Text (codes "t") ∷ Text (codes "w") ∷ Text (codes "u") ∷ [])
-
-uses : Uses
-unfolding table local_name global_name label width vector_type value_type return_type three_flags inst_memory lane constant_word typed_lane constant_offset value typed_value typed_pair pointer_value index_value target alignment overflowing possibly_exact plain_binary or_operation predicates compared compare select freeze trunc zext sext ptrtoint entry_of_phi phi getelementptr load store argument signature call extractelement insertelement shufflevector branch case_of_switch switch ret inst_attachments operation_words operation terminator_words terminator block kept_piece kept_run metadata_node attachment attachments left_out_words type_words value_words item_words instruction_words excluded_words kept memory_leaf array_begin type_parts parameter dotted_parameters declared_function defined_function target_line attribute_group comdat metadata type_definition initialiser_stops extra_behind behind_type variable_word variable_definition item module_form
-uses = record { symbols = refl; types = refl }
 
 -- ---- sizes
 

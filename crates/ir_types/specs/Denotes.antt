@@ -1,7 +1,7 @@
 -- Which tree a module denotes: each position replaced by what it names.
-use Rattle.std.specs.Prelude.{◌≡◌, List, map}
+use Rattle.std.specs.Prelude.{◌≡◌, ◌≢◌, ℕ, List, map, slice_get, Option, Some, None}
 use Rattle.std.specs.Option.{option_map}
-use Rattle.std.specs.List.{AllByRecursion}
+use Rattle.std.specs.List.{AllByRecursion, filter_map}
 use Rattle.ir_types.specs.declared.name.Name.{Name}
 use Rattle.ir_types.specs.declared.name.ValueId.{ValueId}
 use Rattle.ir_types.specs.declared.inst.Operand.{Operand}
@@ -14,7 +14,6 @@ use Rattle.ir_types.specs.declared.module.Block.{Block}
 use Rattle.ir_types.specs.declared.module.Param.{Param}
 use Rattle.ir_types.specs.declared.module.Function.{Function}
 use Rattle.ir_types.specs.declared.module.Symbol.{Symbol}
-use Rattle.ir_types.specs.declared.module.SymbolKind.{SymbolKind}
 use Rattle.ir_types.specs.declared.module.SymbolKind.TheVariants as symbols
 use Rattle.ir_types.specs.declared.module.Module.{Module}
 use Rattle.ir_types.specs.declared.memory_type.TypeId.{TypeId}
@@ -26,7 +25,7 @@ use Rattle.ir_types.specs.TypeNodes.{TypeNode, type_nodes}
 use Rattle.ir_types.specs.Sizes.{AreExtents}
 use Rattle.ir_types.specs.Names.{name_at, IsTable}
 use Rattle.ir_types.specs.Kinds.{Kind, Binary, Compare, Select, Freeze, Trunc, Zext, Sext, PtrToInt, Phi, Offset, Load, Store, Call, Extract, Insert, Shuffle, Jump, Branch, Switch, ReturnVoid, Return, Unreachable}
-use Rattle.ir_types.specs.Tree.{OperandTree, local, number, null, poison, lanes, global, InstTree, BlockTree, ParamTree, FunctionTree, NamedTree, defined, opaque, missing, TypeNameTree, SymbolKindTree, variable, function, missing_symbol, SymbolTree, ModuleTree}
+use Rattle.ir_types.specs.Tree.{OperandTree, local, number, null, poison, lanes, global, InstTree, BlockTree, ParamTree, FunctionTree, NamedTree, defined, opaque, TypeNameTree, SymbolKindTree, variable, function, SymbolTree, ModuleTree}
 
 -- the name at a place
 abbrev pub name_in : List Name → ValueId → Name
@@ -96,25 +95,17 @@ type_names_of m = map (λ (n : TypeName). n.name) m.type_names
 abbrev pub nodes_in : Module → TypeId → List TypeNode
 nodes_in m id = type_nodes (type_names_of m) m.types id
 
--- what a name of a type stands for
-abbrev pub named_in : Module → NamedType → NamedTree
-named_in m (Defined id) = defined (nodes_in m id)
-named_in m Opaque = opaque
-named_in m Missing = missing
+-- a name of a type with its definition, where it is defined
+abbrev pub type_name_in : Module → TypeName → Option TypeNameTree
+type_name_in m n = elim n.ty [ Defined id ↦ Some (record { name = n.name; ty = defined (nodes_in m id) }) | Opaque ↦ Some (record { name = n.name; ty = opaque }) | Missing ↦ None ]
 
--- a name of a type, with what it stands for
-abbrev pub type_name_in : Module → TypeName → TypeNameTree
-type_name_in m n = record { name = n.name; ty = named_in m n.ty }
-
--- what a symbol stands for
-abbrev pub symbol_kind_in : Module → SymbolKind → SymbolKindTree
-symbol_kind_in m (symbols.Variable id writable) = variable (nodes_in m id) writable
-symbol_kind_in m (symbols.Function f) = function f.0
-symbol_kind_in m symbols.Missing = missing_symbol
-
--- a symbol, with what it stands for
-abbrev pub symbol_in : Module → Symbol → SymbolTree
-symbol_in m s = record { name = s.name; kind = symbol_kind_in m s.kind; before = s.before; after = s.after }
+-- a symbol with what it is defined or declared as, where it is
+abbrev pub symbol_in : Module → Symbol → Option SymbolTree
+symbol_in m s = elim s.kind [
+  | symbols.Variable id writable ↦ Some (record { name = s.name; kind = variable (nodes_in m id) writable; before = s.before; after = s.after })
+  | symbols.Function f ↦ Some (record { name = s.name; kind = function f.0; before = s.before; after = s.after })
+  | symbols.Missing ↦ None
+]
 
 -- a module's lists for its functions
 abbrev pub tables_of : Module → Tables
@@ -122,7 +113,11 @@ tables_of m = record { symbols = map (λ (s : Symbol). s.name) m.symbols; type_n
 
 -- a module: each position replaced by what it names
 abbrev pub tree_of : Module → ModuleTree
-tree_of m = record { head = m.head; type_names = map (type_name_in m) m.type_names; symbols = map (symbol_in m) m.symbols; functions = map (function_in (tables_of m)) m.functions; tail = m.tail }
+tree_of m = record { head = m.head; type_names = filter_map (type_name_in m) m.type_names; symbols = filter_map (symbol_in m) m.symbols; functions = map (function_in (tables_of m)) m.functions; tail = m.tail }
+
+-- a name that is in the list because it is used: no other entry has it
+abbrev pub AreMissingApart : {A : Type 0} → (A → Name) → (A → Type 0) → List A → Type 0
+AreMissingApart {A} name IsMissing entries = (i j : ℕ) (x y : A) → slice_get entries i ≡ Some x → slice_get entries j ≡ Some y → IsMissing x → i ≢ j → name x ≢ name y
 
 -- the module says what the tree says
 pub record Denotes (m : Module) (tree : ModuleTree) : Type 0 where
@@ -133,3 +128,6 @@ pub record Denotes (m : Module) (tree : ModuleTree) : Type 0 where
   pub types : AreTypes (type_names_of m) 0 m.types
   -- the extents are those of the types
   pub extents : AreExtents m.types m.type_names m.extents
+  -- a name that is only used stands in its list once
+  pub missing_types : AreMissingApart (λ (n : TypeName). n.name) (λ (n : TypeName). n.ty ≡ Missing) m.type_names
+  pub missing_symbols : AreMissingApart (λ (s : Symbol). s.name) (λ (s : Symbol). s.kind ≡ symbols.Missing) m.symbols

@@ -42,8 +42,9 @@ pub use Rattle.forms.specs.Kept.{is_unsigned}
 use Rattle.forms.specs.Kept.{kept_one, kept_token, kept_such, perhaps, in_braces, kept_run, attachment, attachments, kept_behind_comma}
 use Rattle.forms.specs.LeftOut.{left_out_words}
 use Rattle.ir_types.specs.Sizes.{value_size}
+use Rattle.ir_types.specs.Offsets.{Definitions, definitions_in, offset_of}
 use Rattle.ir_types.specs.TypeNodes.{TypeNode, scalar, called, array, opening, closing}
-use Rattle.ir_types.specs.Tree.{KeptTexts, OperandTree, local, number, null, poison, lanes, global, indexed, InstTree, WrittenParam, WrittenBlock, WrittenFunction, VariableTree, Item, head_line, comdat_line, type_item, variable_item, function_item, attribute_line, metadata_line}
+use Rattle.ir_types.specs.Tree.{KeptTexts, OperandTree, local, number, null, poison, lanes, global, InstTree, WrittenParam, WrittenBlock, WrittenFunction, VariableTree, Item, head_line, comdat_line, type_item, variable_item, function_item, attribute_line, metadata_line}
 
 -- ---- names, types and values
 
@@ -309,19 +310,20 @@ abbrev pub lanes_at : Ty → List (Ty × WrittenLane) → Option OperandTree
 lanes_at (Vector n w) xs = if list_all (λ x. is_int w x.0) xs then Some (lanes (map (λ x. lane_at w x.1) xs)) else None
 lanes_at t xs = None
 
--- a written value at a type: a number is held modulo 2^w; lanes have a reading at vectors of their type alone
-abbrev pub operand_at : Ty → WrittenValue → Option OperandTree
-operand_at t (named n) = Some (local n)
-operand_at t (digits s) = Some (number (number_at (width_of t) s))
-operand_at t yes = Some (number 1)
-operand_at t no = Some (number 0)
-operand_at t null_word = Some null
-operand_at t poison_word = Some poison
-operand_at t zeros = zeros_at t
-operand_at t (splat x) = splat_at t x
-operand_at t (lane_list xs) = lanes_at t xs
-operand_at t (symbol n) = Some (global n 0)
-operand_at t (stepped x) = Some (indexed x.0 x.1.0 x.1.1)
+-- a written value at a type, where names of types are defined so: a number is held modulo 2^w; lanes have a reading at vectors of their type
+-- alone; a symbol that is stepped through is counted in bytes
+abbrev pub operand_at : Definitions → Ty → WrittenValue → Option OperandTree
+operand_at defs t (named n) = Some (local n)
+operand_at defs t (digits s) = Some (number (number_at (width_of t) s))
+operand_at defs t yes = Some (number 1)
+operand_at defs t no = Some (number 0)
+operand_at defs t null_word = Some null
+operand_at defs t poison_word = Some poison
+operand_at defs t zeros = zeros_at t
+operand_at defs t (splat x) = splat_at t x
+operand_at defs t (lane_list xs) = lanes_at t xs
+operand_at defs t (symbol n) = Some (global n 0)
+operand_at defs t (stepped x) = offset_of defs x.0 x.1.1 >>= λ o. Some (global x.1.0 o)
 
 -- ---- what is kept
 
@@ -356,43 +358,43 @@ excluded_words =
 unfoldable pub kept : Form KeptTexts
 kept = kept_run excluded_words
 
--- ---- parts of instructions
+-- ---- parts of instructions, where names of types are defined so
 
 -- a value with its type
-abbrev pub with_type : Ty × WrittenValue → Option (Ty × OperandTree)
-with_type x = operand_at x.0 x.1 >>= λ a. Some (x.0, a)
+abbrev pub with_type : Definitions → Ty × WrittenValue → Option (Ty × OperandTree)
+with_type defs x = operand_at defs x.0 x.1 >>= λ a. Some (x.0, a)
 
 -- T V
-unfoldable pub typed_value : Form (Ty × OperandTree)
-typed_value = made with_type (pair value_type value)
+unfoldable pub typed_value : Definitions → Form (Ty × OperandTree)
+typed_value defs = made (with_type defs) (pair value_type value)
 
 -- , T V
-abbrev pub comma_typed : Form (Ty × OperandTree)
-comma_typed = after_mark Comma typed_value
+abbrev pub comma_typed : Definitions → Form (Ty × OperandTree)
+comma_typed defs = after_mark Comma (typed_value defs)
 
 -- V, V
 abbrev pub two_values : Form (WrittenValue × WrittenValue)
 two_values = pair value (after_mark Comma value)
 
 -- two values with the type of both
-abbrev pub both_at : Ty × (WrittenValue × WrittenValue) → Option (Ty × (OperandTree × OperandTree))
-both_at x = operand_at x.0 x.1.0 >>= λ a. operand_at x.0 x.1.1 >>= λ b. Some (x.0, (a, b))
+abbrev pub both_at : Definitions → Ty × (WrittenValue × WrittenValue) → Option (Ty × (OperandTree × OperandTree))
+both_at defs x = operand_at defs x.0 x.1.0 >>= λ a. operand_at defs x.0 x.1.1 >>= λ b. Some (x.0, (a, b))
 
 -- T V, V
-unfoldable pub typed_pair : Form (Ty × (OperandTree × OperandTree))
-typed_pair = made both_at (pair value_type two_values)
+unfoldable pub typed_pair : Definitions → Form (Ty × (OperandTree × OperandTree))
+typed_pair defs = made (both_at defs) (pair value_type two_values)
 
 -- ptr V
-unfoldable pub pointer_value : Form OperandTree
-pointer_value = made (operand_at Ptr) (behind (codes "ptr") value)
+unfoldable pub pointer_value : Definitions → Form OperandTree
+pointer_value defs = made (operand_at defs Ptr) (behind (codes "ptr") value)
 
 -- a value with the width of its type
-abbrev pub with_width : ℕ × WrittenValue → Option (ℕ × OperandTree)
-with_width x = operand_at (Int x.0) x.1 >>= λ a. Some (x.0, a)
+abbrev pub with_width : Definitions → ℕ × WrittenValue → Option (ℕ × OperandTree)
+with_width defs x = operand_at defs (Int x.0) x.1 >>= λ a. Some (x.0, a)
 
 -- iN V
-unfoldable pub index_value : Form (ℕ × OperandTree)
-index_value = made with_width (pair width value)
+unfoldable pub index_value : Definitions → Form (ℕ × OperandTree)
+index_value defs = made (with_width defs) (pair width value)
 
 -- to T
 abbrev pub to_type : Form Ty
@@ -440,20 +442,20 @@ abbrev pub binary_tree : BinOp → Flags → Ty × (OperandTree × OperandTree) 
 binary_tree op flags x = bare_inst (kinds.Binary op flags) x.0 (x.1.0 ∷ x.1.1 ∷ []) []
 
 -- [nuw] [nsw] T V, V
-unfoldable pub overflowing : BinOp → Form InstTree
-overflowing op = mapped (λ x. binary_tree op (wrap_flags x.0) x.1) (pair (two_flags (codes "nuw") (codes "nsw")) typed_pair)
+unfoldable pub overflowing : Definitions → BinOp → Form InstTree
+overflowing defs op = mapped (λ x. binary_tree op (wrap_flags x.0) x.1) (pair (two_flags (codes "nuw") (codes "nsw")) (typed_pair defs))
 
 -- [exact] T V, V
-unfoldable pub possibly_exact : BinOp → Form InstTree
-possibly_exact op = mapped (λ x. binary_tree op (exact_flag x.0) x.1) (pair (one_flag (codes "exact")) typed_pair)
+unfoldable pub possibly_exact : Definitions → BinOp → Form InstTree
+possibly_exact defs op = mapped (λ x. binary_tree op (exact_flag x.0) x.1) (pair (one_flag (codes "exact")) (typed_pair defs))
 
 -- T V, V
-unfoldable pub plain_binary : BinOp → Form InstTree
-plain_binary op = mapped (binary_tree op no_flags) typed_pair
+unfoldable pub plain_binary : Definitions → BinOp → Form InstTree
+plain_binary defs op = mapped (binary_tree op no_flags) (typed_pair defs)
 
 -- [disjoint] T V, V
-unfoldable pub or_operation : Form InstTree
-or_operation = mapped (λ x. binary_tree Or (disjoint_flag x.0) x.1) (pair (one_flag (codes "disjoint")) typed_pair)
+unfoldable pub or_operation : Definitions → Form InstTree
+or_operation defs = mapped (λ x. binary_tree Or (disjoint_flag x.0) x.1) (pair (one_flag (codes "disjoint")) (typed_pair defs))
 
 -- the ten predicates
 unfoldable pub predicates : List (List ℕ × Pred)
@@ -482,73 +484,73 @@ abbrev pub compare_tree : Pred → Ty × (OperandTree × OperandTree) → InstTr
 compare_tree p x = bare_inst (kinds.Compare p x.0) (bits_for x.0) (x.1.0 ∷ x.1.1 ∷ []) []
 
 -- T V, V behind the predicate
-unfoldable pub compared : Pred → Form InstTree
-compared p = mapped (compare_tree p) typed_pair
+unfoldable pub compared : Definitions → Pred → Form InstTree
+compared defs p = mapped (compare_tree p) (typed_pair defs)
 
 -- pred T V, V
-unfoldable pub compare : Form InstTree
-compare = by_word predicates compared
+unfoldable pub compare : Definitions → Form InstTree
+compare defs = by_word predicates (compared defs)
 
 -- three values with their types
-abbrev pub three_values : Form ((Ty × OperandTree) × ((Ty × OperandTree) × (Ty × OperandTree)))
-three_values = pair typed_value (pair comma_typed comma_typed)
+abbrev pub three_values : Definitions → Form ((Ty × OperandTree) × ((Ty × OperandTree) × (Ty × OperandTree)))
+three_values defs = pair (typed_value defs) (pair (comma_typed defs) (comma_typed defs))
 
 -- a condition and two arms; the result has the first arm's type
 abbrev pub select_tree : (Ty × OperandTree) × ((Ty × OperandTree) × (Ty × OperandTree)) → InstTree
 select_tree x = bare_inst (kinds.Select x.0.0 x.1.1.0) x.1.0.0 (x.0.1 ∷ x.1.0.1 ∷ x.1.1.1 ∷ []) []
 
 -- T V, T V, T V
-unfoldable pub select : Form InstTree
-select = mapped select_tree three_values
+unfoldable pub select : Definitions → Form InstTree
+select defs = mapped select_tree (three_values defs)
 
 -- a value of its own type
 abbrev pub freeze_tree : Ty × OperandTree → InstTree
 freeze_tree x = bare_inst kinds.Freeze x.0 (x.1 ∷ []) []
 
 -- T V
-unfoldable pub freeze : Form InstTree
-freeze = mapped freeze_tree typed_value
+unfoldable pub freeze : Definitions → Form InstTree
+freeze defs = mapped freeze_tree (typed_value defs)
 
 -- a cast of a value to a type
 abbrev pub cast_tree : (Ty → Kind) → (Ty × OperandTree) × Ty → InstTree
 cast_tree kind x = bare_inst (kind x.0.0) x.1 (x.0.1 ∷ []) []
 
 -- [nuw] [nsw] T V to T
-unfoldable pub trunc : Form InstTree
-trunc = mapped (λ x. cast_tree (λ t. kinds.Trunc t x.0.0 x.0.1) x.1) (pair (two_flags (codes "nuw") (codes "nsw")) (pair typed_value to_type))
+unfoldable pub trunc : Definitions → Form InstTree
+trunc defs = mapped (λ x. cast_tree (λ t. kinds.Trunc t x.0.0 x.0.1) x.1) (pair (two_flags (codes "nuw") (codes "nsw")) (pair (typed_value defs) to_type))
 
 -- [nneg] T V to T
-unfoldable pub zext : Form InstTree
-zext = mapped (λ x. cast_tree (λ t. kinds.Zext t x.0) x.1) (pair (one_flag (codes "nneg")) (pair typed_value to_type))
+unfoldable pub zext : Definitions → Form InstTree
+zext defs = mapped (λ x. cast_tree (λ t. kinds.Zext t x.0) x.1) (pair (one_flag (codes "nneg")) (pair (typed_value defs) to_type))
 
 -- T V to T
-unfoldable pub sext : Form InstTree
-sext = mapped (cast_tree kinds.Sext) (pair typed_value to_type)
+unfoldable pub sext : Definitions → Form InstTree
+sext defs = mapped (cast_tree kinds.Sext) (pair (typed_value defs) to_type)
 
 -- the address of a pointer at a type
 abbrev pub address_tree : OperandTree × Ty → InstTree
 address_tree x = bare_inst kinds.PtrToInt x.1 (x.0 ∷ []) []
 
 -- ptr V to T
-unfoldable pub ptrtoint : Form InstTree
-ptrtoint = mapped address_tree (pair pointer_value to_type)
+unfoldable pub ptrtoint : Definitions → Form InstTree
+ptrtoint defs = mapped address_tree (pair (pointer_value defs) to_type)
 
 -- [ V, %name ]
 unfoldable pub entry_of_phi : Form (WrittenValue × Name)
 entry_of_phi = between LeftBracket RightBracket (pair value (after_mark Comma local_name))
 
 -- the operands of a phi's entries at its type
-abbrev pub entries_at : Ty → List (WrittenValue × Name) → Option (List OperandTree)
-entries_at t [] = Some []
-entries_at t (e ∷ es) = operand_at t e.0 >>= λ a. entries_at t es >>= λ more. Some (a ∷ more)
+abbrev pub entries_at : Definitions → Ty → List (WrittenValue × Name) → Option (List OperandTree)
+entries_at defs t [] = Some []
+entries_at defs t (e ∷ es) = operand_at defs t e.0 >>= λ a. entries_at defs t es >>= λ more. Some (a ∷ more)
 
 -- a phi: its operands at its type, and a label for each
-abbrev pub phi_tree : Ty × List (WrittenValue × Name) → Option InstTree
-phi_tree x = entries_at x.0 x.1 >>= λ args. Some (bare_inst kinds.Phi x.0 args (map (λ e. e.1) x.1))
+abbrev pub phi_tree : Definitions → Ty × List (WrittenValue × Name) → Option InstTree
+phi_tree defs x = entries_at defs x.0 x.1 >>= λ args. Some (bare_inst kinds.Phi x.0 args (map (λ e. e.1) x.1))
 
 -- T [ V, %name ], ..
-unfoldable pub phi : Form InstTree
-phi = made phi_tree (pair value_type (commas entry_of_phi))
+unfoldable pub phi : Definitions → Form InstTree
+phi defs = made (phi_tree defs) (pair value_type (commas entry_of_phi))
 
 -- a pointer that is stepped from through a memory type, by indexes
 abbrev pub offset_tree : (Bool × (Bool × Bool)) × (List TypeNode × (OperandTree × ((ℕ × OperandTree) × List (ℕ × OperandTree)))) → InstTree
@@ -557,25 +559,25 @@ offset_tree x =
     bare_inst (kinds.Offset x.1.0 (map (λ i. i.0) indexes) x.0.0 x.0.1.0 x.0.1.1) Ptr (x.1.1.0 ∷ map (λ i. i.1) indexes) []
 
 -- [inbounds] [nuw] [nusw] M, ptr V, iN V, ..
-unfoldable pub getelementptr : Form InstTree
-getelementptr =
-    mapped offset_tree (pair three_flags (pair inst_memory (pair (after_mark Comma pointer_value) (pair (after_mark Comma index_value) (many (marked Comma index_value))))))
+unfoldable pub getelementptr : Definitions → Form InstTree
+getelementptr defs =
+    mapped offset_tree (pair three_flags (pair inst_memory (pair (after_mark Comma (pointer_value defs)) (pair (after_mark Comma (index_value defs)) (many (marked Comma (index_value defs)))))))
 
 -- a load from a pointer
 abbrev pub load_tree : Ty × (OperandTree × Option ℕ) → InstTree
 load_tree x = bare_inst (kinds.Load (align_or x.0 x.1.1)) x.0 (x.1.0 ∷ []) []
 
 -- T, ptr V [, align n]
-unfoldable pub load : Form InstTree
-load = mapped load_tree (pair value_type (pair (after_mark Comma pointer_value) alignment))
+unfoldable pub load : Definitions → Form InstTree
+load defs = mapped load_tree (pair value_type (pair (after_mark Comma (pointer_value defs)) alignment))
 
 -- a store of a value to a pointer
 abbrev pub store_tree : (Ty × OperandTree) × (OperandTree × Option ℕ) → InstTree
 store_tree x = bare_inst (kinds.Store x.0.0 (align_or x.0.0 x.1.1)) Void (x.0.1 ∷ x.1.0 ∷ []) []
 
 -- T V, ptr V [, align n]
-unfoldable pub store : Form InstTree
-store = mapped store_tree (pair typed_value (pair (after_mark Comma pointer_value) alignment))
+unfoldable pub store : Definitions → Form InstTree
+store defs = mapped store_tree (pair (typed_value defs) (pair (after_mark Comma (pointer_value defs)) alignment))
 
 -- the type of a vector's elements, and any other type itself
 abbrev pub element_of : Ty → Ty
@@ -589,16 +591,16 @@ abbrev pub extract_tree : (Ty × OperandTree) × (ℕ × OperandTree) → InstTr
 extract_tree x = bare_inst (kinds.Extract x.0.0 x.1.0) (element_of x.0.0) (x.0.1 ∷ x.1.1 ∷ []) []
 
 -- T V, iN V
-unfoldable pub extractelement : Form InstTree
-extractelement = mapped extract_tree (pair typed_value (after_mark Comma index_value))
+unfoldable pub extractelement : Definitions → Form InstTree
+extractelement defs = mapped extract_tree (pair (typed_value defs) (after_mark Comma (index_value defs)))
 
 -- a vector with another lane
 abbrev pub insert_tree : (Ty × OperandTree) × ((Ty × OperandTree) × (ℕ × OperandTree)) → InstTree
 insert_tree x = bare_inst (kinds.Insert x.1.0.0 x.1.1.0) x.0.0 (x.0.1 ∷ x.1.0.1 ∷ x.1.1.1 ∷ []) []
 
 -- T V, T V, iN V
-unfoldable pub insertelement : Form InstTree
-insertelement = mapped insert_tree (pair typed_value (pair comma_typed (after_mark Comma index_value)))
+unfoldable pub insertelement : Definitions → Form InstTree
+insertelement defs = mapped insert_tree (pair (typed_value defs) (pair (comma_typed defs) (after_mark Comma (index_value defs))))
 
 -- the type of lanes of the first that a mask of the second chooses: the mask's number of them; where one is no vector, the first
 abbrev pub shuffled : Ty → Ty → Ty
@@ -610,16 +612,16 @@ abbrev pub shuffle_tree : (Ty × OperandTree) × ((Ty × OperandTree) × (Ty × 
 shuffle_tree x = bare_inst (kinds.Shuffle x.0.0 x.1.0.0 x.1.1.0) (shuffled x.0.0 x.1.1.0) (x.0.1 ∷ x.1.0.1 ∷ x.1.1.1 ∷ []) []
 
 -- T V, T V, T V
-unfoldable pub shufflevector : Form InstTree
-shufflevector = mapped shuffle_tree three_values
+unfoldable pub shufflevector : Definitions → Form InstTree
+shufflevector defs = mapped shuffle_tree (three_values defs)
 
 -- an argument at its type
-abbrev pub actual_at : Ty × (KeptTexts × WrittenValue) → Option (Actual × OperandTree)
-actual_at x = operand_at x.0 x.1.1 >>= λ a. Some (record { ty = x.0; kept = x.1.0 }, a)
+abbrev pub actual_at : Definitions → Ty × (KeptTexts × WrittenValue) → Option (Actual × OperandTree)
+actual_at defs x = operand_at defs x.0 x.1.1 >>= λ a. Some (record { ty = x.0; kept = x.1.0 }, a)
 
 -- T K V, where K takes as much as it can
-unfoldable pub argument : Form (Actual × OperandTree)
-argument = made actual_at (pair value_type (greedy kept value))
+unfoldable pub argument : Definitions → Form (Actual × OperandTree)
+argument defs = made (actual_at defs) (pair value_type (greedy kept value))
 
 -- ( T, .. [, ...] )
 unfoldable pub signature : Form Signature
@@ -634,27 +636,27 @@ abbrev pub call_tree : TailKind → KeptTexts × (Ty × (Option Signature × (Na
 call_tree tail x = bare_inst (kinds.Call (callee_of tail x)) x.1.0 (map (λ a. a.1) x.1.1.1.1.0) []
 
 -- K R [( T, .. [, ...] )] @name ( T K V, .. ) K
-unfoldable pub call : TailKind → Form InstTree
-call tail = mapped (call_tree tail) (pair kept (pair return_type (pair (optional signature) (pair global_name (pair (between LeftParen RightParen (list argument)) kept)))))
+unfoldable pub call : Definitions → TailKind → Form InstTree
+call defs tail = mapped (call_tree tail) (pair kept (pair return_type (pair (optional signature) (pair global_name (pair (between LeftParen RightParen (list (argument defs))) kept)))))
 
 -- the same behind `call`, or where a word stands before it behind that and `call`
-abbrev pub call_behind : TailKind → Form InstTree
-call_behind Unmarked = call Unmarked
-call_behind Tail = behind (codes "call") (call Tail)
-call_behind MustTail = behind (codes "call") (call MustTail)
-call_behind NoTail = behind (codes "call") (call NoTail)
+abbrev pub call_behind : Definitions → TailKind → Form InstTree
+call_behind defs Unmarked = call defs Unmarked
+call_behind defs Tail = behind (codes "call") (call defs Tail)
+call_behind defs MustTail = behind (codes "call") (call defs MustTail)
+call_behind defs NoTail = behind (codes "call") (call defs NoTail)
 
 -- a jump to a block
 abbrev pub jump_tree : Name → InstTree
 jump_tree l = bare_inst kinds.Jump Void [] (l ∷ [])
 
 -- a condition, and the labels for true and for false
-abbrev pub branch_tree : WrittenValue × (Name × Name) → Option InstTree
-branch_tree x = operand_at (Int 1) x.0 >>= λ a. Some (bare_inst kinds.Branch Void (a ∷ []) (x.1.0 ∷ x.1.1 ∷ []))
+abbrev pub branch_tree : Definitions → WrittenValue × (Name × Name) → Option InstTree
+branch_tree defs x = operand_at defs (Int 1) x.0 >>= λ a. Some (bare_inst kinds.Branch Void (a ∷ []) (x.1.0 ∷ x.1.1 ∷ []))
 
 -- label %name | i1 V, label %name, label %name
-unfoldable pub branch : Form InstTree
-branch = either (mapped jump_tree target) (made branch_tree (behind (codes "i1") (pair value (pair (after_mark Comma target) (after_mark Comma target)))))
+unfoldable pub branch : Definitions → Form InstTree
+branch defs = either (mapped jump_tree target) (made (branch_tree defs) (behind (codes "i1") (pair value (pair (after_mark Comma target) (after_mark Comma target)))))
 
 -- iN number, label %name
 unfoldable pub case_of_switch : Form ((ℕ × List ℕ) × Name)
@@ -669,8 +671,8 @@ abbrev pub switch_tree : (ℕ × OperandTree) × (Name × List ((ℕ × List ℕ
 switch_tree x = cases_at x.0.0 x.1.1 >>= λ ns. Some (bare_inst (kinds.Switch x.0.0 ns) Void (x.0.1 ∷ []) (x.1.0 ∷ map (λ c. c.1) x.1.1))
 
 -- iN V, label %name [ iN number, label %name .. ]
-unfoldable pub switch : Form InstTree
-switch = made switch_tree (pair index_value (pair (after_mark Comma target) (between LeftBracket RightBracket (many case_of_switch))))
+unfoldable pub switch : Definitions → Form InstTree
+switch defs = made switch_tree (pair (index_value defs) (pair (after_mark Comma target) (between LeftBracket RightBracket (many case_of_switch))))
 
 -- a return of a value at its type
 abbrev pub return_tree : Ty × OperandTree → InstTree
@@ -681,8 +683,8 @@ abbrev pub void_tree : InstTree
 void_tree = bare_inst kinds.ReturnVoid Void [] []
 
 -- T V | void
-unfoldable pub ret : Form InstTree
-ret = either (mapped return_tree typed_value) (word (codes "void") void_tree)
+unfoldable pub ret : Definitions → Form InstTree
+ret defs = either (mapped return_tree (typed_value defs)) (word (codes "void") void_tree)
 
 -- what is never reached
 abbrev pub unreachable_tree : InstTree
@@ -739,43 +741,43 @@ operation_words =
     []
 
 -- what is behind such a word, before the attachments
-abbrev pub operation_behind : Operation → Form InstTree
-operation_behind (operations.Overflowing op) = overflowing op
-operation_behind (operations.PossiblyExact op) = possibly_exact op
-operation_behind (operations.Plain op) = plain_binary op
-operation_behind operations.Or = or_operation
-operation_behind operations.Icmp = compare
-operation_behind operations.Select = select
-operation_behind operations.Freeze = freeze
-operation_behind operations.Trunc = trunc
-operation_behind operations.Zext = zext
-operation_behind operations.Sext = sext
-operation_behind operations.PtrToInt = ptrtoint
-operation_behind operations.Phi = phi
-operation_behind operations.GetElementPtr = getelementptr
-operation_behind operations.Load = load
-operation_behind operations.Store = store
-operation_behind (operations.Call tail) = call_behind tail
-operation_behind operations.ExtractElement = extractelement
-operation_behind operations.InsertElement = insertelement
-operation_behind operations.ShuffleVector = shufflevector
+abbrev pub operation_behind : Definitions → Operation → Form InstTree
+operation_behind defs (operations.Overflowing op) = overflowing defs op
+operation_behind defs (operations.PossiblyExact op) = possibly_exact defs op
+operation_behind defs (operations.Plain op) = plain_binary defs op
+operation_behind defs operations.Or = or_operation defs
+operation_behind defs operations.Icmp = compare defs
+operation_behind defs operations.Select = select defs
+operation_behind defs operations.Freeze = freeze defs
+operation_behind defs operations.Trunc = trunc defs
+operation_behind defs operations.Zext = zext defs
+operation_behind defs operations.Sext = sext defs
+operation_behind defs operations.PtrToInt = ptrtoint defs
+operation_behind defs operations.Phi = phi defs
+operation_behind defs operations.GetElementPtr = getelementptr defs
+operation_behind defs operations.Load = load defs
+operation_behind defs operations.Store = store defs
+operation_behind defs (operations.Call tail) = call_behind defs tail
+operation_behind defs operations.ExtractElement = extractelement defs
+operation_behind defs operations.InsertElement = insertelement defs
+operation_behind defs operations.ShuffleVector = shufflevector defs
 
 -- an instruction that doesn't end a block
-unfoldable pub operation : Form InstTree
-operation = attached (by_word operation_words operation_behind)
+unfoldable pub operation : Definitions → Form InstTree
+operation defs = attached (by_word operation_words (operation_behind defs))
 
 -- the words with which a terminator begins that has something behind its word
 unfoldable pub terminator_words : List (List ℕ × Terminator)
 terminator_words = (codes "br", terminators.Br) ∷ (codes "switch", terminators.Switch) ∷ (codes "ret", terminators.Ret) ∷ []
 
-abbrev pub terminator_behind : Terminator → Form InstTree
-terminator_behind terminators.Br = branch
-terminator_behind terminators.Switch = switch
-terminator_behind terminators.Ret = ret
+abbrev pub terminator_behind : Definitions → Terminator → Form InstTree
+terminator_behind defs terminators.Br = branch defs
+terminator_behind defs terminators.Switch = switch defs
+terminator_behind defs terminators.Ret = ret defs
 
 -- an instruction that ends a block
-unfoldable pub terminator : Form InstTree
-terminator = attached (either (by_word terminator_words terminator_behind) (word (codes "unreachable") unreachable_tree))
+unfoldable pub terminator : Definitions → Form InstTree
+terminator defs = attached (either (by_word terminator_words (terminator_behind defs)) (word (codes "unreachable") unreachable_tree))
 
 -- ---- blocks, functions and modules
 
@@ -800,8 +802,8 @@ abbrev pub block_tree : Option Name × (List InstTree × InstTree) → WrittenBl
 block_tree x = record { label = x.0; insts = x.1.0 ++ x.1.1 ∷ [] }
 
 -- [label] line .., the last one a terminator's and no other
-unfoldable pub block : Form WrittenBlock
-block = mapped block_tree (pair (optional label) (pair (many (line operation)) (line terminator)))
+unfoldable pub block : Definitions → Form WrittenBlock
+block defs = mapped block_tree (pair (optional label) (pair (many (line (operation defs))) (line (terminator defs))))
 
 -- ---- functions
 
@@ -827,9 +829,9 @@ abbrev pub defined_tree : KeptTexts × (Ty × (Name × (List WrittenParam × (Ke
 defined_tree x = record { name = x.1.1.0; before = x.0; ret = x.1.0; params = x.1.1.1.0; varargs = false; after = x.1.1.1.1.0; body = x.1.1.1.1.1 }
 
 -- K R @name ( .. ) K B { block.. }
-unfoldable pub defined_function : Form WrittenFunction
-defined_function =
-    mapped defined_tree (pair kept (pair return_type (pair global_name (pair (between LeftParen RightParen (list parameter)) (pair (joined kept attachments) (between LeftBrace RightBrace (some block)))))))
+unfoldable pub defined_function : Definitions → Form WrittenFunction
+defined_function defs =
+    mapped defined_tree (pair kept (pair return_type (pair global_name (pair (between LeftParen RightParen (list parameter)) (pair (joined kept attachments) (between LeftBrace RightBrace (some (block defs))))))))
 
 -- ---- lines that are kept whole
 
@@ -918,25 +920,26 @@ variable_definition m = made named_variable (ahead Global (after_mark Equal (pai
 -- ---- items and modules
 
 -- what is behind the word of an item
-abbrev pub item_behind : ItemWord → Form (Item WrittenFunction)
-item_behind items.SourceFilename = mapped (λ xs. head_line (codes "source_filename" ∷ xs)) equal_string
-item_behind items.Target = mapped (λ xs. head_line (codes "target" ∷ xs)) target_line
-item_behind items.Declare = mapped function_item declared_function
-item_behind items.Define = mapped function_item defined_function
-item_behind items.Attributes = mapped (λ xs. attribute_line (codes "attributes" ∷ xs)) attribute_group
+abbrev pub item_behind : Definitions → ItemWord → Form (Item WrittenFunction)
+item_behind defs items.SourceFilename = mapped (λ xs. head_line (codes "source_filename" ∷ xs)) equal_string
+item_behind defs items.Target = mapped (λ xs. head_line (codes "target" ∷ xs)) target_line
+item_behind defs items.Declare = mapped function_item declared_function
+item_behind defs items.Define = mapped function_item (defined_function defs)
+item_behind defs items.Attributes = mapped (λ xs. attribute_line (codes "attributes" ∷ xs)) attribute_group
 
--- an item, where memory types are of the form m
-unfoldable pub item : Form (List TypeNode) → Form (Item WrittenFunction)
-item m =
-    either (by_word item_words item_behind)
+-- an item, where names of types are defined so and memory types are of the form m
+unfoldable pub item : Definitions → Form (List TypeNode) → Form (Item WrittenFunction)
+item defs m =
+    either (by_word item_words (item_behind defs))
     (either (mapped comdat_line comdat)
     (either (mapped metadata_line metadata)
     (either (type_definition m) (variable_definition m))))
 
--- item .., in which memory types are nested at most so deep
-unfoldable pub module_form : ℕ → Form (List (Item WrittenFunction))
-module_form depth = many (item (memory_type depth))
+-- item .., where names of types are defined so and memory types are nested at most so deep
+unfoldable pub module_form : Definitions → ℕ → Form (List (Item WrittenFunction))
+module_form defs depth = many (item defs (memory_type depth))
 
--- by these tokens a module's items are spelled; no type is nested deeper than there are tokens
+-- By these tokens a module's items are spelled. In constants the names of types are those that the items themselves define, wherever they
+-- stand; no type is nested deeper than there are tokens.
 abbrev pub SpellsModule : List (Item WrittenFunction) → List Lexeme → Type 0
-SpellsModule written tokens = Spells (module_form (length tokens)) written tokens
+SpellsModule written tokens = Spells (module_form (definitions_in written) (length tokens)) written tokens

@@ -1,5 +1,6 @@
 -- What a table of names is, and what adding a name does to it.
-use Rattle.std.specs.Prelude.{ℕ, zero, suc, ◌≡◌, ◌≢◌, ◌^◌, ◌<◌, ◌⊎◌, Bool, false, nat_eq, bytes_eq, List, [], ◌∷◌, ◌++◌, length, Contains, AllPairs}
+use Rattle.std.specs.Prelude.{ℕ, zero, suc, ◌≡◌, ◌≢◌, ◌^◌, ◌<◌, ◌⊎◌, Bool, false, nat_eq, bytes_eq, List, [], ◌∷◌, ◌++◌, length, Contains, AllPairs, if◌then◌else◌}
+use Rattle.std.specs.List.{list_any}
 use Rattle.ir_types.specs.declared.name.Name.{Name}
 use Rattle.ir_types.specs.declared.name.Name.TheVariants.{Text, Number}
 
@@ -25,3 +26,12 @@ same_name (Text s) (Text t) = bytes_eq s t
 same_name (Text s) (Number n) = false
 same_name (Number m) (Text t) = false
 same_name (Number m) (Number n) = nat_eq m n
+
+-- whether a name is one of some
+abbrev pub has_name : Name → List Name → Bool
+has_name n names = list_any (same_name n) names
+
+-- those of some names that are not known, each once, in their order
+abbrev pub unknown : (known names : List Name) → List Name
+unknown known [] = []
+unknown known (n ∷ ns) = if has_name n known then unknown known ns else n ∷ unknown (known ++ n ∷ []) ns

@@ -1,5 +1,4 @@
--- Things without a name take numbers: parameters first, then the blocks in the text's order, each before its results. And constants that step through a
--- memory type are counted in bytes, by the definitions of names of types in the whole text.
+-- Things without a name take numbers: parameters first, then the blocks in the text's order, each before its results.
 use Rattle.std.specs.Prelude.{ℕ, List, ◌+◌, ◌^◌, max, nat_lt, Option, Some, None, if◌then◌else◌}
 use Rattle.forms.specs.Reading.{◌>>=◌}
 use Rattle.forms.specs.Walk.{walk}
@@ -7,9 +6,7 @@ use Rattle.ir_types.specs.declared.name.Name.{Name}
 use Rattle.ir_types.specs.declared.name.Name.TheVariants.{Text, Number}
 use Rattle.ir_types.specs.declared.inst.Ty.{Ty}
 use Rattle.ir_types.specs.declared.inst.Ty.TheVariants.{Void}
-use Rattle.std.specs.List.{filter_map}
-use Rattle.ir_types.specs.TypeNodes.{TypeNode}
-use Rattle.ir_types.specs.Offsets.{Definitions, all_counted}
+use Rattle.ir_types.specs.Grammar.{named_by}
 use Rattle.ir_types.specs.Tree.{InstTree, BlockTree, ParamTree, FunctionTree, WrittenParam, WrittenBlock, WrittenFunction, Item, head_line, comdat_line, type_item, variable_item, function_item, attribute_line, metadata_line}
 
 -- the number for the next thing without a name, behind a name: one more than the greatest number so far, and 0 at first
@@ -29,12 +26,12 @@ named_result next t None = named next None >>= λ x. Some (Some x.0, x.1)
 named_result next t (Some n) = named next (Some n) >>= λ x. Some (Some x.0, x.1)
 
 -- an instruction, whose result takes a number where it has no name
-abbrev pub numbered_inst : Definitions → ℕ → InstTree → Option (InstTree × ℕ)
-numbered_inst defs next i = named_result next i.ty i.result >>= λ x. all_counted defs i.args >>= λ args. Some (record i { args = args; result = x.0 }, x.1)
+abbrev pub numbered_inst : ℕ → InstTree → Option (InstTree × ℕ)
+numbered_inst next i = named_result next i.ty i.result >>= λ x. Some (named_by i x.0, x.1)
 
 -- a block, before its results
-abbrev pub numbered_block : Definitions → ℕ → WrittenBlock → Option (BlockTree × ℕ)
-numbered_block defs next b = named next b.label >>= λ x. walk (numbered_inst defs) x.1 b.insts >>= λ y. Some (record { name = x.0; insts = y.0 }, y.1)
+abbrev pub numbered_block : ℕ → WrittenBlock → Option (BlockTree × ℕ)
+numbered_block next b = named next b.label >>= λ x. walk numbered_inst x.1 b.insts >>= λ y. Some (record { name = x.0; insts = y.0 }, y.1)
 
 -- a parameter
 abbrev pub numbered_param : ℕ → WrittenParam → Option (ParamTree × ℕ)
@@ -45,28 +42,19 @@ abbrev pub with_parts : WrittenFunction → List ParamTree → List BlockTree �
 with_parts f params body = record { name = f.name; before = f.before; ret = f.ret; params = params; varargs = f.varargs; after = f.after; body = body }
 
 -- each function counts from 0
-abbrev pub numbered_function : Definitions → WrittenFunction → Option FunctionTree
-numbered_function defs f = walk numbered_param 0 f.params >>= λ x. walk (numbered_block defs) x.1 f.body >>= λ y. Some (with_parts f x.0 y.0)
+abbrev pub numbered_function : WrittenFunction → Option FunctionTree
+numbered_function f = walk numbered_param 0 f.params >>= λ x. walk numbered_block x.1 f.body >>= λ y. Some (with_parts f x.0 y.0)
 
 -- an item: only in functions something takes a number
-abbrev pub numbered_item : Definitions → Unit {0} → Item WrittenFunction → Option (Item FunctionTree × Unit {0})
-numbered_item defs u (head_line xs) = Some (head_line xs, u)
-numbered_item defs u (comdat_line xs) = Some (comdat_line xs, u)
-numbered_item defs u (type_item n t) = Some (type_item n t, u)
-numbered_item defs u (variable_item v) = Some (variable_item v, u)
-numbered_item defs u (function_item f) = numbered_function defs f >>= λ g. Some (function_item g, u)
-numbered_item defs u (attribute_line xs) = Some (attribute_line xs, u)
-numbered_item defs u (metadata_line xs) = Some (metadata_line xs, u)
+abbrev pub numbered_item : Unit {0} → Item WrittenFunction → Option (Item FunctionTree × Unit {0})
+numbered_item u (head_line xs) = Some (head_line xs, u)
+numbered_item u (comdat_line xs) = Some (comdat_line xs, u)
+numbered_item u (type_item n t) = Some (type_item n t, u)
+numbered_item u (variable_item v) = Some (variable_item v, u)
+numbered_item u (function_item f) = numbered_function f >>= λ g. Some (function_item g, u)
+numbered_item u (attribute_line xs) = Some (attribute_line xs, u)
+numbered_item u (metadata_line xs) = Some (metadata_line xs, u)
 
--- the definition of a name of a type
-abbrev pub as_definition : Item WrittenFunction → Option (Name × Option (List TypeNode))
-as_definition (type_item n t) = Some (n, t)
-as_definition i = None
-
--- the definitions of names of types among a module's items
-abbrev pub definitions_in : List (Item WrittenFunction) → Definitions
-definitions_in items = filter_map as_definition items
-
--- a module's items: each function by itself, with the definitions of all of them
+-- a module's items: each function by itself
 abbrev pub numbered_module : List (Item WrittenFunction) → Option (List (Item FunctionTree))
-numbered_module items = walk (numbered_item (definitions_in items)) tt items >>= λ x. Some x.0
+numbered_module items = walk numbered_item tt items >>= λ x. Some x.0

@@ -1,16 +1,26 @@
 -- How many bytes behind a symbol a constant `getelementptr` stands. (LLVM's Language Reference, "'getelementptr' Instruction".)
 use Rattle.std.specs.Prelude.{ℕ, zero, suc, ◌+◌, ◌-◌, ◌*◌, ◌%◌, ◌^◌, Bool, true, false, nat_lt, ◌==◌, List, [], ◌∷◌, ◌++◌, length, map, take, find, slice_get, sum_by, Option, Some, None, if◌then◌else◌}
+use Rattle.std.specs.List.{filter_map}
 use Rattle.forms.specs.Bind.{◌>>=◌}
 use Rattle.forms.specs.Nested.{concat}
 use Rattle.ir_types.specs.declared.name.Name.{Name}
 use Rattle.ir_types.specs.Names.{same_name}
 use Rattle.ir_types.specs.TypeNodes.{TypeNode, scalar, called, array, opening, closing}
-use Rattle.ir_types.specs.Tree.{OperandTree, local, number, null, poison, lanes, global, indexed}
+use Rattle.ir_types.specs.Tree.{WrittenFunction, Item, type_item}
 use Rattle.ir_types.specs.Sizes.{Layout, value_size, aligned, end_behind, struct_layout, SIZE_CAP}
 
 -- the definitions of names of types, none of an opaque one; of several of one name the first counts
 abbrev pub Definitions : Type 0
 Definitions = List (Name × Option (List TypeNode))
+
+-- the definition of a name of a type
+abbrev pub as_definition : Item WrittenFunction → Option (Name × Option (List TypeNode))
+as_definition (type_item n t) = Some (n, t)
+as_definition i = None
+
+-- the definitions among a module's items
+abbrev pub definitions_in : List (Item WrittenFunction) → Definitions
+definitions_in items = filter_map as_definition items
 
 -- the nodes of a name
 abbrev pub nodes_of_name : Definitions → Name → Option (List TypeNode)
@@ -119,13 +129,3 @@ path_offset defs nodes (i ∷ more) = unnamed (length defs) defs nodes >>= λ u.
 abbrev pub offset_of : Definitions → List TypeNode → List (ℕ × ℕ) → Option ℕ
 offset_of defs nodes [] = None
 offset_of defs nodes (i ∷ more) = small_size defs nodes >>= λ s. path_offset defs nodes more >>= λ o. Some ((scaled s i + o) % 2 ^ 64)
-
--- an operand with its steps counted in bytes
-abbrev pub counted : Definitions → OperandTree → Option OperandTree
-counted defs (indexed nodes n is) = offset_of defs nodes is >>= λ o. Some (global n o)
-counted defs a = Some a
-
--- operands, where each can be
-abbrev pub all_counted : Definitions → List OperandTree → Option (List OperandTree)
-all_counted defs [] = Some []
-all_counted defs (a ∷ args) = counted defs a >>= λ b. all_counted defs args >>= λ bs. Some (b ∷ bs)

@@ -9,8 +9,7 @@ use Rattle.ir_types.specs.Numbered.{numbered_module}
 use Rattle.ir_types.specs.Collected.{collected}
 use Rattle.ir_types.specs.Denotes.{Denotes}
 
--- the text's tokens spell items as they are written, things without a name take their numbers and constants are counted in bytes, and the module denotes
--- what they are collected to
+-- the text's tokens spell items as they are written, things without a name take their numbers, and the module denotes what they are collected to
 pub record Reads (text : List ℕ) (m : Module) : Type 0 where
   pub tokens : List Lexeme
   pub written : List (Item WrittenFunction)

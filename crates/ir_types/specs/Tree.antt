@@ -21,8 +21,6 @@ pub data OperandTree : Type 0 where
   lanes : List (Option ℕ) → OperandTree
   -- a symbol, and so many bytes behind it, modulo 2^64
   global : Name → ℕ → OperandTree
-  -- a symbol, and how it is stepped through as a memory type: by indexes, each with its width; only where it is not counted in bytes yet
-  indexed : List TypeNode → Name → List (ℕ × ℕ) → OperandTree
 
 -- an instruction: its result's name, where it has one, whether a number that is written in it is out of its type's range, and its attachments
 pub record InstTree : Type 0 where
@@ -56,22 +54,20 @@ pub record FunctionTree : Type 0 where
   pub after : KeptTexts
   pub body : List BlockTree
 
--- what the name of a type stands for, a type by its nodes
+-- what the name of a type is defined as, a type by its nodes
 pub data NamedTree : Type 0 where
   defined : List TypeNode → NamedTree
   opaque : NamedTree
-  missing : NamedTree
 
--- a name of a type
+-- a name of a type, with its definition
 pub record TypeNameTree : Type 0 where
   pub name : Name
   pub ty : NamedTree
 
--- what a symbol stands for: a variable of a type, by its nodes, which may be written or not; the function at a place; or nothing
+-- what a symbol is defined or declared as: a variable of a type, by its nodes, which may be written or not; or the function at a place
 pub data SymbolKindTree : Type 0 where
   variable : List TypeNode → Bool → SymbolKindTree
   function : ℕ → SymbolKindTree
-  missing_symbol : SymbolKindTree
 
 -- a symbol, with what is kept before and behind a variable's type
 pub record SymbolTree : Type 0 where
@@ -80,7 +76,7 @@ pub record SymbolTree : Type 0 where
   pub before : KeptTexts
   pub after : KeptTexts
 
--- a module
+-- a module. Names of types and symbols that are used, and not defined or declared, stand where they are used, and nowhere else.
 pub record ModuleTree : Type 0 where
   pub head : List KeptTexts
   pub type_names : List TypeNameTree

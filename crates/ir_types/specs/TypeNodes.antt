@@ -1,6 +1,7 @@
 -- A memory type with all its parts, as the list of its nodes: an array's node stands before its element's nodes, a struct's before those of
 -- its members, behind which another node closes it. So the list of a type's nodes determines the type, whatever stands behind it.
-use Rattle.std.specs.Prelude.{ℕ, zero, suc, Bool, List, [], ◌∷◌, ◌++◌, map}
+use Rattle.std.specs.Prelude.{ℕ, zero, suc, Bool, List, [], ◌∷◌, ◌++◌, map, Option, Some, None}
+use Rattle.std.specs.List.{filter_map}
 use Rattle.forms.specs.Nested.{concat}
 use Rattle.ir_types.specs.declared.name.Name.{Name}
 use Rattle.ir_types.specs.declared.inst.Ty.{Ty}
@@ -43,3 +44,14 @@ all_nodes names before (t ∷ ts) = all_nodes names (before ++ nodes_from names 
 -- the nodes of the type at a place of a list
 abbrev pub type_nodes : List Name → List MemTy → TypeId → List TypeNode
 type_nodes names types id = nodes_at (all_nodes names [] types) id.0
+
+-- ---- names of types
+
+-- the name that a node uses
+abbrev pub as_called : TypeNode → Option Name
+as_called (called n) = Some n
+as_called node = None
+
+-- the names that a memory type uses
+abbrev pub names_used : List TypeNode → List Name
+names_used nodes = filter_map as_called nodes
