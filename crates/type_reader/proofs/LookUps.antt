@@ -7,9 +7,8 @@ use Rattle.std.proofs.lemmas.Map.Views.{Contains-from_any}
 use Rattle.forms.proofs.Begins.{or_right}
 use Rattle.ir_types.specs.declared.name.Name.{Name}
 use Rattle.ir_types.specs.declared.memory_type.TypeName.{TypeName}
-use Rattle.ir_types.specs.Names.{same_name}
-use Rattle.ir_types.specs.TypeNodes.{TypeNode, called}
-use Rattle.ir_types.specs.Collected.{as_called, names_used, has_name, unknown}
+use Rattle.ir_types.specs.Names.{same_name, has_name, unknown}
+use Rattle.ir_types.specs.TypeNodes.{TypeNode, called, as_called, names_used}
 use Rattle.type_reader.specs.TypeTable.{names_of, missing_entry, LooksUp, LooksUpAll}
 use Rattle.type_reader.proofs.Places.{same_name-Decides}
 

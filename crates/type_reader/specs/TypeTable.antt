@@ -5,10 +5,9 @@ use Rattle.ir_types.specs.declared.name.Name.{Name}
 use Rattle.ir_types.specs.declared.memory_type.TypeName.{TypeName}
 use Rattle.ir_types.specs.declared.memory_type.NamedType.{NamedType}
 use Rattle.ir_types.specs.declared.memory_type.NamedType.TheVariants.{Missing}
-use Rattle.ir_types.specs.Names.{name_at, same_name}
+use Rattle.ir_types.specs.Names.{name_at, same_name, unknown}
 use Rattle.ir_types.specs.Types.{IsFirst}
-use Rattle.ir_types.specs.TypeNodes.{TypeNode}
-use Rattle.ir_types.specs.Collected.{names_used, unknown}
+use Rattle.ir_types.specs.TypeNodes.{TypeNode, names_used}
 
 -- the names alone
 abbrev pub names_of : List TypeName → List Name
