@@ -1,7 +1,7 @@
 pub mod Digits
 pub mod Same
 pub mod Vectors
-pub mod Places
+pub mod FirstPlaces
 pub mod NodeLists
 pub mod Going
 pub mod Holding

@@ -10,7 +10,7 @@ use Rattle.ir_types.specs.declared.memory_type.TypeName.{TypeName}
 use Rattle.ir_types.specs.Names.{same_name, has_name, unknown}
 use Rattle.ir_types.specs.TypeNodes.{TypeNode, called, as_called, names_used}
 use Rattle.type_reader.specs.TypeTable.{names_of, missing_entry, LooksUp, LooksUpAll}
-use Rattle.type_reader.proofs.Places.{same_name-Decides}
+use Rattle.type_reader.proofs.FirstPlaces.{same_name-Decides}
 
 -- some names, and then others
 pub unknown_append : (known xs ys : List Name) → unknown known (xs ++ ys) ≡ unknown known xs ++ unknown (known ++ unknown known xs) ys

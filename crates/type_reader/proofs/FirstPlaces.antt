@@ -106,9 +106,8 @@ found_none : (o : Option ℕ) → is_some o ≡ false → o ≡ None
 found_none None e = refl
 found_none (Some k) e = absurd (true≢false e)
 
-pub places_there : (types : List TypeName) (places : List (Name × ℕ)) (name : Name) (ty : NamedType) → HasFirstPlaces types places → is_some (lookup (name_eq name) places) ≡ true
-    → HasFirstPlaces (types ++ record { name = name; ty = ty } ∷ []) places
-places_there types places name ty h there = λ q. let f = found_one (at name (names_of types)) (ap is_some (sym (same_lookup places name ∙ h name)) ∙ there) in h q ∙ sym (ap (at q) (map_push (λ (t : TypeName). t.name) types (record { name = name; ty = ty })) ∙ at_there q name (names_of types) f.0 f.1)
+pub places_there : (names : List Name) (places : List (Name × ℕ)) (name : Name) → HasFirstPlaces names places → is_some (lookup (name_eq name) places) ≡ true → HasFirstPlaces (names ++ name ∷ []) places
+places_there names places name h there = λ q. let f = found_one (at name names) (ap is_some (sym (same_lookup places name ∙ h name)) ∙ there) in h q ∙ sym (at_there q name names f.0 f.1)
 
 -- a new name is found at the end
 at_new : (q n : Name) (names : List Name) → at n names ≡ None → at q (names ++ n ∷ []) ≡ cond (same_name n q) (Some (length names)) (at q names)
@@ -124,17 +123,13 @@ at_new q n names e =
       ]
     ]
 
-count : (ts : List TypeName) → length (names_of ts) ≡ length ts
-count [] = refl
-count (t ∷ ts) = ap suc (count ts)
-
-pub places_new : (types : List TypeName) (places new : List (Name × ℕ)) (name : Name) (ty : NamedType) → HasFirstPlaces types places → is_some (lookup (name_eq name) places) ≡ false
-    → ((q : Name) → lookup (name_eq q) new ≡ cond (name_eq name q) (Some (length types)) (lookup (name_eq q) places))
-    → HasFirstPlaces (types ++ record { name = name; ty = ty } ∷ []) new
-places_new types places new name ty h absent updates = λ q.
-    let e = found_none (at name (names_of types)) (ap is_some (sym (same_lookup places name ∙ h name)) ∙ absent) in
-    sym (same_lookup new q) ∙ updates q ∙ ap (λ b. cond b (Some (length types)) (lookup (name_eq q) places)) (equal_names name q) ∙ ap (cond (same_name name q) (Some (length types))) (same_lookup places q ∙ h q)
-    ∙ sym (ap (at q) (map_push (λ (t : TypeName). t.name) types (record { name = name; ty = ty })) ∙ at_new q name (names_of types) e ∙ ap (λ n. cond (same_name name q) (Some n) (at q (names_of types))) (count types))
+pub places_new : (names : List Name) (places new : List (Name × ℕ)) (name : Name) → HasFirstPlaces names places → is_some (lookup (name_eq name) places) ≡ false
+    → ((q : Name) → lookup (name_eq q) new ≡ cond (name_eq name q) (Some (length names)) (lookup (name_eq q) places))
+    → HasFirstPlaces (names ++ name ∷ []) new
+places_new names places new name h absent updates = λ q.
+    let e = found_none (at name names) (ap is_some (sym (same_lookup places name ∙ h name)) ∙ absent) in
+    sym (same_lookup new q) ∙ updates q ∙ ap (λ b. cond b (Some (length names)) (lookup (name_eq q) places)) (equal_names name q) ∙ ap (cond (same_name name q) (Some (length names))) (same_lookup places q ∙ h q)
+    ∙ sym (at_new q name names e)
 
 -- ---- places that are found
 
@@ -143,9 +138,8 @@ at_place [] i = refl
 at_place (n ∷ ns) zero = refl
 at_place (n ∷ ns) (suc i) = at_place ns i
 
-pub place_found : (types : List TypeName) (name : Name) (k : ℕ) → at name (names_of types) ≡ Some k → IsPlaceOf types name k
-place_found types name k e =
-    let names = names_of types in
+pub place_found : (names : List Name) (name : Name) (k : ℕ) → at name names ≡ Some k → IsPlaceOf names name k
+place_found names name k e =
     let found = position-Some (same_name name) names k (Number (2 ^ 32)) e in
     let here : name ≡ name_at names k = (same_name-Decides name (get_or names k (Number (2 ^ 32)))).0 found.1 ∙ sym (at_place names k) in (
       record {
@@ -155,24 +149,28 @@ place_found types name k e =
       sym here,
     )
 
-pub name_contained : (types : List TypeName) (name : Name) (k : ℕ) → at name (names_of types) ≡ Some k → Contains (names_of types) name
-name_contained types name k e =
-    let names = names_of types in
+pub name_contained : (names : List Name) (name : Name) (k : ℕ) → at name names ≡ Some k → Contains names name
+name_contained names name k e =
     let found = position-Some (same_name name) names k (Number (2 ^ 32)) e in
     let here : name ≡ get_or names k (Number (2 ^ 32)) = (same_name-Decides name (get_or names k (Number (2 ^ 32)))).0 found.1 in
     subst (λ (n : Name). Contains names n) (sym here) (Contains-get_or names k (Number (2 ^ 32)) found.0)
 
-pub not_contained : (types : List TypeName) (name : Name) → at name (names_of types) ≡ None → ¬ Contains (names_of types) name
-not_contained types name e = λ h.
-    let names = names_of types in
+pub not_contained : (names : List Name) (name : Name) → at name names ≡ None → ¬ Contains names name
+not_contained names name e = λ h.
     let apart = from_none (same_name name) 0 names name (sym (position_from-zero (same_name name) names) ∙ e) h.0 h.1 in
     true≢false (sym ((same_name-Decides name (get_or names h.0 name)).1 (sym h.2)) ∙ apart)
 
-pub place_new : (types : List TypeName) (name : Name) (ty : NamedType) → at name (names_of types) ≡ None → IsPlaceOf (types ++ record { name = name; ty = ty } ∷ []) name (length types)
-place_new types name ty e =
-    let t : TypeName = record { name = name; ty = ty } in
-    place_found (types ++ t ∷ []) name (length types)
-    (ap (at name) (map_push (λ (t : TypeName). t.name) types t) ∙ at_new name name (names_of types) e ∙ ap (λ b. cond b (Some (length (names_of types))) (at name (names_of types))) (same_itself name) ∙ ap Some (count types))
+pub place_new : (names : List Name) (name : Name) → at name names ≡ None → IsPlaceOf (names ++ name ∷ []) name (length names)
+place_new names name e = place_found (names ++ name ∷ []) name (length names) (at_new name name names e ∙ ap (λ b. cond b (Some (length names)) (at name names)) (same_itself name))
+
+-- ---- the names of entries
+
+pub count : (ts : List TypeName) → length (names_of ts) ≡ length ts
+count [] = refl
+count (t ∷ ts) = ap suc (count ts)
+
+pub names_push : (types : List TypeName) (t : TypeName) → names_of (types ++ t ∷ []) ≡ names_of types ++ t.name ∷ []
+names_push types t = map_push (λ (t : TypeName). t.name) types t
 
 -- ---- another type at a place
 
@@ -186,7 +184,7 @@ same_names [] k ty = refl
 same_names (x ∷ xs) zero ty = refl
 same_names (x ∷ xs) (suc k) ty = ap (λ (l : List Name). x.name ∷ l) (same_names xs k ty)
 
-pub places_stay : (types : List TypeName) (places : List (Name × ℕ)) (k : ℕ) (ty : NamedType) → HasFirstPlaces types places → HasFirstPlaces (with_type types k ty) places
+pub places_stay : (types : List TypeName) (places : List (Name × ℕ)) (k : ℕ) (ty : NamedType) → HasFirstPlaces (names_of types) places → HasFirstPlaces (names_of (with_type types k ty)) places
 places_stay types places k ty h = λ q. h q ∙ ap (at q) (sym (same_names types k ty))
 
 pub same_length : (types : List TypeName) (k : ℕ) (ty : NamedType) → length (with_type types k ty) ≡ length types
