@@ -7,4 +7,5 @@ pub mod Going
 pub mod Holding
 pub mod Openings
 pub mod LookUps
+pub mod Growth
 pub mod Looking

@@ -66,7 +66,7 @@ looks_up_more old mid new nodes more h k = looked_up old mid new (names_used nod
 
 -- ---- one name
 
-has_this : (n : Name) (ns : List Name) (i : ℕ) → i < length ns → get_or ns i n ≡ n → has_name n ns ≡ true
+pub has_this : (n : Name) (ns : List Name) (i : ℕ) → i < length ns → get_or ns i n ≡ n → has_name n ns ≡ true
 has_this n [] i lt e = absurd (omega arith)
 has_this n (m ∷ ns) zero lt e = rw ((same_name-Decides n m).1 (sym e)) refl
 has_this n (m ∷ ns) (suc i) lt e = or_right (same_name n m) (has_name n ns) (has_this n ns i (omega arith) e)
