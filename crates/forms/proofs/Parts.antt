@@ -85,15 +85,18 @@ ahead_sound {A} k P r h ts x e =
 
 pub enclosed_sound : (o c : TokenKind) → Sound (Spells (enclosed o c)) (read (enclosed o c))
 enclosed_sound o c ts x e =
-    let a = bind_some (read_one o ts) (λ x. read_inside c [] x.1) x e in
+    let a = bind_some (read_one o ts) (λ x. read_inside c [] x.1 >>= λ y. Some (lexeme o x.0 ∷ y.0, y.1)) x e in
+    let b = bind_some (read_inside c [] a.0.1) (λ y. Some (lexeme o a.0.0 ∷ y.0, y.1)) x a.2 in
     let t0 = one_sound o ts a.0 a.1 in
-    let n = inside_used c [] a.0.1 x a.2 in
+    let n = inside_used c [] a.0.1 b.0 b.1 in
     let whole : List Lexeme = lexeme o a.0.0 ∷ (n.0 ++ lexeme c n.1 ∷ []) in
-    record {
+    let made : List Lexeme × List Lexeme = (lexeme o a.0.0 ∷ b.0.0, b.0.1) in
+    subst (λ (y : List Lexeme × List Lexeme). Takes (Spells (enclosed o c)) ts y.0 y.1) (some_is made x b.2)
+    (record {
       used = whole;
-      parts = t0.parts ∙ ap (λ (l : List Lexeme). l ++ a.0.1) t0.spelled ∙ ap (λ (l : List Lexeme). lexeme o a.0.0 ∷ l) (n.2 ∙ sym (append_assoc n.0 (lexeme c n.1 ∷ []) x.1));
-      spelled = (a.0.0, n.0, n.1, refl, n.3, n.4);
-    }
+      parts = t0.parts ∙ ap (λ (l : List Lexeme). l ++ a.0.1) t0.spelled ∙ ap (λ (l : List Lexeme). lexeme o a.0.0 ∷ l) (n.2 ∙ sym (append_assoc n.0 (lexeme c n.1 ∷ []) b.0.1));
+      spelled = (a.0.0, n.0, n.1, refl, n.3, ap (λ (l : List Lexeme). lexeme o a.0.0 ∷ l) n.4);
+    })
 
 pub up_to_sound : (st : Stops) → Sound (Spells (up_to st)) (read_up_to st [])
 up_to_sound st ts x e = let n = up_to_used st [] ts x e in record { used = n.0; parts = n.1; spelled = (n.2, n.3) }

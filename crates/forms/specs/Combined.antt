@@ -2,7 +2,7 @@
 use Rattle.std.specs.Prelude.{ℕ, List, [], ◌∷◌, Option, Some, None}
 use Rattle.forms.specs.declared.TokenKind.{TokenKind}
 use Rattle.forms.specs.declared.TokenKind.TheVariants.{Word, Comma}
-use Rattle.forms.specs.Form.{Form, exactly, one, ahead, pair, mapped, optional, many}
+use Rattle.forms.specs.Form.{Form, exactly, ahead, pair, mapped, optional, many}
 use Rattle.forms.specs.Gives.{mark}
 
 -- a word that stands for a value

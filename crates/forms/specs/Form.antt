@@ -142,8 +142,8 @@ pub data Form : Type 0 → Type 1 where
   one_such : TokenKind → (List ℕ → Bool) → Form (List ℕ)
   -- a token of this kind, as its text, and a form behind it: read only where the form's beginning stands behind the token
   ahead : {A : Type 0} → TokenKind → Form A → Form (List ℕ × A)
-  -- a balanced list behind a token of the first kind and before one of the second, which closes it, as its texts
-  enclosed : TokenKind → TokenKind → Form (List (List ℕ))
+  -- a token of the first kind, a balanced list and a token of the second, which closes it, as all these tokens
+  enclosed : TokenKind → TokenKind → Form (List Lexeme)
   -- a balanced list with no stop outside brackets, as its texts
   up_to : Stops → Form (List (List ℕ))
   -- one form behind the other
@@ -187,7 +187,7 @@ abbrev pub Spells : {A : Type 0} → Form A → A → List Lexeme → Type 0
 Spells (exactly k s) a ts = ts ≡ record { kind = k; text = s } ∷ []
 Spells (one k) a ts = ts ≡ record { kind = k; text = a } ∷ []
 Spells (one_such k p) a ts = (ts ≡ record { kind = k; text = a } ∷ []) × (p a ≡ true)
-Spells (enclosed o c) a ts = (v : List ℕ) × (inner : List Lexeme) × (w : List ℕ) × (ts ≡ record { kind = o; text = v } ∷ (inner ++ record { kind = c; text = w } ∷ [])) × (nests [] inner ≡ true) × (a ≡ texts inner)
+Spells (enclosed o c) a ts = (v : List ℕ) × (inner : List Lexeme) × (w : List ℕ) × (ts ≡ record { kind = o; text = v } ∷ (inner ++ record { kind = c; text = w } ∷ [])) × (nests [] inner ≡ true) × (a ≡ ts)
 Spells (up_to st) a ts = (runs st [] ts ≡ true) × (a ≡ texts ts)
 Spells (ahead k f) a ts = (rest : List Lexeme) × (ts ≡ record { kind = k; text = a.0 } ∷ rest) × Spells f a.1 rest
 Spells (pair f g) a ts = (x : List Lexeme) × (y : List Lexeme) × (ts ≡ x ++ y) × Spells f a.0 x × Spells g a.1 y

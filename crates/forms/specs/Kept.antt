@@ -1,8 +1,8 @@
 -- Tokens that are kept as they stand: the value of each of these forms is the list of its tokens' texts.
-use Rattle.std.specs.Prelude.{ℕ, Bool, false, not, ◌==◌, List, [], ◌∷◌, ◌++◌, codes, Option, Some, None, if◌then◌else◌}
+use Rattle.std.specs.Prelude.{ℕ, Bool, false, not, ◌==◌, List, [], ◌∷◌, codes, Option, Some, None, if◌then◌else◌}
 use Rattle.forms.specs.declared.TokenKind.{TokenKind}
 use Rattle.forms.specs.declared.TokenKind.TheVariants.{Quoted, Word, Number, Comma, Metadata, AttributeGroup, Bang, Equal, LeftParen, RightParen, LeftBrace, RightBrace}
-use Rattle.forms.specs.Form.{Form, exactly, one, one_such, is_none_of, ahead, enclosed, either, mapped, made, optional, many}
+use Rattle.forms.specs.Form.{Form, exactly, one, one_such, is_none_of, texts, ahead, enclosed, either, mapped, made, optional, many}
 use Rattle.forms.specs.Combined.{or_none}
 use Rattle.forms.specs.Lexical.{is_digit}
 use Rattle.forms.specs.Nested.{concat, joined}
@@ -29,11 +29,11 @@ perhaps f = mapped or_none (optional f)
 
 -- ( balanced )
 abbrev pub in_parens : Form (List (List ℕ))
-in_parens = mapped (λ xs. codes "(" ∷ (xs ++ codes ")" ∷ [])) (enclosed LeftParen RightParen)
+in_parens = mapped texts (enclosed LeftParen RightParen)
 
 -- { balanced }
 abbrev pub in_braces : Form (List (List ℕ))
-in_braces = mapped (λ xs. codes "{" ∷ (xs ++ codes "}" ∷ [])) (enclosed LeftBrace RightBrace)
+in_braces = mapped texts (enclosed LeftBrace RightBrace)
 
 -- ---- kept runs
 

@@ -188,10 +188,10 @@ abbrev pub ends : TokenKind → List TokenKind → TokenKind → Bool
 ends c [] k = kind_code k == kind_code c
 ends c (y ∷ s) k = false
 
--- the texts up to the token that closes
-abbrev pub read_inside : TokenKind → List TokenKind → List Lexeme → Option (List (List ℕ) × List Lexeme)
+-- the tokens up to the one that closes, with that one
+abbrev pub read_inside : TokenKind → List TokenKind → List Lexeme → Option (List Lexeme × List Lexeme)
 read_inside c s [] = None
-read_inside c s (t ∷ ts) = if ends c s t.kind then Some ([], ts) else (step s t.kind >>= λ u. read_inside c u ts >>= λ y. Some (t.text ∷ y.0, y.1))
+read_inside c s (t ∷ ts) = if ends c s t.kind then Some (t ∷ [], ts) else (step s t.kind >>= λ u. read_inside c u ts >>= λ y. Some (t ∷ y.0, y.1))
 
 -- the texts up to a stop outside brackets, or to the end
 abbrev pub read_up_to : Stops → List TokenKind → List Lexeme → Option (List (List ℕ) × List Lexeme)
@@ -207,7 +207,7 @@ read_by_word table r (t ∷ ts) = if kind_code t.kind == kind_code Word then (en
 abbrev pub read : {A : Type 0} → Form A → List Lexeme → Option (A × List Lexeme)
 read (exactly k s) ts = read_exactly k s ts
 read (one k) ts = read_one k ts
-read (enclosed o c) ts = read_one o ts >>= λ x. read_inside c [] x.1
+read (enclosed o c) ts = read_one o ts >>= λ x. read_inside c [] x.1 >>= λ y. Some (record { kind = o; text = x.0 } ∷ y.0, y.1)
 read (up_to st) ts = read_up_to st [] ts
 read (one_such k p) ts = read_one_such k p ts
 read (ahead k f) ts = read_pair (read_one k) (read f) ts

@@ -5,7 +5,6 @@ use Rattle.forms.specs.declared.TokenKind.TheVariants.{Quoted, Local, Global, Co
 use Rattle.forms.specs.Form.{Lexeme, Form, Stops, Spells, is_one_of, exactly, one, one_such, enclosed, ahead, up_to, pair, greedy, either, mapped, made, optional, many, by_word}
 use Rattle.forms.specs.Reading.{◌>>=◌, read_whole}
 use Rattle.forms.specs.declared.TokenKind.{TokenKind}
-use Rattle.forms.specs.Lexical.{kind_of}
 use Rattle.forms.specs.Gives.{mark}
 pub use Rattle.forms.specs.Combined.{word, behind, after_mark, between, marked, some, commas, or_none, list}
 use Rattle.ir_types.specs.declared.name.Name.{Name}
@@ -179,20 +178,13 @@ type_words = codes "i1" ∷ codes "i8" ∷ codes "i16" ∷ codes "i32" ∷ codes
 abbrev pub token_list : TokenKind → List ℕ → List Lexeme
 token_list k w = record { kind = k; text = w } ∷ []
 
--- TEMPORARY until `enclosed` gives tokens
-abbrev pub token_again : List ℕ → Lexeme
-token_again w = record { kind = elim (kind_of w) [ None ↦ Word | Some k ↦ k ]; text = w }
-
-abbrev pub bracketed : TokenKind → TokenKind → Form (List Lexeme)
-bracketed o c = mapped (λ ws. record { kind = o; text = [] } ∷ (map token_again ws ++ record { kind = c; text = [] } ∷ [])) (enclosed o c)
-
 -- the tokens of a memory type: a word of a type, a local name, or a balanced list in brackets
 abbrev pub type_tokens : Form (List Lexeme)
 type_tokens =
     either (mapped (token_list Word) (one_such Word (is_one_of type_words)))
     (either (mapped (token_list Local) (one Local))
-    (either (bracketed LeftBracket RightBracket)
-    (either (bracketed LeftBrace RightBrace) (bracketed Less Greater))))
+    (either (enclosed LeftBracket RightBracket)
+    (either (enclosed LeftBrace RightBrace) (enclosed Less Greater))))
 
 -- the memory type that all of the tokens spell
 abbrev pub type_spelled : List Lexeme → Option (List TypeNode)

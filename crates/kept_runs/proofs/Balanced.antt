@@ -1,10 +1,10 @@
 -- Keeping a balanced list token by token, with a stack of what is awaited.
-use Rattle.std.proofs.Common.{◌≡◌, ℕ, true, false, ◌&&◌, List, [], ◌∷◌, ◌++◌, Some, None, refl, sym, ap, ◌∙◌, append_assoc}
-use Rattle.std.proofs.lemmas.List.{append-nil}
+use Rattle.std.proofs.Common.{◌≡◌, ℕ, true, false, ◌&&◌, List, [], ◌∷◌, ◌++◌, Option, Some, None, refl, sym, ap, ◌∙◌, append_assoc}
 use Rattle.forms.specs.declared.TokenKind.{TokenKind}
 use Rattle.forms.specs.Form.{Lexeme, Stops, is_empty, step, stops_at}
 use Rattle.forms.specs.Machine.{behind}
 use Rattle.forms.specs.Reading.{◌>>=◌, ends, read_inside, read_up_to}
+use Rattle.kept_runs.specs.Texts.{with_texts}
 use Rattle.kept_runs.proofs.Behind.{Reads}
 
 -- a text before the others
@@ -22,16 +22,21 @@ lexeme k w = record { kind = k; text = w }
 -- ---- up to the token that closes
 
 pub inside_ends : (c : TokenKind) (s : List TokenKind) (front : List (List ℕ)) (k : TokenKind) (w : List ℕ) (ts us : List Lexeme) (whole : Reads (List ℕ)) → ts ≡ lexeme k w ∷ us → ends c s k ≡ true
-    → behind front (read_inside c s ts) ≡ whole → whole ≡ Some (front, us)
+    → behind front (with_texts (read_inside c s ts)) ≡ whole → whole ≡ Some (front ++ w ∷ [], us)
 inside_ends c s front k w ts us whole n e so_far =
-    let here : behind front (read_inside c s (lexeme k w ∷ us)) ≡ Some (front, us) = rw e (ap (λ (l : List _). Some (l, us)) (append-nil front)) in
-    sym so_far ∙ ap (λ (l : List Lexeme). behind front (read_inside c s l)) n ∙ here
+    let here : behind front (with_texts (read_inside c s (lexeme k w ∷ us))) ≡ Some (front ++ w ∷ [], us) = rw e refl in
+    sym so_far ∙ ap (λ (l : List Lexeme). behind front (with_texts (read_inside c s l))) n ∙ here
+
+token_before : (t : Lexeme) (r : Option (List Lexeme × List Lexeme)) → with_texts (r >>= λ y. Some (t ∷ y.0, y.1)) ≡ before t.text (with_texts r)
+token_before t None = refl
+token_before t (Some y) = refl
 
 pub inside_next : (c : TokenKind) (s u : List TokenKind) (front : List (List ℕ)) (k : TokenKind) (w : List ℕ) (ts us : List Lexeme) (whole : Reads (List ℕ)) → ts ≡ lexeme k w ∷ us → ends c s k ≡ false → step s k ≡ Some u
-    → behind front (read_inside c s ts) ≡ whole → behind (front ++ w ∷ []) (read_inside c u us) ≡ whole
+    → behind front (with_texts (read_inside c s ts)) ≡ whole → behind (front ++ w ∷ []) (with_texts (read_inside c u us)) ≡ whole
 inside_next c s u front k w ts us whole n e d so_far =
-    let here : behind front (read_inside c s (lexeme k w ∷ us)) ≡ behind (front ++ w ∷ []) (read_inside c u us) = rw (e, d) (one_more front w (read_inside c u us)) in
-    sym here ∙ ap (λ (l : List Lexeme). behind front (read_inside c s l)) (sym n) ∙ so_far
+    let r = read_inside c u us in
+    let here : behind front (with_texts (read_inside c s (lexeme k w ∷ us))) ≡ behind (front ++ w ∷ []) (with_texts r) = rw (e, d) (ap (behind front) (token_before (lexeme k w) r) ∙ one_more front w (with_texts r)) in
+    sym here ∙ ap (λ (l : List Lexeme). behind front (with_texts (read_inside c s l))) (sym n) ∙ so_far
 
 -- ---- up to a stop
 

@@ -7,9 +7,8 @@ use Rattle.forms.specs.declared.TokenKind.TheVariants.{Quoted, Word, Number, Met
 use Rattle.forms.specs.Combined.{or_none}
 use Rattle.forms.specs.Form.{Lexeme, Form, Stops, one_such, is_none_of, enclosed, up_to, either, mapped, many, Spells, InOrder, IfThere, texts}
 use Rattle.forms.specs.Kept.{kept_one, kept_token, kept_such, perhaps, in_parens, in_braces, kept_word, kept_unsigned, kept_numbered, kept_string, kept_piece, kept_run, is_unsigned, is_numbered, is_named, metadata_node, attachment, attachments, kept_behind_comma}
-use Rattle.forms.specs.Lexical.{kind_of, LexesTo, here, space, comment, token}
+use Rattle.forms.specs.Lexical.{LexesTo, here, space, comment, token}
 use Rattle.forms.specs.Nested.{concat, joined}
-use Rattle.forms.proofs.MarkTexts.{left_paren, right_paren, left_brace, right_brace}
 use Rattle.kept_runs.specs.Verbatim.{AreLexed, Verbatim}
 
 -- ---- parts of what is lexed
@@ -85,31 +84,14 @@ verbatim_each f vf = record { says = λ kept ts h s. sym s.1 ∙ by s.0 ts h s.2
 pub verbatim_up_to : (st : Stops) → Verbatim (up_to st)
 verbatim_up_to st = record { says = λ kept ts h s. s.1 }
 
--- tokens of this kind have this text
-abbrev AlwaysText : TokenKind → List ℕ → Type 0
-AlwaysText k w = (v : List ℕ) → kind_of v ≡ Some k → v ≡ w
-
-abbrev lexeme : TokenKind → List ℕ → Lexeme
-lexeme k w = record { kind = k; text = w }
-
-pub verbatim_enclosed : (o c : TokenKind) (v w : List ℕ) → AlwaysText o v → AlwaysText c w → Verbatim (mapped (λ xs. v ∷ (xs ++ w ∷ [])) (enclosed o c))
-verbatim_enclosed o c v w first last = record {
-  says = λ kept ts h s.
-      let e = s.2.3 in
-      let inner = s.2.1 in
-      let all = lexed_as ts (lexeme o s.2.0 ∷ (inner ++ lexeme c s.2.2 ∷ [])) e h in
-      let end = lexed_parts inner (lexeme c s.2.2 ∷ []) all.1 in
-      let opens : s.2.0 ≡ v = first s.2.0 all.0 in
-      let closes : s.2.2 ≡ w = last s.2.2 end.1.0 in
-      sym s.1 ∙ ap (λ (l : List (List ℕ)). v ∷ (l ++ w ∷ [])) s.2.5
-      ∙ sym (ap texts e ∙ ap (λ (l : List (List ℕ)). s.2.0 ∷ l) (texts_joined inner (lexeme c s.2.2 ∷ [])) ∙ ap (λ (x : List ℕ). x ∷ (texts inner ++ s.2.2 ∷ [])) opens ∙ ap (λ (x : List ℕ). v ∷ (texts inner ++ x ∷ [])) closes);
-}
+pub verbatim_enclosed : (o c : TokenKind) → Verbatim (mapped texts (enclosed o c))
+verbatim_enclosed o c = record { says = λ kept ts h s. sym s.1 ∙ ap texts s.2.5 }
 
 pub verbatim_parens : Verbatim in_parens
-verbatim_parens = verbatim_enclosed LeftParen RightParen (codes "(") (codes ")") left_paren right_paren
+verbatim_parens = verbatim_enclosed LeftParen RightParen
 
 pub verbatim_braces : Verbatim in_braces
-verbatim_braces = verbatim_enclosed LeftBrace RightBrace (codes "{") (codes "}") left_brace right_brace
+verbatim_braces = verbatim_enclosed LeftBrace RightBrace
 
 -- ---- runs
 

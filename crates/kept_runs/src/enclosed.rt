@@ -5,25 +5,27 @@ ghost use Rattle.forms.specs.Gives.{Gives, left};
 ghost use Rattle.forms.specs.Kept.{in_parens, in_braces};
 ghost use Rattle.forms.specs.Machine.{behind};
 ghost use Rattle.forms.specs.Reading.{read, read_inside};
+ghost use Rattle.kept_runs.specs.Texts.{with_texts};
 
 use crate::awaited::Awaited;
 use forms::{Cursor, SyntaxFault, TokenKind};
 use lists::Texts;
 use std::alloc::Global;
 
-/// Keeps what stands before the token of this kind that closes, which is taken and not kept.
+/// Keeps what stands up to the token of this kind that closes, with that one.
 fn keep_inside<'t>(
     alloc: Global,
     tokens: Cursor<'t>,
     close: TokenKind,
     texts: &mut Texts,
 ) -> Result<Cursor<'t>, SyntaxFault>
-    ensures { Gives (λ rest. (texts.new, left rest)) result (behind texts.old (read_inside close [] (left tokens.entry))) }
+    ensures { Gives (λ rest. (texts.new, left rest)) result (behind texts.old (with_texts (read_inside close [] (left tokens.entry)))) }
 {
     let mut awaited = Awaited::new(alloc);
     let mut rest = tokens;
     'each: while let Some((kind, text, after)) = rest.split_first() {
         if awaited.ends(close, kind) {
+            texts.push(text)?;
             return Ok(after);
         }
         if !awaited.step(kind)? {
@@ -47,11 +49,9 @@ pub fn keep_parens<'t>(
 ) -> Result<Cursor<'t>, SyntaxFault>
     ensures { Gives (λ rest. (texts.new, left rest)) result (behind texts.old (read in_parens (left tokens.entry))) }
 {
-    let rest = tokens.mark(TokenKind::LeftParen)?;
-    texts.push(b"(")?;
-    let rest = keep_inside(alloc, rest, TokenKind::RightParen, texts)?;
-    texts.push(b")")?;
-    Ok(rest)
+    let (text, rest) = tokens.one(TokenKind::LeftParen)?;
+    texts.push(text)?;
+    keep_inside(alloc, rest, TokenKind::RightParen, texts)
 }
 
 /// Keeps `{`, a balanced list and `}`.
@@ -66,9 +66,7 @@ pub fn keep_braces<'t>(
 ) -> Result<Cursor<'t>, SyntaxFault>
     ensures { Gives (λ rest. (texts.new, left rest)) result (behind texts.old (read in_braces (left tokens.entry))) }
 {
-    let rest = tokens.mark(TokenKind::LeftBrace)?;
-    texts.push(b"{")?;
-    let rest = keep_inside(alloc, rest, TokenKind::RightBrace, texts)?;
-    texts.push(b"}")?;
-    Ok(rest)
+    let (text, rest) = tokens.one(TokenKind::LeftBrace)?;
+    texts.push(text)?;
+    keep_inside(alloc, rest, TokenKind::RightBrace, texts)
 }

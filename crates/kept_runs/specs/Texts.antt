@@ -1,0 +1,8 @@
+-- The texts of what is read.
+use Rattle.std.specs.Prelude.{ℕ, List, Option, Some}
+use Rattle.forms.specs.Form.{Lexeme, texts}
+use Rattle.forms.specs.Reading.{◌>>=◌}
+
+-- the tokens that are read, as their texts
+abbrev pub with_texts : Option (List Lexeme × List Lexeme) → Option (List (List ℕ) × List Lexeme)
+with_texts r = r >>= λ y. Some (texts y.0, y.1)
