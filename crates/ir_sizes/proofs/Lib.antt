@@ -3,3 +3,4 @@ pub mod Layouts
 pub mod Closing
 pub mod Members
 pub mod Setting
+pub mod Cells
