@@ -4,3 +4,4 @@ pub mod Closing
 pub mod Members
 pub mod Setting
 pub mod Cells
+pub mod Within
