@@ -5,3 +5,4 @@ pub mod Members
 pub mod Setting
 pub mod Cells
 pub mod Within
+pub mod PlaceNodes
