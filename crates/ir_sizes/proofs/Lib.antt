@@ -6,3 +6,4 @@ pub mod Setting
 pub mod Cells
 pub mod Within
 pub mod PlaceNodes
+pub mod Agreed
