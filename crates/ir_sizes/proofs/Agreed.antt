@@ -22,10 +22,10 @@ use Rattle.ir_types.specs.Sizes.{Layout, Subject, a_type, at_place, members, IsL
 use Rattle.ir_types.specs.TypeNodes.{TypeNode}
 use Rattle.ir_types.specs.Offsets.{Definitions, nodes_of_name, Laid, layouts, layout_by, layout_within, layout_of_name, layout_of}
 use Rattle.ir_types.proofs.NameAt.{name_got}
-use Rattle.ir_sizes.specs.Definitions.{names_in, nodes_in, defined_nodes, AreDefinitions}
+use Rattle.ir_sizes.specs.Definitions.{names_in, nodes_in, nodes_by, type_in, defined_nodes, AreDefinitions}
 use Rattle.ir_sizes.proofs.Cells.{laid_by, times, struct_by, called_layout, array_layout, struct_layout_by}
 use Rattle.ir_sizes.proofs.Within.{name_layout}
-use Rattle.ir_sizes.proofs.PlaceNodes.{nodes_by, type_at, place_nodes, no_nodes, place_one, places_one}
+use Rattle.ir_sizes.proofs.PlaceNodes.{type_at, place_nodes, no_nodes, place_one, places_one}
 
 -- a list of one layout
 abbrev pub only : Option Layout → Option (List Layout)
@@ -56,10 +56,6 @@ later_type names i n (Struct packed ids) le h = all_before i n ids le h
 later_type names i n (Named k) le h = h
 
 module _ (types : List MemTy) (names : List TypeName) (defs : Definitions) (are : AreTypes (names_in names) 0 types) (agree : AreDefinitions types names defs) where
-  -- the nodes of a type whose parts are at places
-  abbrev pub type_in : MemTy → List TypeNode
-  type_in t = nodes_by (names_in names) (nodes_in types names) t
-
   -- the name at a place
   name_there : (k : ℕ) (n : TypeName) → slice_get names k ≡ Some n → name_at (names_in names) k ≡ n.name
   name_there k n e = name_got (names_in names) k n.name (slice_get-map (λ (m : TypeName). m.name) names k ∙ ap (option_map (λ (m : TypeName). m.name)) e)
@@ -71,7 +67,7 @@ module _ (types : List MemTy) (names : List TypeName) (defs : Definitions) (are 
   -- ---- what is laid by places is laid by nodes
 
   abbrev said : Subject → Option (List Layout)
-  said (a_type t) = only (layout_of defs (type_in t))
+  said (a_type t) = only (layout_of defs (type_in types names t))
   said (at_place id) = only (layout_of defs (nodes_in types names id))
   said (members ids) = layouts_by (layout_of_name defs) (map (nodes_in types names) ids)
 
@@ -80,7 +76,7 @@ module _ (types : List MemTy) (names : List TypeName) (defs : Definitions) (are 
   IsPlaced (at_place id) = Unit {0}
   IsPlaced (members ids) = Unit {0}
 
-  name_said : (k : ℕ) (n : TypeName) → slice_get names k ≡ Some n → IsFirst (names_in names) k → layout_of defs (type_in (Named k)) ≡ (defined_nodes types names n.ty >>= layout_of defs)
+  name_said : (k : ℕ) (n : TypeName) → slice_get names k ≡ Some n → IsFirst (names_in names) k → layout_of defs (type_in types names (Named k)) ≡ (defined_nodes types names n.ty >>= layout_of defs)
   name_said k n e first =
       called_layout (layout_of_name defs) (name_at (names_in names) k)
       ∙ name_layout defs (name_at (names_in names) k)
@@ -130,7 +126,7 @@ module _ (types : List MemTy) (names : List TypeName) (defs : Definitions) (are 
         let is : ◌≡◌ {A = List Laid} xs (record { nodes = nodes_in types names id; layout = first.0 } ∷ rest.0) = cc in
         rw is (more_laid id ids first.0 (layouts rest.0) (before id first.0 h.0 first.1) (members_back i ids rest.0 before h.1 rest.1))
 
-    type_back : (i : ℕ) (t : MemTy) (l : Layout) → i ≤ length types → IsKnown i → IsTypeAt (names_in names) i t → by_depth (type_in t) ≡ Some l → IsLaid types names (a_type t) (l ∷ [])
+    type_back : (i : ℕ) (t : MemTy) (l : Layout) → i ≤ length types → IsKnown i → IsTypeAt (names_in names) i t → by_depth (type_in types names t) ≡ Some l → IsLaid types names (a_type t) (l ∷ [])
     type_back i (One t) l le before h e =
         let is : ◌≡◌ {A = Layout} (record { size = value_size t; align = value_size t }) l = cc in
         subst (λ k. IsLaid types names (a_type (One t)) (k ∷ [])) is (scalar_laid t h)
@@ -189,8 +185,8 @@ module _ (types : List MemTy) (names : List TypeName) (defs : Definitions) (are 
   members_layouts ids ls h = laid_said h tt
 
   -- and of a type whose parts are at places
-  pub type_layout : (t : MemTy) (l : Layout) → IsTypeAt (names_in names) (length types) t → IsLaid types names (a_type t) (l ∷ []) → layout_of defs (type_in t) ≡ Some l
-  type_layout t l p h = only_is (layout_of defs (type_in t)) l (laid_said h p)
+  pub type_layout : (t : MemTy) (l : Layout) → IsTypeAt (names_in names) (length types) t → IsLaid types names (a_type t) (l ∷ []) → layout_of defs (type_in types names t) ≡ Some l
+  type_layout t l p h = only_is (layout_of defs (type_in types names t)) l (laid_said h p)
 
-  pub layout_type : (t : MemTy) (l : Layout) → IsTypeAt (names_in names) (length types) t → layout_of defs (type_in t) ≡ Some l → IsLaid types names (a_type t) (l ∷ [])
+  pub layout_type : (t : MemTy) (l : Layout) → IsTypeAt (names_in names) (length types) t → layout_of defs (type_in types names t) ≡ Some l → IsLaid types names (a_type t) (l ∷ [])
   layout_type t l p e = type_back (length defs) (name_back (length defs)) (length types) t l (omega arith) (λ id k _ f. layout_place id k f) p e

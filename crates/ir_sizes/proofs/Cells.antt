@@ -10,6 +10,7 @@ use Rattle.ir_types.specs.declared.inst.Ty.{Ty}
 use Rattle.ir_types.specs.Sizes.{Layout, value_size, struct_layout}
 use Rattle.ir_types.specs.TypeNodes.{TypeNode, scalar, called, array, opening, closing}
 use Rattle.ir_types.specs.Offsets.{Laid, Cell, whole, end, up_to_end, layouts, array_of, struct_of, cell_before, cells_of, one_type, layout_by, member_at}
+use Rattle.ir_sizes.specs.Definitions.{struct_nodes}
 
 -- the cell of a type before others
 abbrev pub cell_with : List TypeNode → List Cell → Layout → Option (List Cell)
@@ -132,10 +133,6 @@ laid_nodes sizes (nodes ∷ all) xs e =
     let is : ◌≡◌ {A = List Laid} xs (record { nodes = nodes; layout = first.0 } ∷ others.0) = cc in
     let rest = laid_nodes sizes all others.0 others.1 in
     rw is (ap (λ (l : List (List TypeNode)). nodes ∷ l) rest)
-
--- the nodes of a struct whose members' nodes are these
-abbrev pub struct_nodes : Bool → List (List TypeNode) → List TypeNode
-struct_nodes packed all = opening packed ∷ (concat all ++ closing ∷ [])
 
 -- the struct of these members
 abbrev pub struct_before : Bool → List (List TypeNode) → List Cell → List Laid → Option (List Cell)

@@ -12,14 +12,8 @@ use Rattle.ir_types.specs.declared.memory_type.MemTy.TheVariants.{One, Array, St
 use Rattle.ir_types.specs.Names.{name_at}
 use Rattle.ir_types.specs.Types.{IsBefore, IsTypeAt, AreTypes}
 use Rattle.ir_types.specs.TypeNodes.{TypeNode, scalar, called, array, closing, nodes_at, nodes_from, all_nodes, type_nodes}
-use Rattle.ir_sizes.proofs.Cells.{IsOne, scalar_one, called_one, array_one, struct_nodes, struct_one}
-
--- the nodes of a type, from those of its parts
-abbrev pub nodes_by : List Name → (TypeId → List TypeNode) → MemTy → List TypeNode
-nodes_by names part (One t) = scalar t ∷ []
-nodes_by names part (Array n element) = array n ∷ part element
-nodes_by names part (Struct packed members) = struct_nodes packed (map part members)
-nodes_by names part (Named k) = called (name_at names k) ∷ []
+use Rattle.ir_sizes.specs.Definitions.{struct_nodes, nodes_by}
+use Rattle.ir_sizes.proofs.Cells.{IsOne, scalar_one, called_one, array_one, struct_one}
 
 -- ---- the lists of nodes, one type after another
 
