@@ -1,11 +1,9 @@
 // Each public function once.
 
 use crate::{
-    Stops, begins_attachment, begins_run, keep, keep_attachment, keep_attachments, keep_braces,
-    keep_node, keep_parens, keep_run, keep_unsigned, keep_up_to, keep_word,
     Stops, begins_attachment, begins_comma_attachment, begins_run, keep, keep_attachment,
     keep_attachments, keep_braces, keep_comma_attachments, keep_node, keep_parens, keep_run,
-    keep_up_to, keep_word,
+    keep_unsigned, keep_up_to, keep_word,
 };
 use forms::{Cursor, SyntaxFault, Token, TokenKind};
 use lists::Texts;
