@@ -101,7 +101,7 @@ verbatim_word ws = verbatim_joined (mapped (λ w. w ∷ []) (one_such Word (is_n
 verbatim_numbered : (w : List ℕ) → Verbatim (kept_numbered w)
 verbatim_numbered w =
     let number = either kept_unsigned in_parens in
-    verbatim_joined (kept_token Word w) (perhaps number) (verbatim_token Word w) (verbatim_perhaps number (verbatim_either kept_unsigned in_parens (verbatim_one_such Number is_unsigned) verbatim_parens))
+    verbatim_joined (kept_token Word w) number (verbatim_token Word w) (verbatim_either kept_unsigned in_parens (verbatim_one_such Number is_unsigned) verbatim_parens)
 
 verbatim_string : Verbatim kept_string
 verbatim_string =

@@ -164,7 +164,7 @@ fn keeps_runs(rt: HostRuntime) -> Result<(), SyntaxFault> {
 }
 
 #[test]
-fn leaves_signed_numbers(rt: HostRuntime) -> Result<(), SyntaxFault> {
+fn refuses_signed_numbers(rt: HostRuntime) -> Result<(), SyntaxFault> {
     let words = [ALIGN, FOUR, ALIGN, SIGNED];
     let (text, tokens) = written(rt.alloc(), &words)?;
     let cursor = Cursor {
@@ -173,10 +173,12 @@ fn leaves_signed_numbers(rt: HostRuntime) -> Result<(), SyntaxFault> {
     };
     let excluded: [&[u8]; 1] = [b"align"];
     let mut texts = Texts::new(rt.alloc());
-    let rest = keep_run(rt.alloc(), cursor, &excluded, &mut texts)?;
-    assert!(rt; are_kept(&texts, &words[..3]));
-    assert!(rt; rest.is_next(TokenKind::Number));
-    assert!(rt; keep_unsigned(rest, &mut texts).is_err());
+    assert!(rt; keep_run(rt.alloc(), cursor, &excluded, &mut texts).is_err());
+    let signed = Cursor {
+        text: text.as_slice(),
+        rest: &tokens[3..],
+    };
+    assert!(rt; keep_unsigned(signed, &mut texts).is_err());
     Ok(())
 }
 
