@@ -57,7 +57,7 @@ later_type names i n (Named k) le h = h
 
 module _ (types : List MemTy) (names : List TypeName) (defs : Definitions) (are : AreTypes (names_in names) 0 types) (agree : AreDefinitions types names defs) where
   -- the name at a place
-  name_there : (k : ℕ) (n : TypeName) → slice_get names k ≡ Some n → name_at (names_in names) k ≡ n.name
+  pub name_there : (k : ℕ) (n : TypeName) → slice_get names k ≡ Some n → name_at (names_in names) k ≡ n.name
   name_there k n e = name_got (names_in names) k n.name (slice_get-map (λ (m : TypeName). m.name) names k ∙ ap (option_map (λ (m : TypeName). m.name)) e)
 
   -- the type at a place, before others

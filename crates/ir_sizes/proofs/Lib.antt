@@ -7,3 +7,5 @@ pub mod Cells
 pub mod Within
 pub mod PlaceNodes
 pub mod Agreed
+pub mod Behind
+pub mod Stepped
