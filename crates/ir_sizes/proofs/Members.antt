@@ -31,7 +31,7 @@ put_push : (packed : Bool) (ls : List Layout) (l : Layout) → put packed (ls ++
 put_push packed [] l = refl
 put_push packed (k ∷ ls) l = ap (λ (r : List Layout). record { size = k.size; align = put_at packed k.align } ∷ r) (put_push packed ls l)
 
-put_natural : (ls : List Layout) → put false ls ≡ ls
+pub put_natural : (ls : List Layout) → put false ls ≡ ls
 put_natural [] = refl
 put_natural (l ∷ ls) = ap (λ (r : List Layout). l ∷ r) (put_natural ls)
 
