@@ -9,3 +9,4 @@ pub mod PlaceNodes
 pub mod Agreed
 pub mod Behind
 pub mod Stepped
+pub mod Paths

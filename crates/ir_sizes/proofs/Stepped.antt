@@ -9,6 +9,7 @@ use Rattle.std.proofs.lemmas.Option.{slice_get_past, slice_get-map}
 use Rattle.forms.specs.Bind.{◌>>=◌}
 use Rattle.forms.proofs.Parts.{bind_some}
 use Rattle.ir_types.specs.declared.name.Name.{Name}
+use Rattle.ir_types.specs.declared.inst.Ty.{Ty}
 use Rattle.ir_types.specs.declared.memory_type.TypeId.{TypeId}
 use Rattle.ir_types.specs.declared.memory_type.MemTy.{MemTy}
 use Rattle.ir_types.specs.declared.memory_type.MemTy.TheVariants.{One, Array, Struct, Named}
@@ -18,11 +19,13 @@ use Rattle.ir_types.specs.declared.memory_type.Extent.TheVariants.{NoSize, Size}
 use Rattle.ir_types.specs.Types.{IsTypeAt, AreTypes}
 use Rattle.ir_types.specs.Sizes.{Layout, IsLaid, a_type, at_place, members, array_laid, AreExtents, aligned, end_behind, greatest_align, struct_layout, SIZE_CAP}
 use Rattle.ir_types.specs.TypeNodes.{TypeNode}
-use Rattle.ir_types.specs.Offsets.{Definitions, Laid, layouts, layout_by, layout_of_name, layout_of, small_size, member_at, stepped_into, unnamed}
+use Rattle.ir_types.specs.Offsets.{Definitions, Laid, layouts, layout_by, layout_of_name, layout_of, small_size, member_at, scaled, stepped_into, unnamed}
 use Rattle.ir_sizes.specs.Known.{extent_at, IsSized, IsSizedAt, IsExtentOf}
 use Rattle.ir_sizes.specs.Put.{put_at, put, EndAt}
 use Rattle.ir_sizes.specs.Definitions.{names_in, nodes_in, type_in, AreDefinitions}
-use Rattle.ir_sizes.specs.Stepping.{small_extent, IsSteppable, BeginsAt, step_by}
+use Rattle.ir_sizes.specs.Stepping.{index_pair, small_extent, IsSteppable, BeginsAt, step_by, IsStep}
+use Rattle.ir_sizes.specs.declared.offsets.Index.{Index}
+use Rattle.ir_sizes.specs.declared.steps.Step.{Step}
 use Rattle.ir_sizes.proofs.Layouts.{IsAlign, laid_aligns, laid_once}
 use Rattle.ir_sizes.proofs.Capping.{aligned_least}
 use Rattle.ir_sizes.proofs.Setting.{extents_right, extents_sized}
@@ -258,3 +261,51 @@ module _ (types : List MemTy) (names : List TypeName) (extents : List Extent) (d
             ∙ ap (λ (n : ℕ). Some (n, nodes b.id)) place,
             small_steppable b.id b.layout b.laid (omega (arith, within, whole, lt)),
         )
+
+  -- ---- a step of the code is one of the definition
+
+  module _ (id : TypeId) (i : Index) (steppable : IsSteppable (extent_at extents id.0)) where
+    abbrev Steps : Option Step → Type 0
+    Steps step = IsStep types names extents defs id i step
+
+    -- the type behind names is this one
+    abbrev IsBehind : MemTy → Type 0
+    IsBehind t = unnamed (length names) defs (nodes id) ≡ Some (type_in types names t)
+
+    by_type : (t : MemTy) → IsBehind t → step_by defs (nodes id) (index_pair i) ≡ stepped_into defs (type_in types names t) (index_pair i)
+    by_type t e = step_behind id (type_in types names t) (index_pair i) steppable e
+
+    pub value_step : (t : Ty) → IsBehind (One t) → Steps None
+    value_step t e = record { is = by_type (One t) e; small = tt }
+
+    pub array_refused : (n : ℕ) (element : TypeId) → IsBehind (Array n element) → None ≡ small_extent (extent_at extents element.0) → Steps None
+    array_refused n element e none = record {
+      is = by_type (Array n element) e ∙ ap (λ (o : Option ℕ). o >>= λ s. Some (scaled s (index_pair i), nodes element)) (sym (small_agrees element) ∙ sym none);
+      small = tt;
+    }
+
+    pub array_step : (n : ℕ) (element : TypeId) (s bytes : ℕ) → IsBehind (Array n element) → Some s ≡ small_extent (extent_at extents element.0) → bytes ≡ scaled s (index_pair i) → Steps (Some (record { bytes = bytes; place = element }))
+    array_step n element s bytes e found is = record {
+      is = by_type (Array n element) e
+          ∙ ap (λ (o : Option ℕ). o >>= λ k. Some (scaled k (index_pair i), nodes element)) (sym (small_agrees element) ∙ sym found)
+          ∙ ap (λ (b : ℕ). Some (b, nodes element)) (sym is);
+      small = extent_steppable (extent_at extents element.0) s (sym found);
+    }
+
+    module _ (packed : Bool) (ids : List TypeId) (h : IsTypeAt (names_in names) (length types) (Struct packed ids)) (e : IsBehind (Struct packed ids)) where
+      pub struct_sized : All (IsSizedAt extents) ids
+      struct_sized = members_sized packed ids h (behind_small id (type_in types names (Struct packed ids)) steppable e)
+
+      pub struct_refused : length ids ≤ i.number → Steps None
+      struct_refused past = record {
+        is = by_type (Struct packed ids) e ∙ past_members packed ids h (index_pair i) (behind_small id (type_in types names (Struct packed ids)) steppable e) past;
+        small = tt;
+      }
+
+      pub struct_step : (bytes : ℕ) (place : TypeId) (b : BeginsAt types names packed ids i.number bytes) → place ≡ b.id → Steps (Some (record { bytes = bytes; place = place }))
+      struct_step bytes place b same =
+          let into = into_member packed ids h (index_pair i) bytes b (behind_small id (type_in types names (Struct packed ids)) steppable e) in
+          record {
+            is = by_type (Struct packed ids) e ∙ into.0 ∙ ap (λ (p : TypeId). Some (bytes, nodes p)) (sym same);
+            small = rw same into.1;
+          }
