@@ -22,7 +22,7 @@ use Rattle.ir_types.specs.Sizes.{Layout, Subject, a_type, at_place, members, IsL
 use Rattle.ir_types.specs.TypeNodes.{TypeNode}
 use Rattle.ir_types.specs.Offsets.{Definitions, nodes_of_name, Laid, layouts, layout_by, layout_within, layout_of_name, layout_of}
 use Rattle.ir_types.proofs.NameAt.{name_got}
-use Rattle.ir_sizes.specs.Definitions.{names_in, nodes_in, nodes_by, type_in, defined_nodes, AreDefinitions}
+use Rattle.ir_sizes.specs.Definitions.{names_in, nodes_in, type_in, defined_nodes, AreDefinitions}
 use Rattle.ir_sizes.proofs.Cells.{laid_by, laid_split, times, struct_by, called_layout, array_layout, struct_layout_by}
 use Rattle.ir_sizes.proofs.Within.{name_layout}
 use Rattle.ir_sizes.proofs.PlaceNodes.{type_at, place_nodes, no_nodes, place_one, places_one}

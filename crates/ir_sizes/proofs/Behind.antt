@@ -1,5 +1,5 @@
 -- What is behind the names with which a type begins.
-use Rattle.std.proofs.Common.{◌≡◌, ℕ, zero, suc, ◌<◌, ◌≤◌, List, [], ◌∷◌, length, get_or, Option, Some, None, refl, sym, ap, ◌∙◌, subst, arith}
+use Rattle.std.proofs.Common.{◌≡◌, ℕ, zero, suc, ◌≤◌, List, [], ◌∷◌, length, get_or, Option, Some, None, refl, sym, ap, ◌∙◌, subst, arith}
 use Rattle.std.specs.Prelude.{slice_get}
 use Rattle.std.proofs.lemmas.List.{length-map}
 use Rattle.std.proofs.lemmas.Option.{slice_get-get_or}
@@ -13,11 +13,10 @@ use Rattle.ir_types.specs.declared.memory_type.MemTy.TheVariants.{One, Array, St
 use Rattle.ir_types.specs.declared.memory_type.NamedType.{NamedType}
 use Rattle.ir_types.specs.declared.memory_type.NamedType.TheVariants.{Defined, Opaque, Missing}
 use Rattle.ir_types.specs.declared.memory_type.TypeName.{TypeName}
-use Rattle.ir_types.specs.Names.{name_at}
 use Rattle.ir_types.specs.Types.{IsFirst, AreTypes}
 use Rattle.ir_types.specs.Sizes.{Layout}
 use Rattle.ir_types.specs.TypeNodes.{TypeNode, scalar, called, array, opening, closing}
-use Rattle.ir_types.specs.Offsets.{Definitions, nodes_of_name, Laid, Cell, whole, end, cells_of, one_type, layout_by, layout_within, layout_of_name, layout_of, unnamed}
+use Rattle.ir_types.specs.Offsets.{Definitions, nodes_of_name, Laid, Cell, whole, cells_of, one_type, layout_by, layout_within, layout_of_name, layout_of, unnamed}
 use Rattle.ir_sizes.specs.Known.{IsDefined}
 use Rattle.ir_sizes.specs.Definitions.{names_in, nodes_in, type_in, defined_nodes, AreDefinitions}
 use Rattle.ir_sizes.specs.Stepping.{IsUnnamed}

@@ -1,10 +1,10 @@
 -- Steps one after another.
-use Rattle.std.proofs.Common.{◌≡◌, ℕ, ◌+◌, ◌%◌, ◌^◌, ◌<◌, List, [], ◌∷◌, length, Option, Some, None, refl, sym, ap, ◌∙◌, arith}
+use Rattle.std.proofs.Common.{◌≡◌, ℕ, ◌+◌, ◌%◌, ◌^◌, ◌<◌, ◌≤◌, List, [], ◌∷◌, map, length, get_or, drop, drop-cons, drop_of_length-le, add-one, Option, Some, None, refl, sym, ap, ◌∙◌, arith}
 use Rattle.forms.specs.Bind.{◌>>=◌}
-use Rattle.forms.proofs.Parts.{bind_some}
 use Rattle.ir_types.specs.TypeNodes.{TypeNode}
-use Rattle.ir_types.specs.Offsets.{Definitions, unnamed, stepped_into, path_offset}
-use Rattle.ir_sizes.specs.Stepping.{step_by}
+use Rattle.ir_types.specs.Offsets.{Definitions, unnamed, stepped_into, path_offset, small_size, scaled, offset_of}
+use Rattle.ir_sizes.specs.declared.offsets.Index.{Index}
+use Rattle.ir_sizes.specs.Stepping.{index_pair, step_by}
 
 -- so many bytes more
 abbrev pub and_more : ℕ → Option ℕ → Option ℕ
@@ -43,3 +43,30 @@ module _ (defs : Definitions) where
       sum : (o : Option ℕ) → and_more bytes (o >>= λ k. Some ((b + k) % 2 ^ 64)) ≡ and_more ((bytes + b) % 2 ^ 64) o
       sum None = refl
       sum (Some k) = let e : (bytes + (b + k) % 2 ^ 64) % 2 ^ 64 ≡ ((bytes + b) % 2 ^ 64 + k) % 2 ^ 64 = omega arith in ap (λ (n : ℕ). Some n) e
+
+-- the indexes from a place on
+pub one_more : (indexes : List Index) (k : ℕ) (d : Index) → k < length indexes → map index_pair (drop k indexes) ≡ index_pair (get_or indexes k d) ∷ map index_pair (drop (k + 1) indexes)
+one_more indexes k d h = ap (map index_pair) (drop-cons indexes k d h ∙ ap (λ (n : ℕ). get_or indexes k d ∷ drop n indexes) (sym (add-one k)))
+
+-- none stand there
+pub no_more : (indexes : List Index) (k : ℕ) → length indexes ≤ k → map index_pair (drop k indexes) ≡ []
+no_more indexes k h = ap (map index_pair) (drop_of_length-le indexes h)
+
+pub nothing_more : (bytes : ℕ) → bytes < 2 ^ 64 → Some bytes ≡ and_more bytes (Some 0)
+nothing_more bytes h = let e : bytes ≡ (bytes + 0) % 2 ^ 64 = omega arith in ap (λ (n : ℕ). Some n) e
+
+-- ---- the first index
+
+module _ (defs : Definitions) (nodes : List TypeNode) (i : ℕ × ℕ) (more : List (ℕ × ℕ)) where
+  pub offset_unsized : small_size defs nodes ≡ None → offset_of defs nodes (i ∷ more) ≡ None
+  offset_unsized e = ap (λ (o : Option ℕ). o >>= λ s. path_offset defs nodes more >>= λ k. Some ((scaled s i + k) % 2 ^ 64)) e
+
+  pub offset_refused : (s : ℕ) → small_size defs nodes ≡ Some s → path_offset defs nodes more ≡ None → offset_of defs nodes (i ∷ more) ≡ None
+  offset_refused s e f =
+      ap (λ (o : Option ℕ). o >>= λ s. path_offset defs nodes more >>= λ k. Some ((scaled s i + k) % 2 ^ 64)) e
+      ∙ ap (λ (o : Option ℕ). o >>= λ k. Some ((scaled s i + k) % 2 ^ 64)) f
+
+  pub offset_found : (s k : ℕ) → small_size defs nodes ≡ Some s → path_offset defs nodes more ≡ Some k → offset_of defs nodes (i ∷ more) ≡ Some ((scaled s i + k) % 2 ^ 64)
+  offset_found s k e f =
+      ap (λ (o : Option ℕ). o >>= λ s. path_offset defs nodes more >>= λ k. Some ((scaled s i + k) % 2 ^ 64)) e
+      ∙ ap (λ (o : Option ℕ). o >>= λ k. Some ((scaled s i + k) % 2 ^ 64)) f

@@ -1,9 +1,8 @@
 -- Steps by places are those by nodes.
-use Rattle.std.proofs.Common.{◌≡◌, ℕ, zero, suc, ◌+◌, ◌*◌, ◌<◌, ◌≤◌, min, max, Bool, true, false, nat_lt, if◌then◌else◌, List, [], ◌∷◌, map, length, take, Option, Some, None, option_map, refl, sym, ap, ◌∙◌, subst, inl, inr, arith}
+use Rattle.std.proofs.Common.{◌≡◌, ℕ, zero, suc, ◌+◌, ◌*◌, ◌<◌, ◌≤◌, min, Bool, true, false, nat_lt, if◌then◌else◌, List, [], ◌∷◌, map, length, take, Option, Some, None, option_map, refl, sym, ap, ◌∙◌, subst, inl, inr, arith}
 use Rattle.std.specs.Prelude.{slice_get, sum_by, All}
 use Rattle.std.specs.List.{AllByRecursion}
 use Rattle.std.proofs.lemmas.Bool.{cases_lt, le-ltb, ltb-true}
-use Rattle.std.proofs.lemmas.Bool.Decides.{nat_tests}
 use Rattle.std.proofs.lemmas.List.{take-map}
 use Rattle.std.proofs.lemmas.Option.{slice_get_past, slice_get-map}
 use Rattle.forms.specs.Bind.{◌>>=◌}
@@ -12,16 +11,16 @@ use Rattle.ir_types.specs.declared.name.Name.{Name}
 use Rattle.ir_types.specs.declared.inst.Ty.{Ty}
 use Rattle.ir_types.specs.declared.memory_type.TypeId.{TypeId}
 use Rattle.ir_types.specs.declared.memory_type.MemTy.{MemTy}
-use Rattle.ir_types.specs.declared.memory_type.MemTy.TheVariants.{One, Array, Struct, Named}
+use Rattle.ir_types.specs.declared.memory_type.MemTy.TheVariants.{One, Array, Struct}
 use Rattle.ir_types.specs.declared.memory_type.TypeName.{TypeName}
 use Rattle.ir_types.specs.declared.memory_type.Extent.{Extent}
 use Rattle.ir_types.specs.declared.memory_type.Extent.TheVariants.{NoSize, Size}
 use Rattle.ir_types.specs.Types.{IsTypeAt, AreTypes}
-use Rattle.ir_types.specs.Sizes.{Layout, IsLaid, a_type, at_place, members, array_laid, AreExtents, aligned, end_behind, greatest_align, struct_layout, SIZE_CAP}
+use Rattle.ir_types.specs.Sizes.{Layout, IsLaid, at_place, array_laid, AreExtents, aligned, end_behind, greatest_align, struct_layout, SIZE_CAP}
 use Rattle.ir_types.specs.TypeNodes.{TypeNode}
 use Rattle.ir_types.specs.Offsets.{Definitions, Laid, layouts, layout_by, layout_of_name, layout_of, small_size, member_at, scaled, stepped_into, unnamed}
 use Rattle.ir_sizes.specs.Known.{extent_at, IsSized, IsSizedAt, IsExtentOf}
-use Rattle.ir_sizes.specs.Put.{put_at, put, EndAt}
+use Rattle.ir_sizes.specs.Put.{put_at, put}
 use Rattle.ir_sizes.specs.Definitions.{names_in, nodes_in, type_in, AreDefinitions}
 use Rattle.ir_sizes.specs.Stepping.{index_pair, small_extent, IsSteppable, BeginsAt, step_by, IsStep}
 use Rattle.ir_sizes.specs.declared.offsets.Index.{Index}
@@ -32,7 +31,7 @@ use Rattle.ir_sizes.proofs.Setting.{extents_right, extents_sized}
 use Rattle.ir_sizes.proofs.Members.{put_bound, put_natural, put_packed, put_struct}
 use Rattle.ir_sizes.proofs.Cells.{laid_by, laid_split, struct_by, struct_layout_by, step_of_struct}
 use Rattle.ir_sizes.proofs.PlaceNodes.{places_one}
-use Rattle.ir_sizes.proofs.Agreed.{some_is, place_layout, layout_place, layout_type, members_layouts, layouts_members, layouts_by}
+use Rattle.ir_sizes.proofs.Agreed.{some_is, place_layout, layout_place, layout_type, members_layouts, layouts_members}
 use Rattle.ir_sizes.proofs.Behind.{unnamed_there, unnamed_more, unnamed_layout}
 
 -- ---- ends of members

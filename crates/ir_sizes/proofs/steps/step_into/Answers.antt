@@ -1,9 +1,8 @@
-use Rattle.std.proofs.Common.{◌≡◌, ℕ, List, length, Some, refl, sym, ap, ◌∙◌, subst, inl, inr, get_or}
+use Rattle.std.proofs.Common.{◌≡◌, ℕ, List, length, Some, ap, ◌∙◌, subst, inl, inr, get_or}
 use Rattle.std.specs.Prelude.{slice_get}
 use Rattle.std.proofs.lemmas.Option.{get_or_from_slice_get}
 use Rattle.ir_types.specs.declared.memory_type.TypeId.{TypeId}
 use Rattle.ir_types.specs.declared.memory_type.MemTy.{MemTy}
-use Rattle.ir_types.specs.declared.memory_type.MemTy.TheVariants.{One, Array, Struct}
 use Rattle.ir_types.specs.Types.{IsTypeAt}
 use Rattle.ir_sizes.specs.Definitions.{names_in, type_in}
 use Rattle.ir_sizes.specs.Stepping.{IsUnnamed}
