@@ -10,3 +10,6 @@ pub mod Agreed
 pub mod Behind
 pub mod Stepped
 pub mod Paths
+pub mod Pushing
+pub mod Defining
+pub mod Staying

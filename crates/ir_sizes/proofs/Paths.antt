@@ -32,6 +32,7 @@ module _ (defs : Definitions) where
       least : (b : ℕ) (o : Option ℕ) → (o >>= λ k. Some ((b + k) % 2 ^ 64)) ≡ and_more 0 (o >>= λ k. Some ((b + k) % 2 ^ 64))
       least b None = refl
       least b (Some k) = let e : (b + k) % 2 ^ 64 ≡ (0 + (b + k) % 2 ^ 64) % 2 ^ 64 = omega arith in ap (λ (n : ℕ). Some n) e
+
       small : (o : Option (ℕ × List TypeNode)) → (o >>= behind_step defs more) ≡ and_more 0 (o >>= behind_step defs more)
       small None = refl
       small (Some s) = least s.0 (path_offset defs s.1 more)

@@ -141,6 +141,7 @@ module _ (types : List MemTy) (names : List TypeName) (extents : List Extent) (d
       none : (o : Option Layout) → layout_of defs (nodes id) ≡ o → extent_at extents id.0 ≡ NoSize → None ≡ (o >>= λ l. if nat_lt l.size SIZE_CAP then Some l.size else None)
       none None e x = refl
       none (Some l) e x = absurd (subst IsSized x (place_sized id l (layout_place types names defs are agree id l e)))
+
       by : (x : Extent) → extent_at extents id.0 ≡ x → small_extent x ≡ small_size defs (nodes id)
       by NoSize e = none (layout_of defs (nodes id)) refl e
       by (Size s a) e =
@@ -252,13 +253,12 @@ module _ (types : List MemTy) (names : List TypeName) (extents : List Extent) (d
         let low = aligned_least align last (put_bound packed b.layout.align natural.0 natural.1).0 in
         let lt = small.small in
         let is : b.last ≡ last = omega (arith, b.before.last_is, within, whole, low, lt) in
-        let place : aligned (put_at packed x.0.align) (end_behind 0 (put packed (layouts (take i.1 m.laid)))) ≡ bytes = rw (layout, before) (sym (b.bytes_is ∙ ap (aligned align) is)) in
-        (
-            members_step i
-            ∙ ap (λ (o : Option (List Laid)). o >>= λ xs. member_at packed xs i.1) m.is
-            ∙ member_is packed m.laid i.1 (record { nodes = nodes b.id; layout = x.0 }) x.1
-            ∙ ap (λ (n : ℕ). Some (n, nodes b.id)) place,
-            small_steppable b.id b.layout b.laid (omega (arith, within, whole, lt)),
+        let place : aligned (put_at packed x.0.align) (end_behind 0 (put packed (layouts (take i.1 m.laid)))) ≡ bytes = rw (layout, before) (sym (b.bytes_is ∙ ap (aligned align) is)) in (
+          members_step i
+              ∙ ap (λ (o : Option (List Laid)). o >>= λ xs. member_at packed xs i.1) m.is
+              ∙ member_is packed m.laid i.1 (record { nodes = nodes b.id; layout = x.0 }) x.1
+              ∙ ap (λ (n : ℕ). Some (n, nodes b.id)) place,
+          small_steppable b.id b.layout b.laid (omega (arith, within, whole, lt)),
         )
 
   -- ---- a step of the code is one of the definition

@@ -13,9 +13,9 @@ returns-in_err-size c = λ defs agree.
     let nodes = nodes_in c.args.types.now c.args.names.now c.args.id in
     let agrees = small_agrees c.args.types.now c.args.names.now c.args.extents.now defs c.requires.types c.requires.extents agree c.args.id in
     rw c.from_residual-in_err-size.ensures
-        (sym
-            (ap (λ (is : List Index). offset_of defs nodes (map index_pair is)) c.in_ok-first.ensures.cases.0
-            ∙ offset_unsized defs nodes (index_pair c.in_ok-first.first.now) (map index_pair c.in_ok-first.more.now) (sym agrees ∙ sym c.in_err-size.ensures)))
+    (sym
+    (ap (λ (is : List Index). offset_of defs nodes (map index_pair is)) c.in_ok-first.ensures.cases.0
+    ∙ offset_unsized defs nodes (index_pair c.in_ok-first.first.now) (map index_pair c.in_ok-first.more.now) (sym agrees ∙ sym c.in_err-size.ensures)))
 
 pub offset_into-requires-clause-indexes : goal.offset_into-requires-clause-indexes
 offset_into-requires-clause-indexes c = All-rest IsIndex c.in_ok-first.first.now c.in_ok-first.more.now c.args.indexes.now c.in_ok-first.ensures.cases.0 c.requires.indexes
@@ -27,6 +27,6 @@ returns c = λ defs agree.
     let steppable = extent_steppable c.args.types.now c.args.names.now c.args.extents.now defs c.requires.types c.requires.extents agree _ c.in_ok-size.size (sym c.in_ok-size.ensures) in
     let behind = c.in_ok-behind.ensures defs agree steppable in
     sym
-        (ap (λ (is : List Index). offset_of defs nodes (map index_pair is)) c.in_ok-first.ensures.cases.0
-        ∙ offset_found defs nodes (index_pair c.in_ok-first.first.now) (map index_pair c.in_ok-first.more.now) c.in_ok-size.size c.in_ok-behind.behind size (sym behind)
-        ∙ ap (λ (n : ℕ). Some ((n + c.in_ok-behind.behind) % 2 ^ 64)) (sym c.scaled.ensures))
+    (ap (λ (is : List Index). offset_of defs nodes (map index_pair is)) c.in_ok-first.ensures.cases.0
+    ∙ offset_found defs nodes (index_pair c.in_ok-first.first.now) (map index_pair c.in_ok-first.more.now) c.in_ok-size.size c.in_ok-behind.behind size (sym behind)
+    ∙ ap (λ (n : ℕ). Some ((n + c.in_ok-behind.behind) % 2 ^ 64)) (sym c.scaled.ensures))

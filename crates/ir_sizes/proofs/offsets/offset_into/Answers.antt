@@ -15,22 +15,21 @@ returns-in_err-step c = λ defs agree h.
     let nodes = nodes_in c.args.types.now c.args.names.now c.loop-index.place in
     let next = one_more c.args.indexes.now c.loop-index.index-index _ c.loop-index-test.true in
     rw c.from_residual.ensures
-        (sym
-            (before.1
-            ∙ ap (λ is. and_more c.loop-index.bytes (path_offset defs nodes is)) next
-            ∙ ap (and_more c.loop-index.bytes) (path_refused defs nodes _ _ step.is)))
+    (sym
+    (before.1
+    ∙ ap (λ is. and_more c.loop-index.bytes (path_offset defs nodes is)) next
+    ∙ ap (and_more c.loop-index.bytes) (path_refused defs nodes _ _ step.is)))
 
 pub loop-index-preserved : goal.loop-index-preserved
 loop-index-preserved c = λ defs agree h.
     let before = c.loop-index.invariant defs agree h in
     let step = c.in_ok-step.ensures defs agree before.0 in
     let nodes = nodes_in c.args.types.now c.args.names.now c.loop-index.place in
-    let next = one_more c.args.indexes.now c.loop-index.index-index _ c.loop-index-test.true in
-    (
-        step.small,
-        before.1
-        ∙ ap (λ is. and_more c.loop-index.bytes (path_offset defs nodes is)) next
-        ∙ path_step defs c.loop-index.bytes nodes _ _ c.in_ok-step.step.bytes (nodes_in c.args.types.now c.args.names.now c.in_ok-step.step.place) step.is,
+    let next = one_more c.args.indexes.now c.loop-index.index-index _ c.loop-index-test.true in (
+      step.small,
+      before.1
+          ∙ ap (λ is. and_more c.loop-index.bytes (path_offset defs nodes is)) next
+          ∙ path_step defs c.loop-index.bytes nodes _ _ c.in_ok-step.step.bytes (nodes_in c.args.types.now c.args.names.now c.in_ok-step.step.place) step.is,
     )
 
 pub returns : goal.returns

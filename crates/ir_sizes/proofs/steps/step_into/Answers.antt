@@ -18,7 +18,7 @@ pub returns-in_err-size-in-Array : goal.returns-in_err-size-in-Array
 returns-in_err-size-in-Array c = λ defs agree h.
     let e = c.in_ok-element.ensures.is defs agree ∙ ap (λ (t : MemTy). Some (type_in c.args.types.now c.args.names.now t)) c.in-Array.is in
     rw c.from_residual-in_err-size-in-Array.ensures
-        (array_refused c.args.types.now c.args.names.now c.args.extents.now defs c.requires.types c.requires.extents agree c.args.id c.args.index h c.in-Array.field-0 c.in-Array.element e c.in_err-size-in-Array.ensures)
+    (array_refused c.args.types.now c.args.names.now c.args.extents.now defs c.requires.types c.requires.extents agree c.args.id c.args.index h c.in-Array.field-0 c.in-Array.element e c.in_err-size-in-Array.ensures)
 
 pub returns-in_ok-size-in-Array : goal.returns-in_ok-size-in-Array
 returns-in_ok-size-in-Array c = λ defs agree h.
@@ -32,7 +32,7 @@ returns-then-index-members c = λ defs agree h.
     struct_refused c.args.types.now c.args.names.now c.args.extents.now defs c.requires.types c.requires.extents agree c.args.id c.args.index h c.in-Struct.packed c.in-Struct.members placed e (rw c.as_slice-members.ensures at c.if-index-members.true)
 
 pub member_offset-requires-clause-small : goal.member_offset-requires-clause-small
-member_offset-requires-clause-small c = right_small c.args.types.now c.args.names.now c.args.extents.now (extents_right c.args.types.now c.args.names.now c.args.extents.now c.requires.extents)
+member_offset-requires-clause-small c = right_small c.args.types.now c.args.names.now c.args.extents.now (extents_right c.args.types.now c.args.names.now c.args.extents.now c.requires.extents).each
 
 pub returns-in_err-bytes-in-Struct : goal.returns-in_err-bytes-in-Struct
 returns-in_err-bytes-in-Struct c = λ defs agree h.

@@ -31,9 +31,9 @@ returns-in_err-left-in-Named-clause-is c = λ defs agree.
     let h = c.in_ok-ty.ensures.lookup.3 in
     let found = there c.args.types.now c.loop-name.place.0 c.in_ok-ty.ty.now (Named c.in-Named.name) h.0 h.1 c.in-Named.is in
     rw c.from_residual-in_err-left-in-Named.ensures
-        (c.loop-name.invariant defs agree
-        ∙ ap (λ (d : ℕ). unnamed d defs (nodes_in c.args.types.now c.args.names.now c.loop-name.place)) none
-        ∙ unnamed_stops c.args.types.now c.args.names.now defs c.requires agree c.loop-name.place c.in-Named.name found)
+    (c.loop-name.invariant defs agree
+    ∙ ap (λ (d : ℕ). unnamed d defs (nodes_in c.args.types.now c.args.names.now c.loop-name.place)) none
+    ∙ unnamed_stops c.args.types.now c.args.names.now defs c.requires agree c.loop-name.place c.in-Named.name found)
 
 -- one name fewer may be followed
 one_fewer : (d e : ℕ) → (1 ≤ d) × (e ≡ d - 1) → d ≡ suc e
@@ -44,9 +44,9 @@ returns-in_err-place-in-Named-clause-is c = λ defs agree.
     let h = c.in_ok-ty.ensures.lookup.3 in
     let found = there c.args.types.now c.loop-name.place.0 c.in_ok-ty.ty.now (Named c.in-Named.name) h.0 h.1 c.in-Named.is in
     rw c.from_residual-in_err-place-in-Named.ensures
-        (c.loop-name.invariant defs agree
-        ∙ ap (λ (d : ℕ). unnamed d defs (nodes_in c.args.types.now c.args.names.now c.loop-name.place)) (one_fewer _ _ c.in_ok-left-in-Named.ensures)
-        ∙ unnamed_undefined c.args.types.now c.args.names.now defs c.requires agree c.in_ok-left-in-Named.left c.loop-name.place c.in-Named.name found c.in_err-place-in-Named.ensures)
+    (c.loop-name.invariant defs agree
+    ∙ ap (λ (d : ℕ). unnamed d defs (nodes_in c.args.types.now c.args.names.now c.loop-name.place)) (one_fewer _ _ c.in_ok-left-in-Named.ensures)
+    ∙ unnamed_undefined c.args.types.now c.args.names.now defs c.requires agree c.in_ok-left-in-Named.left c.loop-name.place c.in-Named.name found c.in_err-place-in-Named.ensures)
 
 pub loop-name-preserved : goal.loop-name-preserved
 loop-name-preserved c = λ defs agree.
