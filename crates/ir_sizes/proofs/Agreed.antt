@@ -22,8 +22,8 @@ use Rattle.ir_types.specs.Sizes.{Layout, Subject, a_type, at_place, members, IsL
 use Rattle.ir_types.specs.TypeNodes.{TypeNode}
 use Rattle.ir_types.specs.Offsets.{Definitions, nodes_of_name, Laid, layouts, layout_by, layout_within, layout_of_name, layout_of}
 use Rattle.ir_types.proofs.NameAt.{name_got}
-use Rattle.ir_sizes.specs.Definitions.{names_in, nodes_in, nodes_by, type_in, defined_nodes, AreDefinitions}
-use Rattle.ir_sizes.proofs.Cells.{laid_by, times, struct_by, called_layout, array_layout, struct_layout_by}
+use Rattle.ir_sizes.specs.Definitions.{names_in, nodes_in, type_in, defined_nodes, AreDefinitions}
+use Rattle.ir_sizes.proofs.Cells.{laid_by, laid_split, times, struct_by, called_layout, array_layout, struct_layout_by}
 use Rattle.ir_sizes.proofs.Within.{name_layout}
 use Rattle.ir_sizes.proofs.PlaceNodes.{type_at, place_nodes, no_nodes, place_one, places_one}
 
@@ -35,10 +35,10 @@ pub only_is : (o : Option Layout) (l : Layout) → only o ≡ Some (l ∷ []) �
 only_is None l e = absurd cc
 only_is (Some k) l e = let same : ◌≡◌ {A = List Layout} (k ∷ []) (l ∷ []) = cc in cc
 
-some_is : {x y : Layout} → ◌≡◌ {A = Option Layout} (Some x) (Some y) → x ≡ y
+pub some_is : {x y : Layout} → ◌≡◌ {A = Option Layout} (Some x) (Some y) → x ≡ y
 some_is e = cc
 
-none_some : (x : Layout) → ◌≡◌ {A = Option Layout} None (Some x) → ⊥
+pub none_some : (x : Layout) → ◌≡◌ {A = Option Layout} None (Some x) → ⊥
 none_some x e = cc
 
 -- the layouts of laid types
@@ -57,7 +57,7 @@ later_type names i n (Named k) le h = h
 
 module _ (types : List MemTy) (names : List TypeName) (defs : Definitions) (are : AreTypes (names_in names) 0 types) (agree : AreDefinitions types names defs) where
   -- the name at a place
-  name_there : (k : ℕ) (n : TypeName) → slice_get names k ≡ Some n → name_at (names_in names) k ≡ n.name
+  pub name_there : (k : ℕ) (n : TypeName) → slice_get names k ≡ Some n → name_at (names_in names) k ≡ n.name
   name_there k n e = name_got (names_in names) k n.name (slice_get-map (λ (m : TypeName). m.name) names k ∙ ap (option_map (λ (m : TypeName). m.name)) e)
 
   -- the type at a place, before others
@@ -120,11 +120,8 @@ module _ (types : List MemTy) (names : List TypeName) (defs : Definitions) (are 
     members_back : (i : ℕ) (ids : List TypeId) (xs : List Laid) → IsKnown i → AllByRecursion (IsBefore i) ids → laid_by (layout_within depth defs) (map (nodes_in types names) ids) ≡ Some xs → IsLaid types names (members ids) (layouts xs)
     members_back i [] xs before h e = let nothing : xs ≡ [] = cc in rw nothing none_laid
     members_back i (id ∷ ids) xs before h e =
-        let others = laid_by (layout_within depth defs) (map (nodes_in types names) ids) in
-        let first = bind_some (by_depth (nodes_in types names id)) (with_rest id others) xs e in
-        let rest = bind_some others (λ ys. Some (record { nodes = nodes_in types names id; layout = first.0 } ∷ ys)) xs first.2 in
-        let is : ◌≡◌ {A = List Laid} xs (record { nodes = nodes_in types names id; layout = first.0 } ∷ rest.0) = cc in
-        rw is (more_laid id ids first.0 (layouts rest.0) (before id first.0 h.0 first.1) (members_back i ids rest.0 before h.1 rest.1))
+        let s = laid_split (layout_within depth defs) (nodes_in types names id) (map (nodes_in types names) ids) xs e in
+        rw s.is (more_laid id ids s.layout (layouts s.rest) (before id s.layout h.0 s.first) (members_back i ids s.rest before h.1 s.others))
 
     type_back : (i : ℕ) (t : MemTy) (l : Layout) → i ≤ length types → IsKnown i → IsTypeAt (names_in names) i t → by_depth (type_in types names t) ≡ Some l → IsLaid types names (a_type t) (l ∷ [])
     type_back i (One t) l le before h e =
@@ -183,6 +180,9 @@ module _ (types : List MemTy) (names : List TypeName) (defs : Definitions) (are 
   -- the same of members
   pub members_layouts : (ids : List TypeId) (ls : List Layout) → IsLaid types names (members ids) ls → layouts_by (layout_of_name defs) (map (nodes_in types names) ids) ≡ Some ls
   members_layouts ids ls h = laid_said h tt
+
+  pub layouts_members : (ids : List TypeId) (xs : List Laid) → AllByRecursion (IsBefore (length types)) ids → laid_by (layout_of_name defs) (map (nodes_in types names) ids) ≡ Some xs → IsLaid types names (members ids) (layouts xs)
+  layouts_members ids xs h e = members_back (length defs) (name_back (length defs)) (length types) ids xs (λ id k _ f. layout_place id k f) h e
 
   -- and of a type whose parts are at places
   pub type_layout : (t : MemTy) (l : Layout) → IsTypeAt (names_in names) (length types) t → IsLaid types names (a_type t) (l ∷ []) → layout_of defs (type_in types names t) ≡ Some l

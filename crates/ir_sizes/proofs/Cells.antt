@@ -7,9 +7,9 @@ use Rattle.forms.specs.Nested.{concat}
 use Rattle.forms.proofs.Parts.{bind_some}
 use Rattle.ir_types.specs.declared.name.Name.{Name}
 use Rattle.ir_types.specs.declared.inst.Ty.{Ty}
-use Rattle.ir_types.specs.Sizes.{Layout, value_size, struct_layout}
+use Rattle.ir_types.specs.Sizes.{Layout, struct_layout}
 use Rattle.ir_types.specs.TypeNodes.{TypeNode, scalar, called, array, opening, closing}
-use Rattle.ir_types.specs.Offsets.{Laid, Cell, whole, end, up_to_end, layouts, array_of, struct_of, cell_before, cells_of, one_type, layout_by, member_at}
+use Rattle.ir_types.specs.Offsets.{Laid, Cell, whole, end, up_to_end, layouts, struct_of, cell_before, cells_of, one_type, layout_by, member_at}
 use Rattle.ir_sizes.specs.Definitions.{struct_nodes}
 
 -- the cell of a type before others
@@ -125,14 +125,26 @@ members_cells sizes (nodes ∷ all) more h =
     ∙ ap (λ (o : Option (List Cell)). o >>= put_before sizes nodes) (members_cells sizes all more h.1)
     ∙ member_put nodes (cells_of sizes more) (layout_by sizes nodes) (laid_by sizes all)
 
+-- types that are laid, the first and the others
+pub record AreSplit (sizes : Name → Option Layout) (nodes : List TypeNode) (all : List (List TypeNode)) (xs : List Laid) : Type 0 where
+  pub layout : Layout
+  pub rest : List Laid
+  pub first : layout_by sizes nodes ≡ Some layout
+  pub others : laid_by sizes all ≡ Some rest
+  pub is : xs ≡ record { nodes = nodes; layout = layout } ∷ rest
+
+pub laid_split : (sizes : Name → Option Layout) (nodes : List TypeNode) (all : List (List TypeNode)) (xs : List Laid) → laid_by sizes (nodes ∷ all) ≡ Some xs → AreSplit sizes nodes all xs
+laid_split sizes nodes all xs e =
+    let first = bind_some (layout_by sizes nodes) (λ l. laid_by sizes all >>= λ ys. Some (record { nodes = nodes; layout = l } ∷ ys)) xs e in
+    let others = bind_some (laid_by sizes all) (λ ys. Some (record { nodes = nodes; layout = first.0 } ∷ ys)) xs first.2 in
+    record { layout = first.0; rest = others.0; first = first.1; others = others.1; is = cc }
+
 pub laid_nodes : (sizes : Name → Option Layout) (all : List (List TypeNode)) (xs : List Laid) → laid_by sizes all ≡ Some xs → map (λ (x : Laid). x.nodes) xs ≡ all
 laid_nodes sizes [] xs e = let nothing : xs ≡ [] = cc in rw nothing
 laid_nodes sizes (nodes ∷ all) xs e =
-    let first = bind_some (layout_by sizes nodes) (λ l. laid_by sizes all >>= λ ys. Some (record { nodes = nodes; layout = l } ∷ ys)) xs e in
-    let others = bind_some (laid_by sizes all) (λ ys. Some (record { nodes = nodes; layout = first.0 } ∷ ys)) xs first.2 in
-    let is : ◌≡◌ {A = List Laid} xs (record { nodes = nodes; layout = first.0 } ∷ others.0) = cc in
-    let rest = laid_nodes sizes all others.0 others.1 in
-    rw is (ap (λ (l : List (List TypeNode)). nodes ∷ l) rest)
+    let s = laid_split sizes nodes all xs e in
+    let rest = laid_nodes sizes all s.rest s.others in
+    rw s.is (ap (λ (l : List (List TypeNode)). nodes ∷ l) rest)
 
 -- the struct of these members
 abbrev pub struct_before : Bool → List (List TypeNode) → List Cell → List Laid → Option (List Cell)

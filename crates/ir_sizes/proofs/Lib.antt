@@ -7,3 +7,9 @@ pub mod Cells
 pub mod Within
 pub mod PlaceNodes
 pub mod Agreed
+pub mod Behind
+pub mod Stepped
+pub mod Paths
+pub mod Pushing
+pub mod Defining
+pub mod Staying

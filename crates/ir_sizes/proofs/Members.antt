@@ -1,5 +1,5 @@
 -- The members of a struct that were laid so far, and one more.
-use Rattle.std.proofs.Common.{◌≡◌, ℕ, ◌+◌, ◌<◌, ◌≤◌, length, take, get_or, subst, max, min, Bool, true, false, List, [], ◌∷◌, ◌++◌, map, if◌then◌else◌, refl, sym, ap, ◌∙◌, arith}
+use Rattle.std.proofs.Common.{◌≡◌, ℕ, ◌+◌, ◌<◌, ◌≤◌, length, take, get_or, subst, max, min, Bool, true, false, List, [], ◌∷◌, ◌++◌, refl, sym, ap, ◌∙◌, arith}
 use Rattle.std.specs.Prelude.{sum_by}
 use Rattle.std.proofs.lemmas.List.{take_more}
 use Rattle.std.proofs.lemmas.List.Sums.{sum_by-cons}
@@ -31,11 +31,11 @@ put_push : (packed : Bool) (ls : List Layout) (l : Layout) → put packed (ls ++
 put_push packed [] l = refl
 put_push packed (k ∷ ls) l = ap (λ (r : List Layout). record { size = k.size; align = put_at packed k.align } ∷ r) (put_push packed ls l)
 
-put_natural : (ls : List Layout) → put false ls ≡ ls
+pub put_natural : (ls : List Layout) → put false ls ≡ ls
 put_natural [] = refl
 put_natural (l ∷ ls) = ap (λ (r : List Layout). l ∷ r) (put_natural ls)
 
-put_packed : (n : ℕ) (ls : List Layout) → end_behind n (put true ls) ≡ n + sum_by (λ (l : Layout). l.size) ls
+pub put_packed : (n : ℕ) (ls : List Layout) → end_behind n (put true ls) ≡ n + sum_by (λ (l : Layout). l.size) ls
 put_packed n [] = omega arith
 put_packed n (l ∷ ls) =
     let sizes = sum_by (λ (k : Layout). k.size) ls in
@@ -47,7 +47,7 @@ greatest_packed [] = refl
 greatest_packed (l ∷ ls) = let h = greatest_packed ls in omega arith
 
 -- a packed struct is one whose members are put anywhere
-put_struct : (packed : Bool) (ls : List Layout) → struct_layout packed ls ≡ struct_layout false (put packed ls)
+pub put_struct : (packed : Bool) (ls : List Layout) → struct_layout packed ls ≡ struct_layout false (put packed ls)
 put_struct true ls =
     let sizes = sum_by (λ (k : Layout). k.size) ls in
     let e : sizes ≡ aligned 1 (0 + sizes) = omega arith in

@@ -2,8 +2,7 @@
 use Rattle.std.proofs.Common.{◌≡◌, ℕ, zero, suc, ◌+◌, ◌<◌, ◌≤◌, List, [], ◌∷◌, ◌++◌, map, length, Some, refl, sym, ap, ◌∙◌, subst, arith, length-append}
 use Rattle.std.specs.Prelude.{slice_get}
 use Rattle.std.specs.List.{AllByRecursion}
-use Rattle.std.proofs.lemmas.Option.{slice_get-get_or, slice_get_within}
-use Rattle.forms.specs.Nested.{concat}
+use Rattle.std.proofs.lemmas.Option.{slice_get-get_or}
 use Rattle.ir_types.specs.declared.name.Name.{Name}
 use Rattle.ir_types.specs.declared.inst.Ty.TheVariants.{Ptr}
 use Rattle.ir_types.specs.declared.memory_type.TypeId.{TypeId}
@@ -11,7 +10,7 @@ use Rattle.ir_types.specs.declared.memory_type.MemTy.{MemTy}
 use Rattle.ir_types.specs.declared.memory_type.MemTy.TheVariants.{One, Array, Struct, Named}
 use Rattle.ir_types.specs.Names.{name_at}
 use Rattle.ir_types.specs.Types.{IsBefore, IsTypeAt, AreTypes}
-use Rattle.ir_types.specs.TypeNodes.{TypeNode, scalar, called, array, closing, nodes_at, nodes_from, all_nodes, type_nodes}
+use Rattle.ir_types.specs.TypeNodes.{TypeNode, array, nodes_at, nodes_from, all_nodes, type_nodes}
 use Rattle.ir_sizes.specs.Definitions.{struct_nodes, nodes_by}
 use Rattle.ir_sizes.proofs.Cells.{IsOne, scalar_one, called_one, array_one, struct_one}
 

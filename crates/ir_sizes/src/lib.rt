@@ -3,6 +3,7 @@
 //! Sizes are computed up to 2^61, from which on they are not told apart. No more memory than that can be asked for.
 #![tactic(auto)]
 
+mod added;
 mod extents;
 mod offsets;
 mod order;
@@ -13,6 +14,7 @@ mod steps;
 #[cfg(test)]
 mod tests;
 
+pub use added::extents_behind;
 pub use extents::extents_of;
 pub use offsets::{Index, offset};
 pub use size::size_of;
