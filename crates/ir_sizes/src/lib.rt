@@ -4,6 +4,7 @@
 #![tactic(auto)]
 
 mod extents;
+mod offsets;
 mod order;
 mod place;
 mod single;
@@ -12,4 +13,5 @@ mod size;
 mod tests;
 
 pub use extents::extents_of;
+pub use offsets::Index;
 pub use size::size_of;
