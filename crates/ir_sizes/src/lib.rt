@@ -9,10 +9,9 @@ mod order;
 mod place;
 mod single;
 mod size;
-mod steps;
 #[cfg(test)]
 mod tests;
 
 pub use extents::extents_of;
-pub use offsets::{Index, offset};
+pub use offsets::Index;
 pub use size::size_of;
