@@ -1,6 +1,6 @@
 // What a module has for its functions, while these are read.
 
-ghost use Rattle.std.specs.Prelude.{◌≡◌, ℕ, List, length, IfOk};
+ghost use Rattle.std.specs.Prelude.{◌≡◌, ℕ, List, length, map, All, IfOk};
 ghost use Rattle.std.specs.List.{AllByRecursion};
 ghost use Rattle.forms.specs.Gives.{Gives, left};
 ghost use Rattle.forms.specs.Reading.{read};
@@ -8,6 +8,7 @@ ghost use Rattle.ir_types.specs.Names.{name_at};
 ghost use Rattle.ir_types.specs.Types.{AreTypes};
 ghost use Rattle.ir_types.specs.Grammar.{inst_memory};
 ghost use Rattle.ir_types.specs.Offsets.{offset_of};
+ghost use Rattle.ir_sizes.specs.Stepping.{index_pair, IsIndex};
 ghost use Rattle.type_reader.specs.TypeTable.{names_of};
 ghost use Rattle.type_reader.specs.Tables.{TableLists, nodes_there, definitions_of, Grows, IsDefinedBefore, AreEntriesApart, AreTables};
 
@@ -15,7 +16,7 @@ use crate::memory::memory_type;
 use crate::symbol_names::SymbolNames;
 use crate::type_names::TypeNames;
 use forms::{Cursor, SyntaxFault};
-use ir_sizes::extents_of;
+use ir_sizes::{Index, extents_of};
 use ir_types::{Extent, MemTy, Name, TypeId, TypeName};
 use lists::Items;
 use std::alloc::{AllocError, Global};
@@ -113,9 +114,11 @@ impl Tables {
         memory_type(alloc, tokens, &mut self.types, &mut self.names)
     }
 
-    /// The bytes that these indexes, each with its width, lead on from a pointer to the type at a place, modulo 2^64.
-    pub fn offset(&self, id: TypeId, indexes: &[(u32, u64)]) -> Option<u64>
-        ensures { result ≡ offset_of (definitions_of self.now) (nodes_there self.now id) indexes.now }
+    /// How many bytes these indexes lead on, modulo 2^64, from a pointer that is stepped through as the type at a place; none where they step
+    /// over a type without a size, or of 2^61 bytes or more, or into what has no parts.
+    pub fn offset(&self, id: TypeId, indexes: &[Index]) -> Option<u64>
+        requires { All IsIndex indexes.now }
+        ensures { result ≡ offset_of (definitions_of self.now) (nodes_there self.now id) (map index_pair indexes.now) }
     {
         None
     }
