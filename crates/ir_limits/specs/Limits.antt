@@ -19,6 +19,11 @@ abbrev pub or_else : Option ℕ → Option ℕ → Option ℕ
 or_else None other = other
 or_else (Some n) other = Some n
 
+-- the first that a function finds in a list
+abbrev pub first_of : {A : Type 0} → (A → Option ℕ) → List A → Option ℕ
+first_of f [] = None
+first_of f (x ∷ xs) = or_else (f x) (first_of f xs)
+
 -- the bytes of the first name that has too many
 abbrev pub first_long : List Name → Option ℕ
 first_long [] = None
