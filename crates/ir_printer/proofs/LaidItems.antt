@@ -18,8 +18,9 @@ use Rattle.type_printer.specs.Pieces.{token, word, blank, line_feed, right_paren
 use Rattle.type_printer.proofs.Names.{global_kind}
 use Rattle.type_printer.proofs.Laid.{IsLaid, IsBehind, loose, nothing_behind, blank_laid, feed_laid, mark_laid, token_laid, laid-append, behind-append, separated_laid, all_laid}
 use Rattle.type_printer.proofs.LaidOut.{comma_laid, equal_laid, bracket_kinds, commas_part, feeds_part, local_laid, word_laid, type_laid, type_returned}
+use Rattle.type_printer.proofs.Writes.{each_is_laid}
 use Rattle.ir_printer.specs.Print.{dots, kept_then_blank, blank_then_kept, whole_line, block_pieces, param_pieces, dots_pieces, function_word, head_pieces, body_pieces, function_pieces, definition_pieces, type_at, variable_word, variable_pieces}
-use Rattle.ir_printer.proofs.LaidOut.{block_laid}
+use Rattle.ir_printer.proofs.Blocks.{block_writes}
 
 -- behind these pieces any that are laid may stand
 pub record EndsLine (ps : List Piece) : Type 0 where
@@ -91,7 +92,7 @@ head_laid f h =
 body_laid : (bs : List BlockTree) (qs : List Piece) → AllByRecursion IsBlock bs → IsLaid qs → IsBehind (body_pieces bs ++ qs)
 body_laid [] qs h g = feed_laid g
 body_laid (b ∷ bs) qs h g =
-    let blocks = separated_laid _ (map block_pieces (b ∷ bs)) feeds_part (all_laid IsBlock block_pieces block_laid (b ∷ bs) h) in
+    let blocks = separated_laid _ (map block_pieces (b ∷ bs)) feeds_part (each_is_laid block_writes (b ∷ bs) h) in
     let closing : IsBehind (right_brace ∷ line_feed ∷ qs) = mark_laid kinds.RightBrace (codes "}") refl bracket_kinds.5 (loose (feed_laid g)) in
     blank_laid (loose (mark_laid kinds.LeftBrace (codes "{") refl bracket_kinds.4 (loose (feed_laid (rw (append_assoc (separated (line_feed ∷ []) (map block_pieces (b ∷ bs)))) (laid-append _ (right_brace ∷ line_feed ∷ qs) blocks closing))))))
 

@@ -4,10 +4,11 @@ pub mod KeptPrinted
 pub mod Lines
 pub mod Grouped
 pub mod Numbering
-pub mod Spelled
+pub mod Values
+pub mod Instructions
+pub mod Blocks
 pub mod SpelledFunctions
 pub mod SpelledItems
-pub mod LaidOut
 pub mod LaidItems
 pub mod Printing
 pub mod Printed

@@ -19,9 +19,10 @@ use Rattle.type_printer.specs.Pieces as pieces_of
 use Rattle.type_printer.specs.Pieces.{token, global_token, local_token, type_pieces, with_commas}
 use Rattle.type_printer.proofs.Says.{Says, pair_says, left_says, right_says, mapped_says, mark_says, by_word_says, there_says, marked_says, between_says, EachSays, some_says, commas_says, list_says}
 use Rattle.type_printer.proofs.Spelled.{local_says, global_says, type_says, return_type_says}
+use Rattle.type_printer.proofs.Writes.{each_says}
 use Rattle.ir_printer.specs.Print.{kept_then_blank, blank_then_kept, block_pieces, param_pieces, dots_pieces, params_pieces, function_word, head_pieces, body_pieces, function_pieces}
 use Rattle.ir_printer.proofs.Numbering.{written_param, written_block, written_function}
-use Rattle.ir_printer.proofs.Spelled.{block_says}
+use Rattle.ir_printer.proofs.Blocks.{block_writes}
 
 -- ---- what is kept
 
@@ -112,7 +113,7 @@ defined_says f b bs e h =
     mapped_says (f.before, (f.ret, (f.name, (map written_param f.params, (f.after, map written_block (b ∷ bs)))))) _ (rw (e, fixed) refl)
     (pair_says (map token_of f.before) _ (kept_says before) (pair_says (tokens_of (type_pieces f.ret)) _ (return_type_says f.ret h.ret) (pair_says (global_token f.name ∷ []) _ (global_says f.name h.name)
     (pair_says (in_parens (tokens_of (params_pieces f))) _ (between_says (tokens_of (params_pieces f)) kinds.LeftParen kinds.RightParen _ _ params)
-    (pair_says (map token_of f.after) _ (kept_says after) (between_says (blocks_tokens (b ∷ bs)) kinds.LeftBrace kinds.RightBrace _ _ (some_says (10 ∷ []) block_says (b ∷ bs) (omega arith) blocks)))))))
+    (pair_says (map token_of f.after) _ (kept_says after) (between_says (blocks_tokens (b ∷ bs)) kinds.LeftBrace kinds.RightBrace _ _ (some_says (10 ∷ []) (each_says block_writes) (b ∷ bs) (omega arith) blocks)))))))
 
 abbrev up_to_params : FunctionTree → List Lexeme → List Lexeme
 up_to_params f ts = map token_of f.before ++ (tokens_of (type_pieces f.ret) ++ (global_token f.name ∷ (in_parens (tokens_of (params_pieces f)) ++ ts)))

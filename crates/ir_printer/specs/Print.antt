@@ -43,13 +43,9 @@ number_token t v =
     if width_of t == 1 then (if v == 1 then token kinds.Word (codes "true") else token kinds.Word (codes "false")) else token kinds.Number (signed_text (width_of t) v)
 
 -- an operand: %name, or a number at the type
-abbrev pub operand_token : Ty → OperandTree → Lexeme
-operand_token t (local n) = local_token n
-operand_token t (number v) = number_token t v
-
--- the same as pieces
 abbrev pub operand_pieces : Ty → OperandTree → List Piece
-operand_pieces t a = lexeme (operand_token t a) ∷ []
+operand_pieces t (local n) = lexeme (local_token n) ∷ []
+operand_pieces t (number v) = lexeme (number_token t v) ∷ []
 
 -- ---- instructions
 
@@ -82,9 +78,13 @@ target_pieces l = word (codes "label") ∷ blank ∷ lexeme (local_token l) ∷ 
 abbrev pub targets_pieces : List Name → List Piece
 targets_pieces ls = with_commas (map target_pieces ls)
 
+-- these in brackets
+abbrev pub in_brackets : List Piece → List Piece
+in_brackets ps = left_bracket ∷ blank ∷ (ps ++ (blank ∷ right_bracket ∷ []))
+
 -- [ V, %name ]
 abbrev pub entry_pieces : Ty → OperandTree → Name → List Piece
-entry_pieces t a l = left_bracket ∷ blank ∷ lexeme (operand_token t a) ∷ comma ∷ blank ∷ lexeme (local_token l) ∷ blank ∷ right_bracket ∷ []
+entry_pieces t a l = in_brackets (operand_pieces t a ++ (comma ∷ blank ∷ lexeme (local_token l) ∷ []))
 
 -- an entry for each operand and its label
 abbrev pub entries_of : Ty → List OperandTree → List Name → List (List Piece)

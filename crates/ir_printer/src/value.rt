@@ -8,7 +8,7 @@ ghost use Rattle.ir_types.specs.Denotes.{name_in, operand_in};
 ghost use Rattle.ir_shape.specs.Shape.{IsName, IsType, IsOperand};
 ghost use Rattle.type_printer.specs.Texts.{signed_text};
 ghost use Rattle.type_printer.specs.Pieces.{with_commas};
-ghost use Rattle.ir_printer.specs.Print.{number_token, operand_token, operand_pieces, typed_pieces};
+ghost use Rattle.ir_printer.specs.Print.{number_token, operand_pieces, typed_pieces};
 
 use ir_types::{Names, Operand, Ty};
 use std::alloc::AllocError;
@@ -57,7 +57,7 @@ pub(crate) fn put_operand(
     requires typed { IsType ty }
     requires known { IsOperand ty (operand_in names.now operand) }
     ensures { OnOk result (out.new.items ≡ out.old.items
-        ++ (operand_token ty (operand_in names.now operand)).text) }
+        ++ text_of (operand_pieces ty (operand_in names.now operand))) }
 {
     match operand {
         Operand::Local(name) => put_local(out, names, name),

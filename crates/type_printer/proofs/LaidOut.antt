@@ -18,6 +18,10 @@ use Rattle.type_printer.proofs.Laid.{IsLaid, IsBehind, loose, nothing_behind, bl
 
 -- ---- marks and words
 
+pub comma_kind : kind_of (codes ",") ≡ Some kinds.Comma
+unfolding table
+comma_kind = refl
+
 pub comma_laid : {ps : List Piece} → IsLaid ps → IsBehind (comma ∷ ps)
 unfolding table
 comma_laid h = mark_laid kinds.Comma (codes ",") refl refl h
