@@ -1,14 +1,15 @@
 -- One token ahead decides what the grammar reads; where a comma or a name with `=` leads, what stands behind it.
-use Rattle.std.proofs.Common.{◌≡◌, ℕ, zero, suc, true, false, List, [], ◌∷◌, codes, refl}
+use Rattle.std.proofs.Common.{◌≡◌, ℕ, zero, suc, true, false, List, [], ◌∷◌, ◌++◌, codes, refl, sym, subst}
 use Rattle.forms.specs.declared.TokenKind.TheVariants.{Word}
-use Rattle.forms.specs.Form.{Form, many}
-use Rattle.forms.specs.Reading.{this, all_apart, decides, nullable, first, after}
+use Rattle.forms.specs.Form.{Form, by_word, either, mapped, many}
+use Rattle.forms.specs.Reading.{Terminal, this, all_apart, decides, nullable, first, after}
 use Rattle.forms.specs.Nested.{PartsDecide, memory}
 use Rattle.forms.specs.Kept.{kept_piece, kept_run, metadata_node, attachment, attachments}
 use Rattle.forms.specs.LeftOut.{left_out_words}
 use Rattle.forms.proofs.NestedDecides.{memory_decides, memory_takes, memory_after}
 use Rattle.ir_types.specs.TypeNodes.{TypeNode}
-use Rattle.ir_types.specs.Grammar.{local_name, global_name, label, width, vector_type, value_type, memory_leaf, array_begin, type_parts, memory_type, return_type, value, binary, predicates, compared, compare, entry_of_phi, phi, target, branch, ret, operation_words, operation, terminator_words, terminator, line, block, type_words, value_words, item_words, instruction_words, excluded_words, kept, parameter, dotted_parameters, declared_function, defined_function, target_line, attribute_group, comdat, metadata, type_definition, initialiser_stops, extra_behind, behind_type, variable_word, variable_definition, item, module_form}
+use Rattle.ir_types.specs.Tree.{WrittenFunction, Item, comdat_line, metadata_line}
+use Rattle.ir_types.specs.Grammar.{local_name, global_name, label, width, vector_type, value_type, memory_leaf, array_begin, type_parts, memory_type, return_type, lane, constant_word, typed_lane, value, typed_value, typed_pair, pointer_value, index_value, target, alignment, overflowing, possibly_exact, plain_binary, or_operation, predicates, compared, compare, select, freeze, trunc, zext, sext, ptrtoint, entry_of_phi, phi, load, store, extractelement, insertelement, shufflevector, branch, case_of_switch, switch, ret, inst_attachments, operation_words, operation, terminator_words, terminator, line, block, type_words, value_words, item_words, instruction_words, excluded_words, kept, parameter, dotted_parameters, declared_function, defined_function, target_line, attribute_group, comdat, metadata, type_definition, initialiser_stops, extra_behind, behind_type, variable_word, variable_definition, item_behind, item, module_form}
 
 -- in memory types too, at every depth
 pub parts_decide : PartsDecide type_parts
@@ -31,10 +32,36 @@ unfolding local_name width vector_type value_type memory_leaf array_begin type_p
 not_opaque zero = refl
 not_opaque (suc d) = refl
 
+-- items that begin with a word
+abbrev with_word : Form (Item WrittenFunction)
+with_word = by_word item_words item_behind
+
+-- the others, where memory types are of the form m
+abbrev without_word : Form (List TypeNode) → Form (Item WrittenFunction)
+without_word m = either (mapped comdat_line comdat) (either (mapped metadata_line metadata) (either (type_definition m) (variable_definition m)))
+
+many_decide : {A : Type 0} (f g : Form A) → decides f ≡ true → decides g ≡ true → nullable f ≡ false → nullable g ≡ false → all_apart (first f) (first g) ≡ true → all_apart (after f ++ after g) (first f ++ first g) ≡ true → decides (many (either f g)) ≡ true
+many_decide f g df dg nf ng fg afg = rw (df, dg, nf, ng, fg, afg) refl
+
+words_decide : decides with_word ≡ true
+unfolding local_name global_name label width vector_type value_type return_type lane constant_word typed_lane value typed_value typed_pair pointer_value index_value target alignment overflowing possibly_exact plain_binary or_operation predicates compared compare select freeze trunc zext sext ptrtoint entry_of_phi phi load store extractelement insertelement shufflevector branch case_of_switch switch ret inst_attachments operation_words operation terminator_words terminator block kept_piece kept_run metadata_node attachment attachments left_out_words type_words value_words item_words instruction_words excluded_words kept parameter dotted_parameters declared_function defined_function target_line attribute_group comdat metadata memory_leaf type_definition initialiser_stops extra_behind behind_type variable_word variable_definition item
+words_decide = refl
+
+others_decide : (m : Form (List TypeNode)) → decides m ≡ true → nullable m ≡ false → after m ≡ [] → all_apart (first m) (this Word (codes "opaque") ∷ []) ≡ true → decides (without_word m) ≡ true
+unfolding local_name global_name label width vector_type value_type return_type lane constant_word typed_lane value typed_value typed_pair pointer_value index_value target alignment overflowing possibly_exact plain_binary or_operation predicates compared compare select freeze trunc zext sext ptrtoint entry_of_phi phi load store extractelement insertelement shufflevector branch case_of_switch switch ret inst_attachments operation_words operation terminator_words terminator block kept_piece kept_run metadata_node attachment attachments left_out_words type_words value_words item_words instruction_words excluded_words kept parameter dotted_parameters declared_function defined_function target_line attribute_group comdat metadata memory_leaf type_definition initialiser_stops extra_behind behind_type variable_word variable_definition item
+others_decide m d n a o = rw (d, n, a, o) refl
+
+-- the same as where memory types are leaves alone
+others_after : (m : Form (List TypeNode)) → nullable m ≡ false → after m ≡ [] → after (without_word m) ≡ after (without_word memory_leaf)
+unfolding local_name global_name label width vector_type value_type return_type lane constant_word typed_lane value typed_value typed_pair pointer_value index_value target alignment overflowing possibly_exact plain_binary or_operation predicates compared compare select freeze trunc zext sext ptrtoint entry_of_phi phi load store extractelement insertelement shufflevector branch case_of_switch switch ret inst_attachments operation_words operation terminator_words terminator block kept_piece kept_run metadata_node attachment attachments left_out_words type_words value_words item_words instruction_words excluded_words kept parameter dotted_parameters declared_function defined_function target_line attribute_group comdat metadata memory_leaf type_definition initialiser_stops extra_behind behind_type variable_word variable_definition item
+others_after m n a = rw (n, a) refl
+
 -- whatever the form of memory types is
 items_decide : (m : Form (List TypeNode)) → decides m ≡ true → nullable m ≡ false → after m ≡ [] → all_apart (first m) (this Word (codes "opaque") ∷ []) ≡ true → decides (many (item m)) ≡ true
-unfolding local_name global_name label width vector_type value_type return_type value binary predicates compared compare entry_of_phi phi target branch ret operation_words operation terminator_words terminator block kept_piece kept_run metadata_node attachment attachments left_out_words type_words value_words item_words instruction_words excluded_words kept parameter dotted_parameters declared_function defined_function target_line attribute_group comdat metadata type_definition initialiser_stops extra_behind behind_type variable_word variable_definition item
-items_decide m d n a o = rw (d, n, a, o) refl
+unfolding local_name global_name label width vector_type value_type return_type lane constant_word typed_lane value typed_value typed_pair pointer_value index_value target alignment overflowing possibly_exact plain_binary or_operation predicates compared compare select freeze trunc zext sext ptrtoint entry_of_phi phi load store extractelement insertelement shufflevector branch case_of_switch switch ret inst_attachments operation_words operation terminator_words terminator block kept_piece kept_run metadata_node attachment attachments left_out_words type_words value_words item_words instruction_words excluded_words kept parameter dotted_parameters declared_function defined_function target_line attribute_group comdat metadata memory_leaf type_definition initialiser_stops extra_behind behind_type variable_word variable_definition item
+items_decide m d n a o =
+    many_decide with_word (without_word m) words_decide (others_decide m d n a o) refl refl refl
+    (subst (λ (l : List Terminal). all_apart (after with_word ++ l) (first with_word ++ first (without_word m)) ≡ true) (sym (others_after m n a)) refl)
 
 pub module_decides : (depth : ℕ) → decides (module_form depth) ≡ true
 unfolding module_form

@@ -16,7 +16,7 @@ use Rattle.ir_types.specs.declared.inst.InstKind.TheVariants.{Compare, Phi, Jump
 use Rattle.ir_types.specs.Written.{number_of, number_at, unescaped, name_behind, name_before}
 use Rattle.ir_types.specs.TypeNodes.{TypeNode, scalar, called, array, opening, closing}
 use Rattle.ir_types.specs.Tree.{local, number, InstTree, BlockTree, FunctionTree, WrittenFunction, TypeNameTree, defined, opaque, missing, ModuleTree, Item, head_line, comdat_line, type_item, variable_item, function_item, metadata_line}
-use Rattle.ir_types.specs.Grammar.{local_name, global_name, label, width, vector_type, value_type, return_type, value, binary, predicates, compared, compare, entry_of_phi, phi, target, branch, ret, operation_words, operation, terminator_words, terminator, block, type_words, value_words, item_words, instruction_words, excluded_words, kept, memory_leaf, array_begin, type_parts, parameter, dotted_parameters, declared_function, defined_function, target_line, attribute_group, comdat, metadata, type_definition, initialiser_stops, extra_behind, behind_type, variable_word, variable_definition, item, module_form}
+use Rattle.ir_types.specs.Grammar.{local_name, global_name, label, width, vector_type, value_type, return_type, lane, constant_word, typed_lane, value, typed_value, typed_pair, pointer_value, index_value, target, alignment, overflowing, possibly_exact, plain_binary, or_operation, predicates, compared, compare, select, freeze, trunc, zext, sext, ptrtoint, entry_of_phi, phi, load, store, extractelement, insertelement, shufflevector, branch, case_of_switch, switch, ret, inst_attachments, bare_inst, named_by, operation_words, operation, terminator_words, terminator, block, type_words, value_words, item_words, instruction_words, excluded_words, kept, memory_leaf, array_begin, type_parts, parameter, dotted_parameters, declared_function, defined_function, target_line, attribute_group, comdat, metadata, type_definition, initialiser_stops, extra_behind, behind_type, variable_word, variable_definition, item, module_form}
 use Rattle.ir_types.specs.Sizes.{Layout, value_size, struct_layout}
 use Rattle.ir_types.specs.Numbered.{numbered_module}
 use Rattle.ir_types.specs.Collected.{as_function, resolved_module}
@@ -146,13 +146,13 @@ written_example = record {
   varargs = false;
   after = [];
   body =
-      record { label = None; insts = record { kind = Branch; ty = Void; args = local (Number 1) ∷ []; labels = Number 3 ∷ Number 4 ∷ []; result = None } ∷ [] } ∷
-      record { label = Some (Number 3); insts = record { kind = Jump; ty = Void; args = []; labels = Number 4 ∷ []; result = None } ∷ [] } ∷
+      record { label = None; insts = bare_inst Branch Void (local (Number 1) ∷ []) (Number 3 ∷ Number 4 ∷ []) ∷ [] } ∷
+      record { label = Some (Number 3); insts = bare_inst Jump Void [] (Number 4 ∷ []) ∷ [] } ∷
       record {
         label = Some (Number 4);
         insts =
-            record { kind = Phi; ty = Int 32; args = local (Number 0) ∷ number 7 ∷ []; labels = Number 2 ∷ Number 3 ∷ []; result = Some (Number 5) } ∷
-            record { kind = Return (Int 32); ty = Void; args = local (Number 5) ∷ []; labels = []; result = None } ∷
+            named_by (bare_inst Phi (Int 32) (local (Number 0) ∷ number 7 ∷ []) (Number 2 ∷ Number 3 ∷ [])) (Some (Number 5)) ∷
+            bare_inst (Return (Int 32)) Void (local (Number 5) ∷ []) [] ∷
             [];
       } ∷
       [];
@@ -178,8 +178,8 @@ record Readings : Type 0 where
     body = record {
       label = None;
       insts =
-          record { kind = Compare Slt (Int 32); ty = Int 1; args = number 4294967295 ∷ number 1 ∷ []; labels = []; result = Some (Text (codes "x")) } ∷
-          record { kind = Return (Int 1); ty = Void; args = number 0 ∷ []; labels = []; result = None } ∷
+          named_by (bare_inst (Compare Slt (Int 32)) (Int 1) (number 4294967295 ∷ number 1 ∷ []) []) (Some (Text (codes "x"))) ∷
+          bare_inst (Return (Int 1)) Void (number 0 ∷ []) [] ∷
           [];
     } ∷ [];
   }) ∷ [])
@@ -217,7 +217,7 @@ record Readings : Type 0 where
   no_next : names_in (codes "define i32 @f ( ) { %4294967295 = add i32 1 , 2 add i32 1 , 2 ret i32 0 }") ≡ None
 
 readings : Readings
-unfolding table local_name global_name label width vector_type value_type return_type value binary predicates compared compare entry_of_phi phi target branch ret operation_words operation terminator_words terminator block kept_piece kept_run metadata_node attachment attachments left_out_words type_words value_words item_words instruction_words excluded_words kept memory_leaf array_begin type_parts parameter dotted_parameters declared_function defined_function target_line attribute_group comdat metadata type_definition initialiser_stops extra_behind behind_type variable_word variable_definition item module_form
+unfolding table local_name global_name label width vector_type value_type return_type lane constant_word typed_lane value typed_value typed_pair pointer_value index_value target alignment overflowing possibly_exact plain_binary or_operation predicates compared compare select freeze trunc zext sext ptrtoint entry_of_phi phi load store extractelement insertelement shufflevector branch case_of_switch switch ret inst_attachments operation_words operation terminator_words terminator block kept_piece kept_run metadata_node attachment attachments left_out_words type_words value_words item_words instruction_words excluded_words kept memory_leaf array_begin type_parts parameter dotted_parameters declared_function defined_function target_line attribute_group comdat metadata type_definition initialiser_stops extra_behind behind_type variable_word variable_definition item module_form
 readings = record { whole = refl; numbers = refl; none = refl; operands = refl; no_block = refl; no_terminator = refl; open_block = refl; parameter_comma = refl; only_comma = refl; operand_comma = refl; entry_comma = refl; no_entries = refl; one_target = refl; three_lanes = refl; signed_lanes = refl; other_type = refl; fraction = refl; great_name = refl; in_order = refl; unnamed_block = refl; written_number = refl; used_number = refl; last_number = refl; no_next = refl }
 
 -- ---- items
@@ -246,7 +246,7 @@ record Items : Type 0 where
         params = [];
         varargs = false;
         after = codes "!note" ∷ codes "!0" ∷ [];
-        body = record { label = None; insts = record { kind = ReturnVoid; ty = Void; args = []; labels = []; result = None } ∷ [] } ∷ [];
+        body = record { label = None; insts = bare_inst ReturnVoid Void [] [] ∷ [] } ∷ [];
       }) ∷
       metadata_line (codes "!0" ∷ codes "=" ∷ codes "!" ∷ codes "{" ∷ codes "}" ∷ []) ∷
       [])
@@ -280,7 +280,7 @@ record Items : Type 0 where
   unclosed : reading (codes "declare void @f ( ) memory ( read") ≡ None
 
 items : Items
-unfolding table local_name global_name label width vector_type value_type return_type value binary predicates compared compare entry_of_phi phi target branch ret operation_words operation terminator_words terminator block kept_piece kept_run metadata_node attachment attachments left_out_words type_words value_words item_words instruction_words excluded_words kept memory_leaf array_begin type_parts parameter dotted_parameters declared_function defined_function target_line attribute_group comdat metadata type_definition initialiser_stops extra_behind behind_type variable_word variable_definition item module_form
+unfolding table local_name global_name label width vector_type value_type return_type lane constant_word typed_lane value typed_value typed_pair pointer_value index_value target alignment overflowing possibly_exact plain_binary or_operation predicates compared compare select freeze trunc zext sext ptrtoint entry_of_phi phi load store extractelement insertelement shufflevector branch case_of_switch switch ret inst_attachments operation_words operation terminator_words terminator block kept_piece kept_run metadata_node attachment attachments left_out_words type_words value_words item_words instruction_words excluded_words kept memory_leaf array_begin type_parts parameter dotted_parameters declared_function defined_function target_line attribute_group comdat metadata type_definition initialiser_stops extra_behind behind_type variable_word variable_definition item module_form
 items = record { several = refl; named = refl; dots_alone = refl; dots_behind = refl; dots_comma = refl; dots_defined = refl; two_sections = refl; one_section = refl; signed_kept = refl; unsigned_kept = refl; two_variables = refl; signed_alignment = refl; great_array = refl; signed_array = refl; vector_of_arrays = refl; excluded = refl; unclosed = refl }
 
 -- ---- the order of what is collected
@@ -301,7 +301,7 @@ record Orders : Type 0 where
   functions : (collected_of mixed >>= λ m. Some (map (λ f. f.name) m.functions)) ≡ Some (Text (codes "f") ∷ Text (codes "g") ∷ [])
 
 orders : Orders
-unfolding table local_name global_name label width vector_type value_type return_type value binary predicates compared compare entry_of_phi phi target branch ret operation_words operation terminator_words terminator block kept_piece kept_run metadata_node attachment attachments left_out_words type_words value_words item_words instruction_words excluded_words kept memory_leaf array_begin type_parts parameter dotted_parameters declared_function defined_function target_line attribute_group comdat metadata type_definition initialiser_stops extra_behind behind_type variable_word variable_definition item module_form
+unfolding table local_name global_name label width vector_type value_type return_type lane constant_word typed_lane value typed_value typed_pair pointer_value index_value target alignment overflowing possibly_exact plain_binary or_operation predicates compared compare select freeze trunc zext sext ptrtoint entry_of_phi phi load store extractelement insertelement shufflevector branch case_of_switch switch ret inst_attachments operation_words operation terminator_words terminator block kept_piece kept_run metadata_node attachment attachments left_out_words type_words value_words item_words instruction_words excluded_words kept memory_leaf array_begin type_parts parameter dotted_parameters declared_function defined_function target_line attribute_group comdat metadata type_definition initialiser_stops extra_behind behind_type variable_word variable_definition item module_form
 orders = record { head = refl; tail = refl; symbols = refl; functions = refl }
 
 -- ---- sizes

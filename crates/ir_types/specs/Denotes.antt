@@ -5,7 +5,7 @@ use Rattle.std.specs.List.{AllByRecursion}
 use Rattle.ir_types.specs.declared.name.Name.{Name}
 use Rattle.ir_types.specs.declared.name.ValueId.{ValueId}
 use Rattle.ir_types.specs.declared.inst.Operand.{Operand}
-use Rattle.ir_types.specs.declared.inst.Operand.TheVariants.{Local, Int}
+use Rattle.ir_types.specs.declared.inst.Operand.TheVariants.{Local, Int, Null, Poison, Lanes}
 use Rattle.ir_types.specs.declared.inst.Inst.{Inst}
 use Rattle.ir_types.specs.declared.module.Block.{Block}
 use Rattle.ir_types.specs.declared.module.Param.{Param}
@@ -22,7 +22,7 @@ use Rattle.ir_types.specs.Types.{AreTypes}
 use Rattle.ir_types.specs.TypeNodes.{TypeNode, type_nodes}
 use Rattle.ir_types.specs.Sizes.{AreExtents}
 use Rattle.ir_types.specs.Names.{name_at, IsTable}
-use Rattle.ir_types.specs.Tree.{OperandTree, local, number, InstTree, BlockTree, ParamTree, FunctionTree, NamedTree, defined, opaque, missing, TypeNameTree, SymbolKindTree, variable, function, missing_symbol, SymbolTree, ModuleTree}
+use Rattle.ir_types.specs.Tree.{OperandTree, local, number, null, poison, lanes, InstTree, BlockTree, ParamTree, FunctionTree, NamedTree, defined, opaque, missing, TypeNameTree, SymbolKindTree, variable, function, missing_symbol, SymbolTree, ModuleTree}
 
 -- the name at a place
 abbrev pub name_in : List Name → ValueId → Name
@@ -32,10 +32,13 @@ name_in ns i = name_at ns i.0
 abbrev pub operand_in : List Name → Operand → OperandTree
 operand_in ns (Local i) = local (name_in ns i)
 operand_in ns (Int n) = number n
+operand_in ns Null = null
+operand_in ns Poison = poison
+operand_in ns (Lanes xs) = lanes xs
 
 -- an instruction, with the names of its locals, its labels and its result
 abbrev pub inst_in : List Name → Inst → InstTree
-inst_in ns i = record { kind = i.kind; ty = i.ty; args = map (operand_in ns) i.args; labels = map (name_in ns) i.labels; result = option_map (name_in ns) i.result }
+inst_in ns i = record { kind = i.kind; ty = i.ty; args = map (operand_in ns) i.args; labels = map (name_in ns) i.labels; result = option_map (name_in ns) i.result; wide = i.wide; kept = i.kept }
 
 -- a block, with its label and its instructions
 abbrev pub block_in : List Name → Block → BlockTree

@@ -1,10 +1,12 @@
 -- The modules of which it is claimed by now that what is printed does what they allow: those of i1 and i32 alone.
-use Rattle.std.specs.Prelude.{◌≡◌, ◌⊎◌, List}
+use Rattle.std.specs.Prelude.{◌≡◌, ◌⊎◌, false, List}
 use Rattle.std.specs.List.{AllByRecursion}
 use Rattle.ir_types.specs.declared.inst.Ty.{Ty}
 use Rattle.ir_types.specs.declared.inst.Ty.TheVariants.{Int, Ptr, Vector, Void}
 use Rattle.ir_types.specs.declared.inst.InstKind.{InstKind}
-use Rattle.ir_types.specs.declared.inst.InstKind.TheVariants.{Binary, Compare, Phi, Jump, Branch, Return, ReturnVoid}
+use Rattle.ir_types.specs.declared.inst.InstKind.TheVariants.{Binary, Compare, Phi, Jump, Branch, Return}
+use Rattle.ir_types.specs.declared.inst.BinOp.TheVariants.{Add}
+use Rattle.ir_types.specs.Values.{has_flag}
 use Rattle.ir_types.specs.declared.inst.Inst.{Inst}
 use Rattle.ir_types.specs.declared.module.Block.{Block}
 use Rattle.ir_types.specs.declared.module.Param.{Param}
@@ -22,15 +24,15 @@ IsFirstType Ptr = ⊥
 IsFirstType (Vector n w) = ⊥
 IsFirstType Void = ⊥
 
--- `add`, `icmp`, `phi`, `br` or `ret`, of i1 or i32
+-- `add` without a flag, `icmp`, `phi`, `br` or `ret`, of i1 or i32
 abbrev pub IsFirstInst : InstKind → Ty → Type 0
-IsFirstInst (Binary op) ty = IsFirstType ty
+IsFirstInst (Binary op flags) ty = (op ≡ Add) × (has_flag flags ≡ false) × IsFirstType ty
 IsFirstInst (Compare p of) ty = IsFirstType of
 IsFirstInst Phi ty = IsFirstType ty
 IsFirstInst Jump ty = Unit {0}
 IsFirstInst Branch ty = Unit {0}
 IsFirstInst (Return of) ty = IsFirstType of
-IsFirstInst ReturnVoid ty = ⊥
+IsFirstInst kind ty = ⊥
 
 -- a function of such types and instructions alone
 pub record IsFirstFunction (f : Function) : Type 0 where

@@ -1,5 +1,6 @@
 -- The grammar of modules.
-use Rattle.std.specs.Prelude.{ℕ, Bool, true, false, not, ◌&&◌, nat_le, count_by, is_some, length, List, [], ◌∷◌, ◌++◌, map, codes, find, nat_lt, ◌^◌, ◌==◌, Option, Some, None, if◌then◌else◌}
+use Rattle.std.specs.Prelude.{ℕ, ◌%◌, Bool, true, false, not, ◌&&◌, nat_le, count_by, is_some, length, List, [], ◌∷◌, ◌++◌, map, replicate, codes, find, nat_lt, ◌^◌, ◌==◌, Option, Some, None, if◌then◌else◌}
+use Rattle.std.specs.List.{list_all}
 use Rattle.forms.specs.declared.TokenKind.TheVariants.{Quoted, Local, Global, Comdat, Label, Word, Number, Metadata, AttributeGroup, Dots, Bang, Equal, Comma, LeftParen, RightParen, LeftBracket, RightBracket, LeftBrace, RightBrace, Less, Greater}
 use Rattle.forms.specs.Form.{Lexeme, Form, Stops, Spells, exactly, one, ahead, up_to, pair, either, mapped, made, optional, many, by_word}
 use Rattle.forms.specs.Reading.{◌>>=◌}
@@ -9,12 +10,16 @@ use Rattle.ir_types.specs.declared.name.Name.{Name}
 use Rattle.ir_types.specs.declared.inst.Ty.{Ty}
 use Rattle.ir_types.specs.declared.inst.Ty.TheVariants.{Int, Ptr, Vector, Void}
 use Rattle.ir_types.specs.declared.inst.BinOp.{BinOp}
-use Rattle.ir_types.specs.declared.inst.BinOp.TheVariants.{Add}
+use Rattle.ir_types.specs.declared.inst.BinOp.TheVariants.{Add, Sub, Mul, Shl, UDiv, SDiv, URem, SRem, LShr, AShr, And, Or, Xor}
+use Rattle.ir_types.specs.declared.inst.Flags.{Flags}
+use Rattle.ir_types.specs.declared.inst.InstKind.{InstKind}
 use Rattle.ir_types.specs.declared.inst.Pred.{Pred}
 use Rattle.ir_types.specs.declared.inst.Pred.TheVariants.{Eq, Ne, Ugt, Uge, Ult, Ule, Sgt, Sge, Slt, Sle}
 use Rattle.ir_types.specs.declared.inst.InstKind.TheVariants as kinds
 use Rattle.ir_types.specs.declared.opcode.Operation.{Operation}
 use Rattle.ir_types.specs.declared.opcode.Operation.TheVariants as operations
+use Rattle.ir_types.specs.declared.opcode.FlagOrder.{FlagOrder}
+use Rattle.ir_types.specs.declared.opcode.FlagOrder.TheVariants.{Usual, Reversed}
 use Rattle.ir_types.specs.declared.opcode.ItemWord.{ItemWord}
 use Rattle.ir_types.specs.declared.opcode.ItemWord.TheVariants as items
 use Rattle.ir_types.specs.declared.opcode.Extra.{Extra}
@@ -26,10 +31,11 @@ pub use Rattle.ir_types.specs.Types.{lane_counts}
 use Rattle.ir_types.specs.Written.{number_of, number_at, name_behind, name_before}
 use Rattle.forms.specs.Nested.{TypeParts, memory, concat, joined}
 pub use Rattle.forms.specs.Kept.{is_unsigned}
-use Rattle.forms.specs.Kept.{kept_one, kept_token, kept_such, perhaps, in_braces, kept_run, attachment, attachments}
+use Rattle.forms.specs.Kept.{kept_one, kept_token, kept_such, perhaps, in_braces, kept_run, attachment, attachments, kept_behind_comma}
 use Rattle.forms.specs.LeftOut.{left_out_words}
+use Rattle.ir_types.specs.Sizes.{value_size}
 use Rattle.ir_types.specs.TypeNodes.{TypeNode, scalar, called, array, opening, closing}
-use Rattle.ir_types.specs.Tree.{KeptTexts, OperandTree, local, number, InstTree, WrittenParam, WrittenBlock, WrittenFunction, VariableTree, Item, head_line, comdat_line, type_item, variable_item, function_item, attribute_line, metadata_line}
+use Rattle.ir_types.specs.Tree.{KeptTexts, OperandTree, local, number, null, poison, lanes, InstTree, WrittenParam, WrittenBlock, WrittenFunction, VariableTree, Item, head_line, comdat_line, type_item, variable_item, function_item, attribute_line, metadata_line}
 
 -- ---- names, types and values
 
@@ -95,6 +101,24 @@ type_parts = record { leaf = memory_leaf; array_head = array_begin; opening = op
 abbrev pub memory_type : ℕ → Form (List TypeNode)
 memory_type depth = memory type_parts depth
 
+-- a constant lane as it is written
+pub data WrittenLane : Type 0 where
+  -- a number, by its digits and a sign or none
+  lane_digits : List ℕ → WrittenLane
+  -- `true`
+  lane_true : WrittenLane
+  -- `false`
+  lane_false : WrittenLane
+  -- `poison`
+  lane_poison : WrittenLane
+
+-- number | true | false | poison
+unfoldable pub lane : Form WrittenLane
+lane =
+    either (mapped lane_digits (one Number))
+    (either (word (codes "true") lane_true)
+    (either (word (codes "false") lane_false) (word (codes "poison") lane_poison)))
+
 -- a value as it is written
 pub data WrittenValue : Type 0 where
   -- a local by its name
@@ -105,13 +129,36 @@ pub data WrittenValue : Type 0 where
   yes : WrittenValue
   -- `false`
   no : WrittenValue
+  -- `null`
+  null_word : WrittenValue
+  -- `poison`
+  poison_word : WrittenValue
+  -- `zeroinitializer`
+  zeros : WrittenValue
+  -- one lane, with its type, for all
+  splat : Ty × WrittenLane → WrittenValue
+  -- lanes, each with its type
+  lane_list : List (Ty × WrittenLane) → WrittenValue
 
--- V := %name | number | true | false
+-- a value that is one word
+unfoldable pub constant_word : Form WrittenValue
+constant_word =
+    either (word (codes "true") yes)
+    (either (word (codes "false") no)
+    (either (word (codes "null") null_word)
+    (either (word (codes "poison") poison_word) (word (codes "zeroinitializer") zeros))))
+
+-- T V of a lane
+unfoldable pub typed_lane : Form (Ty × WrittenLane)
+typed_lane = pair value_type lane
+
+-- V := %name | number | true | false | null | poison | zeroinitializer | splat ( T V ) | < T V, .. >
 unfoldable pub value : Form WrittenValue
 value =
     either (mapped named local_name)
     (either (mapped digits (one Number))
-    (either (word (codes "true") yes) (word (codes "false") no)))
+    (either constant_word
+    (either (mapped splat (behind (codes "splat") (between LeftParen RightParen typed_lane))) (mapped lane_list (between Less Greater (commas typed_lane))))))
 
 -- the bits of a type's numbers; where there is no width, 64
 abbrev pub width_of : Ty → ℕ
@@ -120,26 +167,171 @@ width_of Ptr = 64
 width_of (Vector n w) = 64
 width_of Void = 64
 
--- a written value at a type: a number is held modulo 2^w
-abbrev pub operand_at : Ty → WrittenValue → OperandTree
-operand_at t (named n) = local n
-operand_at t (digits s) = number (number_at (width_of t) s)
-operand_at t yes = number 1
-operand_at t no = number 0
+-- a lane of w bits: its number modulo 2^w, none where it is poison
+abbrev pub lane_at : ℕ → WrittenLane → Option ℕ
+lane_at w (lane_digits s) = Some (number_at w s)
+lane_at w lane_true = Some 1
+lane_at w lane_false = Some 0
+lane_at w lane_poison = None
 
--- ---- instructions, without the name of the result
+-- the type is iN for this N
+abbrev pub is_int : ℕ → Ty → Bool
+is_int w (Int v) = v == w
+is_int w Ptr = false
+is_int w (Vector n v) = false
+is_int w Void = false
+
+-- `zeroinitializer` at a type: a vector's lanes are all 0
+abbrev pub zeros_at : Ty → Option OperandTree
+zeros_at (Vector n w) = Some (lanes (replicate n (Some 0)))
+zeros_at t = None
+
+-- one lane for all at a type: a vector's, whose element type is written
+abbrev pub splat_at : Ty → Ty × WrittenLane → Option OperandTree
+splat_at (Vector n w) x = if is_int w x.0 then Some (lanes (replicate n (lane_at w x.1))) else None
+splat_at t x = None
+
+-- lanes at a type: a vector's, whose element type is written with each; how many they are is not looked at
+abbrev pub lanes_at : Ty → List (Ty × WrittenLane) → Option OperandTree
+lanes_at (Vector n w) xs = if list_all (λ x. is_int w x.0) xs then Some (lanes (map (λ x. lane_at w x.1) xs)) else None
+lanes_at t xs = None
+
+-- a written value at a type: a number is held modulo 2^w; lanes have a reading at vectors of their type alone
+abbrev pub operand_at : Ty → WrittenValue → Option OperandTree
+operand_at t (named n) = Some (local n)
+operand_at t (digits s) = Some (number (number_at (width_of t) s))
+operand_at t yes = Some (number 1)
+operand_at t no = Some (number 0)
+operand_at t null_word = Some null
+operand_at t poison_word = Some poison
+operand_at t zeros = zeros_at t
+operand_at t (splat x) = splat_at t x
+operand_at t (lane_list xs) = lanes_at t xs
+
+-- ---- parts of instructions
+
+-- a value with its type
+abbrev pub with_type : Ty × WrittenValue → Option (Ty × OperandTree)
+with_type x = operand_at x.0 x.1 >>= λ a. Some (x.0, a)
+
+-- T V
+unfoldable pub typed_value : Form (Ty × OperandTree)
+typed_value = made with_type (pair value_type value)
+
+-- , T V
+abbrev pub comma_typed : Form (Ty × OperandTree)
+comma_typed = after_mark Comma typed_value
 
 -- V, V
 abbrev pub two_values : Form (WrittenValue × WrittenValue)
 two_values = pair value (after_mark Comma value)
 
--- an operation of two operands at one type, which is the result's
-abbrev pub binary_tree : BinOp → Ty × (WrittenValue × WrittenValue) → InstTree
-binary_tree op x = record { kind = kinds.Binary op; ty = x.0; args = operand_at x.0 x.1.0 ∷ operand_at x.0 x.1.1 ∷ []; labels = []; result = None }
+-- two values with the type of both
+abbrev pub both_at : Ty × (WrittenValue × WrittenValue) → Option (Ty × (OperandTree × OperandTree))
+both_at x = operand_at x.0 x.1.0 >>= λ a. operand_at x.0 x.1.1 >>= λ b. Some (x.0, (a, b))
 
 -- T V, V
-unfoldable pub binary : BinOp → Form InstTree
-binary op = mapped (binary_tree op) (pair value_type two_values)
+unfoldable pub typed_pair : Form (Ty × (OperandTree × OperandTree))
+typed_pair = made both_at (pair value_type two_values)
+
+-- ptr V
+unfoldable pub pointer_value : Form OperandTree
+pointer_value = made (operand_at Ptr) (behind (codes "ptr") value)
+
+-- a value with the width of its type
+abbrev pub with_width : ℕ × WrittenValue → Option (ℕ × OperandTree)
+with_width x = operand_at (Int x.0) x.1 >>= λ a. Some (x.0, a)
+
+-- iN V
+unfoldable pub index_value : Form (ℕ × OperandTree)
+index_value = made with_width (pair width value)
+
+-- to T
+abbrev pub to_type : Form Ty
+to_type = behind (codes "to") value_type
+
+-- label %name
+unfoldable pub target : Form Name
+target = behind (codes "label") local_name
+
+-- the alignment that is written so: digits without a sign, modulo 2^64
+abbrev pub alignment_of : List ℕ → Option ℕ
+alignment_of [] = None
+alignment_of (c ∷ ds) = if c == 45 then None else Some (number_of (c ∷ ds) % 2 ^ 64)
+
+-- [, align n], where the word stands behind the comma
+unfoldable pub alignment : Form (Option ℕ)
+alignment = optional (marked Comma (behind (codes "align") (made alignment_of (one Number))))
+
+-- the alignment of an access at a type: the natural one where none is written
+abbrev pub align_or : Ty → Option ℕ → ℕ
+align_or t None = value_size t
+align_or t (Some n) = n
+
+-- ---- flags
+
+-- [flag]
+abbrev pub one_flag : List ℕ → Form Bool
+one_flag w = mapped is_some (optional (exactly Word w))
+
+-- the one of two flags that stands first
+abbrev pub flag_orders : (first second : List ℕ) → List (List ℕ × FlagOrder)
+flag_orders first second = (first, Usual) ∷ (second, Reversed) ∷ []
+
+-- what is behind it: perhaps the other
+abbrev pub other_flag : (first second : List ℕ) → FlagOrder → Form (Bool × Bool)
+other_flag first second Usual = mapped (λ b. (true, b)) (one_flag second)
+other_flag first second Reversed = mapped (λ b. (b, true)) (one_flag first)
+
+-- neither flag where none stands there
+abbrev pub or_neither : Option (Bool × Bool) → Bool × Bool
+or_neither None = (false, false)
+or_neither (Some x) = x
+
+-- [first] [second], in any order
+abbrev pub two_flags : (first second : List ℕ) → Form (Bool × Bool)
+two_flags first second = mapped or_neither (optional (by_word (flag_orders first second) (other_flag first second)))
+
+abbrev pub no_flags : Flags
+no_flags = record { nuw = false; nsw = false; exact = false; disjoint = false }
+
+-- `nuw` and `nsw`
+abbrev pub wrap_flags : Bool × Bool → Flags
+wrap_flags x = record { nuw = x.0; nsw = x.1; exact = false; disjoint = false }
+
+-- `exact`
+abbrev pub exact_flag : Bool → Flags
+exact_flag b = record { nuw = false; nsw = false; exact = b; disjoint = false }
+
+-- `disjoint`
+abbrev pub disjoint_flag : Bool → Flags
+disjoint_flag b = record { nuw = false; nsw = false; exact = false; disjoint = b }
+
+-- ---- instructions, without the name of the result and attachments
+
+-- an instruction of its kind, its result's type, its operands and labels
+abbrev pub bare_inst : InstKind → Ty → List OperandTree → List Name → InstTree
+bare_inst kind ty args labels = record { kind = kind; ty = ty; args = args; labels = labels; result = None; wide = false; kept = [] }
+
+-- an operation of two operands at one type, which is the result's
+abbrev pub binary_tree : BinOp → Flags → Ty × (OperandTree × OperandTree) → InstTree
+binary_tree op flags x = bare_inst (kinds.Binary op flags) x.0 (x.1.0 ∷ x.1.1 ∷ []) []
+
+-- [nuw] [nsw] T V, V
+unfoldable pub overflowing : BinOp → Form InstTree
+overflowing op = mapped (λ x. binary_tree op (wrap_flags x.0) x.1) (pair (two_flags (codes "nuw") (codes "nsw")) typed_pair)
+
+-- [exact] T V, V
+unfoldable pub possibly_exact : BinOp → Form InstTree
+possibly_exact op = mapped (λ x. binary_tree op (exact_flag x.0) x.1) (pair (one_flag (codes "exact")) typed_pair)
+
+-- T V, V
+unfoldable pub plain_binary : BinOp → Form InstTree
+plain_binary op = mapped (binary_tree op no_flags) typed_pair
+
+-- [disjoint] T V, V
+unfoldable pub or_operation : Form InstTree
+or_operation = mapped (λ x. binary_tree Or (disjoint_flag x.0) x.1) (pair (one_flag (codes "disjoint")) typed_pair)
 
 -- the ten predicates
 unfoldable pub predicates : List (List ℕ × Pred)
@@ -164,88 +356,261 @@ bits_for Ptr = Int 1
 bits_for Void = Int 1
 
 -- a comparison of two operands at one type
-abbrev pub compare_tree : Pred → Ty × (WrittenValue × WrittenValue) → InstTree
-compare_tree p x = record { kind = kinds.Compare p x.0; ty = bits_for x.0; args = operand_at x.0 x.1.0 ∷ operand_at x.0 x.1.1 ∷ []; labels = []; result = None }
+abbrev pub compare_tree : Pred → Ty × (OperandTree × OperandTree) → InstTree
+compare_tree p x = bare_inst (kinds.Compare p x.0) (bits_for x.0) (x.1.0 ∷ x.1.1 ∷ []) []
 
 -- T V, V behind the predicate
 unfoldable pub compared : Pred → Form InstTree
-compared p = mapped (compare_tree p) (pair value_type two_values)
+compared p = mapped (compare_tree p) typed_pair
 
 -- pred T V, V
 unfoldable pub compare : Form InstTree
 compare = by_word predicates compared
 
+-- three values with their types
+abbrev pub three_values : Form ((Ty × OperandTree) × ((Ty × OperandTree) × (Ty × OperandTree)))
+three_values = pair typed_value (pair comma_typed comma_typed)
+
+-- a condition and two arms; the result has the first arm's type
+abbrev pub select_tree : (Ty × OperandTree) × ((Ty × OperandTree) × (Ty × OperandTree)) → InstTree
+select_tree x = bare_inst (kinds.Select x.0.0 x.1.1.0) x.1.0.0 (x.0.1 ∷ x.1.0.1 ∷ x.1.1.1 ∷ []) []
+
+-- T V, T V, T V
+unfoldable pub select : Form InstTree
+select = mapped select_tree three_values
+
+-- a value of its own type
+abbrev pub freeze_tree : Ty × OperandTree → InstTree
+freeze_tree x = bare_inst kinds.Freeze x.0 (x.1 ∷ []) []
+
+-- T V
+unfoldable pub freeze : Form InstTree
+freeze = mapped freeze_tree typed_value
+
+-- a cast of a value to a type
+abbrev pub cast_tree : (Ty → InstKind) → (Ty × OperandTree) × Ty → InstTree
+cast_tree kind x = bare_inst (kind x.0.0) x.1 (x.0.1 ∷ []) []
+
+-- [nuw] [nsw] T V to T
+unfoldable pub trunc : Form InstTree
+trunc = mapped (λ x. cast_tree (λ t. kinds.Trunc t x.0.0 x.0.1) x.1) (pair (two_flags (codes "nuw") (codes "nsw")) (pair typed_value to_type))
+
+-- [nneg] T V to T
+unfoldable pub zext : Form InstTree
+zext = mapped (λ x. cast_tree (λ t. kinds.Zext t x.0) x.1) (pair (one_flag (codes "nneg")) (pair typed_value to_type))
+
+-- T V to T
+unfoldable pub sext : Form InstTree
+sext = mapped (cast_tree kinds.Sext) (pair typed_value to_type)
+
+-- the address of a pointer at a type
+abbrev pub address_tree : OperandTree × Ty → InstTree
+address_tree x = bare_inst kinds.PtrToInt x.1 (x.0 ∷ []) []
+
+-- ptr V to T
+unfoldable pub ptrtoint : Form InstTree
+ptrtoint = mapped address_tree (pair pointer_value to_type)
+
 -- [ V, %name ]
 unfoldable pub entry_of_phi : Form (WrittenValue × Name)
 entry_of_phi = between LeftBracket RightBracket (pair value (after_mark Comma local_name))
 
+-- the operands of a phi's entries at its type
+abbrev pub entries_at : Ty → List (WrittenValue × Name) → Option (List OperandTree)
+entries_at t [] = Some []
+entries_at t (e ∷ es) = operand_at t e.0 >>= λ a. entries_at t es >>= λ more. Some (a ∷ more)
+
 -- a phi: its operands at its type, and a label for each
-abbrev pub phi_tree : Ty × List (WrittenValue × Name) → InstTree
-phi_tree x = record { kind = kinds.Phi; ty = x.0; args = map (λ e. operand_at x.0 e.0) x.1; labels = map (λ e. e.1) x.1; result = None }
+abbrev pub phi_tree : Ty × List (WrittenValue × Name) → Option InstTree
+phi_tree x = entries_at x.0 x.1 >>= λ args. Some (bare_inst kinds.Phi x.0 args (map (λ e. e.1) x.1))
 
 -- T [ V, %name ], ..
 unfoldable pub phi : Form InstTree
-phi = mapped phi_tree (pair value_type (commas entry_of_phi))
+phi = made phi_tree (pair value_type (commas entry_of_phi))
 
--- label %name
-unfoldable pub target : Form Name
-target = behind (codes "label") local_name
+-- a load from a pointer
+abbrev pub load_tree : Ty × (OperandTree × Option ℕ) → InstTree
+load_tree x = bare_inst (kinds.Load (align_or x.0 x.1.1)) x.0 (x.1.0 ∷ []) []
+
+-- T, ptr V [, align n]
+unfoldable pub load : Form InstTree
+load = mapped load_tree (pair value_type (pair (after_mark Comma pointer_value) alignment))
+
+-- a store of a value to a pointer
+abbrev pub store_tree : (Ty × OperandTree) × (OperandTree × Option ℕ) → InstTree
+store_tree x = bare_inst (kinds.Store x.0.0 (align_or x.0.0 x.1.1)) Void (x.0.1 ∷ x.1.0 ∷ []) []
+
+-- T V, ptr V [, align n]
+unfoldable pub store : Form InstTree
+store = mapped store_tree (pair typed_value (pair (after_mark Comma pointer_value) alignment))
+
+-- the type of a vector's elements, and any other type itself
+abbrev pub element_of : Ty → Ty
+element_of (Vector n w) = Int w
+element_of (Int w) = Int w
+element_of Ptr = Ptr
+element_of Void = Void
+
+-- a lane of a vector
+abbrev pub extract_tree : (Ty × OperandTree) × (ℕ × OperandTree) → InstTree
+extract_tree x = bare_inst (kinds.Extract x.0.0 x.1.0) (element_of x.0.0) (x.0.1 ∷ x.1.1 ∷ []) []
+
+-- T V, iN V
+unfoldable pub extractelement : Form InstTree
+extractelement = mapped extract_tree (pair typed_value (after_mark Comma index_value))
+
+-- a vector with another lane
+abbrev pub insert_tree : (Ty × OperandTree) × ((Ty × OperandTree) × (ℕ × OperandTree)) → InstTree
+insert_tree x = bare_inst (kinds.Insert x.1.0.0 x.1.1.0) x.0.0 (x.0.1 ∷ x.1.0.1 ∷ x.1.1.1 ∷ []) []
+
+-- T V, T V, iN V
+unfoldable pub insertelement : Form InstTree
+insertelement = mapped insert_tree (pair typed_value (pair comma_typed (after_mark Comma index_value)))
+
+-- the type of lanes of the first that a mask of the second chooses: the mask's number of them; where one is no vector, the first
+abbrev pub shuffled : Ty → Ty → Ty
+shuffled (Vector n w) (Vector m v) = Vector m w
+shuffled t u = t
+
+-- two vectors and a mask
+abbrev pub shuffle_tree : (Ty × OperandTree) × ((Ty × OperandTree) × (Ty × OperandTree)) → InstTree
+shuffle_tree x = bare_inst (kinds.Shuffle x.0.0 x.1.0.0 x.1.1.0) (shuffled x.0.0 x.1.1.0) (x.0.1 ∷ x.1.0.1 ∷ x.1.1.1 ∷ []) []
+
+-- T V, T V, T V
+unfoldable pub shufflevector : Form InstTree
+shufflevector = mapped shuffle_tree three_values
 
 -- a jump to a block
 abbrev pub jump_tree : Name → InstTree
-jump_tree l = record { kind = kinds.Jump; ty = Void; args = []; labels = l ∷ []; result = None }
+jump_tree l = bare_inst kinds.Jump Void [] (l ∷ [])
 
 -- a condition, and the labels for true and for false
-abbrev pub branch_tree : WrittenValue × (Name × Name) → InstTree
-branch_tree x = record { kind = kinds.Branch; ty = Void; args = operand_at (Int 1) x.0 ∷ []; labels = x.1.0 ∷ x.1.1 ∷ []; result = None }
+abbrev pub branch_tree : WrittenValue × (Name × Name) → Option InstTree
+branch_tree x = operand_at (Int 1) x.0 >>= λ a. Some (bare_inst kinds.Branch Void (a ∷ []) (x.1.0 ∷ x.1.1 ∷ []))
 
 -- label %name | i1 V, label %name, label %name
 unfoldable pub branch : Form InstTree
-branch = either (mapped jump_tree target) (mapped branch_tree (behind (codes "i1") (pair value (pair (after_mark Comma target) (after_mark Comma target)))))
+branch = either (mapped jump_tree target) (made branch_tree (behind (codes "i1") (pair value (pair (after_mark Comma target) (after_mark Comma target)))))
+
+-- iN number, label %name
+unfoldable pub case_of_switch : Form ((ℕ × List ℕ) × Name)
+case_of_switch = pair (pair width (one Number)) (after_mark Comma target)
+
+-- the numbers of the cases, each of this width, modulo 2^w
+abbrev pub cases_at : ℕ → List ((ℕ × List ℕ) × Name) → Option (List ℕ)
+cases_at w cs = if list_all (λ c. c.0.0 == w) cs then Some (map (λ c. number_at w c.0.1) cs) else None
+
+-- a value with its width, the label of the default, and the cases
+abbrev pub switch_tree : (ℕ × OperandTree) × (Name × List ((ℕ × List ℕ) × Name)) → Option InstTree
+switch_tree x = cases_at x.0.0 x.1.1 >>= λ ns. Some (bare_inst (kinds.Switch x.0.0 ns) Void (x.0.1 ∷ []) (x.1.0 ∷ map (λ c. c.1) x.1.1))
+
+-- iN V, label %name [ iN number, label %name .. ]
+unfoldable pub switch : Form InstTree
+switch = made switch_tree (pair index_value (pair (after_mark Comma target) (between LeftBracket RightBracket (many case_of_switch))))
 
 -- a return of a value at its type
-abbrev pub return_tree : Ty × WrittenValue → InstTree
-return_tree x = record { kind = kinds.Return x.0; ty = Void; args = operand_at x.0 x.1 ∷ []; labels = []; result = None }
+abbrev pub return_tree : Ty × OperandTree → InstTree
+return_tree x = bare_inst (kinds.Return x.0) Void (x.1 ∷ []) []
 
 -- a return of no value
 abbrev pub void_tree : InstTree
-void_tree = record { kind = kinds.ReturnVoid; ty = Void; args = []; labels = []; result = None }
+void_tree = bare_inst kinds.ReturnVoid Void [] []
 
 -- T V | void
 unfoldable pub ret : Form InstTree
-ret = either (mapped return_tree (pair value_type value)) (word (codes "void") void_tree)
+ret = either (mapped return_tree typed_value) (word (codes "void") void_tree)
+
+-- what is never reached
+abbrev pub unreachable_tree : InstTree
+unreachable_tree = bare_inst kinds.Unreachable Void [] []
+
+-- ---- instructions with their words and attachments
+
+-- A: as many attachments as stand there, each behind a comma
+unfoldable pub inst_attachments : Form KeptTexts
+inst_attachments = mapped concat (many (kept_behind_comma attachment))
+
+-- an instruction with these attachments
+abbrev pub with_kept : InstTree → KeptTexts → InstTree
+with_kept i kept = record i { kept = kept }
+
+-- an instruction, and its attachments behind it
+abbrev pub attached : Form InstTree → Form InstTree
+attached f = mapped (λ x. with_kept x.0 x.1) (pair f inst_attachments)
 
 -- the words with which an instruction begins that doesn't end a block
 unfoldable pub operation_words : List (List ℕ × Operation)
-operation_words = (codes "add", operations.Add) ∷ (codes "icmp", operations.Icmp) ∷ (codes "phi", operations.Phi) ∷ []
+operation_words =
+    (codes "add", operations.Overflowing Add) ∷
+    (codes "sub", operations.Overflowing Sub) ∷
+    (codes "mul", operations.Overflowing Mul) ∷
+    (codes "shl", operations.Overflowing Shl) ∷
+    (codes "udiv", operations.PossiblyExact UDiv) ∷
+    (codes "sdiv", operations.PossiblyExact SDiv) ∷
+    (codes "lshr", operations.PossiblyExact LShr) ∷
+    (codes "ashr", operations.PossiblyExact AShr) ∷
+    (codes "urem", operations.Plain URem) ∷
+    (codes "srem", operations.Plain SRem) ∷
+    (codes "and", operations.Plain And) ∷
+    (codes "xor", operations.Plain Xor) ∷
+    (codes "or", operations.Or) ∷
+    (codes "icmp", operations.Icmp) ∷
+    (codes "select", operations.Select) ∷
+    (codes "freeze", operations.Freeze) ∷
+    (codes "trunc", operations.Trunc) ∷
+    (codes "zext", operations.Zext) ∷
+    (codes "sext", operations.Sext) ∷
+    (codes "ptrtoint", operations.PtrToInt) ∷
+    (codes "phi", operations.Phi) ∷
+    (codes "load", operations.Load) ∷
+    (codes "store", operations.Store) ∷
+    (codes "extractelement", operations.ExtractElement) ∷
+    (codes "insertelement", operations.InsertElement) ∷
+    (codes "shufflevector", operations.ShuffleVector) ∷
+    []
 
--- what is behind such a word
+-- what is behind such a word, before the attachments
 abbrev pub operation_behind : Operation → Form InstTree
-operation_behind operations.Add = binary Add
+operation_behind (operations.Overflowing op) = overflowing op
+operation_behind (operations.PossiblyExact op) = possibly_exact op
+operation_behind (operations.Plain op) = plain_binary op
+operation_behind operations.Or = or_operation
 operation_behind operations.Icmp = compare
+operation_behind operations.Select = select
+operation_behind operations.Freeze = freeze
+operation_behind operations.Trunc = trunc
+operation_behind operations.Zext = zext
+operation_behind operations.Sext = sext
+operation_behind operations.PtrToInt = ptrtoint
 operation_behind operations.Phi = phi
+operation_behind operations.Load = load
+operation_behind operations.Store = store
+operation_behind operations.ExtractElement = extractelement
+operation_behind operations.InsertElement = insertelement
+operation_behind operations.ShuffleVector = shufflevector
 
 -- an instruction that doesn't end a block
 unfoldable pub operation : Form InstTree
-operation = by_word operation_words operation_behind
+operation = attached (by_word operation_words operation_behind)
 
--- the words with which a terminator begins
+-- the words with which a terminator begins that has something behind its word
 unfoldable pub terminator_words : List (List ℕ × Terminator)
-terminator_words = (codes "br", terminators.Br) ∷ (codes "ret", terminators.Ret) ∷ []
+terminator_words = (codes "br", terminators.Br) ∷ (codes "switch", terminators.Switch) ∷ (codes "ret", terminators.Ret) ∷ []
 
 abbrev pub terminator_behind : Terminator → Form InstTree
 terminator_behind terminators.Br = branch
+terminator_behind terminators.Switch = switch
 terminator_behind terminators.Ret = ret
 
 -- an instruction that ends a block
 unfoldable pub terminator : Form InstTree
-terminator = by_word terminator_words terminator_behind
+terminator = attached (either (by_word terminator_words terminator_behind) (word (codes "unreachable") unreachable_tree))
 
 -- ---- blocks, functions and modules
 
 -- an instruction with the name that is written for its result
 abbrev pub named_by : InstTree → Option Name → InstTree
-named_by i name = record { kind = i.kind; ty = i.ty; args = i.args; labels = i.labels; result = name }
+named_by i name = record i { result = name }
 
 -- the instruction with the name behind the `%` as its result's
 abbrev pub with_result : List ℕ × (List ℕ × InstTree) → Option InstTree

@@ -1,21 +1,22 @@
 -- What a module does: its steps. A state in which the module says nothing of the next step stands still.
-use Rattle.std.specs.Prelude.{◌+◌, Bool, true, false, if◌then◌else◌, nat_eq, List, [], ◌∷◌, length, slice_get, find, take_while, Option, Some, None}
+use Rattle.std.specs.Prelude.{ℕ, replicate, ◌+◌, Bool, true, false, if◌then◌else◌, nat_eq, List, [], ◌∷◌, length, slice_get, find, take_while, Option, Some, None}
 use Rattle.forms.specs.Bind.{◌>>=◌}
 use Rattle.ir_types.specs.declared.name.Name.{Name}
 use Rattle.ir_types.specs.declared.name.ValueId.{ValueId}
 use Rattle.ir_types.specs.declared.inst.Ty.{Ty}
-use Rattle.ir_types.specs.declared.inst.Ty.TheVariants.{Int as IntTy}
+use Rattle.ir_types.specs.declared.inst.Ty.TheVariants.{Int as IntTy, Ptr as PtrTy, Vector, Void}
 use Rattle.ir_types.specs.declared.inst.Operand.{Operand}
-use Rattle.ir_types.specs.declared.inst.Operand.TheVariants.{Local, Int as IntOperand}
+use Rattle.ir_types.specs.declared.inst.Operand.TheVariants.{Local, Int as IntOperand, Null, Poison as PoisonOperand, Lanes as LanesOperand}
 use Rattle.ir_types.specs.declared.inst.InstKind.{InstKind}
-use Rattle.ir_types.specs.declared.inst.InstKind.TheVariants.{Binary, Compare, Phi, Jump, Branch, Return, ReturnVoid}
+use Rattle.ir_types.specs.declared.inst.InstKind.TheVariants.{Binary, Compare, Select, Freeze, Trunc, Zext, Sext, PtrToInt, Phi, Load, Store, Extract, Insert, Shuffle, Jump, Branch, Switch, Return, ReturnVoid, Unreachable}
 use Rattle.ir_types.specs.declared.inst.Inst.{Inst}
 use Rattle.ir_types.specs.declared.module.Block.{Block}
 use Rattle.ir_types.specs.declared.module.Param.{Param}
 use Rattle.ir_types.specs.declared.module.Function.{Function}
 use Rattle.ir_types.specs.declared.module.Module.{Module}
+use Rattle.ir_types.specs.declared.value.Pointer.{Pointer}
 use Rattle.ir_types.specs.declared.value.Value.{Value}
-use Rattle.ir_types.specs.declared.value.Value.TheVariants.{Int, Poison}
+use Rattle.ir_types.specs.declared.value.Value.TheVariants.{Int, Ptr, Poison, Lanes}
 use Rattle.ir_types.specs.Names.{same_name}
 use Rattle.ir_types.specs.Grammar.{width_of}
 use Rattle.ir_types.specs.declared.value.Outcome.{Outcome}
@@ -44,20 +45,50 @@ inst_at m frame = block_at m frame.function frame.block >>= λ b. slice_get b.in
 
 -- ---- the values of operands
 
+-- the null pointer: address 0, in no allocation
+abbrev pub null_pointer : Pointer
+null_pointer = record { address = 0; allocation = None }
+
+-- the poison of a type: of a vector in each lane
+abbrev pub poison_of : Ty → Value
+poison_of (Vector n w) = Lanes w (replicate n None)
+poison_of ty = Poison
+
+-- the bits of a vector's elements, and 0 of other types
+abbrev pub lane_width : Ty → ℕ
+lane_width (Vector n w) = w
+lane_width ty = 0
+
 -- the value of an operand, where it has one of that type
 abbrev pub operand_value : Module → Memory → Env → Ty → Operand → Option Value
 operand_value m memory env ty (Local name) = env name >>= λ v. typed ty v
 operand_value m memory env ty (IntOperand x) = typed ty (Int (width_of ty) x)
+operand_value m memory env ty Null = typed ty (Ptr null_pointer)
+operand_value m memory env ty PoisonOperand = typed ty (poison_of ty)
+operand_value m memory env ty (LanesOperand xs) = typed ty (Lanes (lane_width ty) xs)
 
--- the types of an instruction's operands, in their order
+-- the types of an instruction's operands, in their order; a phi takes its values where its block is entered
 abbrev pub operand_types : InstKind → Ty → List Ty
-operand_types (Binary op) ty = ty ∷ ty ∷ []
+operand_types (Binary op flags) ty = ty ∷ ty ∷ []
 operand_types (Compare p of) ty = of ∷ of ∷ []
+operand_types (Select condition last) ty = condition ∷ ty ∷ last ∷ []
+operand_types Freeze ty = ty ∷ []
+operand_types (Trunc from nuw nsw) ty = from ∷ []
+operand_types (Zext from nneg) ty = from ∷ []
+operand_types (Sext from) ty = from ∷ []
+operand_types PtrToInt ty = PtrTy ∷ []
 operand_types Phi ty = []
+operand_types (Load align) ty = PtrTy ∷ []
+operand_types (Store of align) ty = of ∷ PtrTy ∷ []
+operand_types (Extract of width) ty = of ∷ IntTy width ∷ []
+operand_types (Insert element width) ty = ty ∷ element ∷ IntTy width ∷ []
+operand_types (Shuffle one other mask) ty = one ∷ other ∷ mask ∷ []
 operand_types Jump ty = []
 operand_types Branch ty = IntTy 1 ∷ []
-operand_types (Return of) ty = of ∷ []
+operand_types (Switch width cases) ty = IntTy width ∷ []
 operand_types ReturnVoid ty = []
+operand_types (Return of) ty = of ∷ []
+operand_types Unreachable ty = []
 
 -- the values of the operands, where there is one for each type
 abbrev pub values_of : Module → Memory → Env → List Ty → List Operand → Option (List Value)
@@ -80,10 +111,11 @@ pub data Effect : Type 0 where
   -- the run stands still
   Waits : Effect
 
--- an operation's result, or undefined
-abbrev pub gives : Outcome → Effect
-gives (Result v) = Sets v
-gives Undefined = Fails
+-- an operation's result, or undefined; without a meaning the run stands still
+abbrev pub gives : Option Outcome → Effect
+gives None = Waits
+gives (Some (Result v)) = Sets v
+gives (Some Undefined) = Fails
 
 -- a branch: to the second label where the condition is 0, and else to the first; on poison the run is undefined
 abbrev pub branched : List ValueId → Value → Effect
@@ -91,10 +123,10 @@ branched (on ∷ off ∷ []) (Int w x) = Goes (if nat_eq x 0 then off else on)
 branched (on ∷ off ∷ []) Poison = Fails
 branched labels v = Waits
 
--- what an instruction asks for, by its kind, its type, its labels and the values of its operands; operations of pointers and of vectors have
--- no meaning yet
+-- what an instruction asks for, by its kind, its type, its labels and the values of its operands; operations of pointers and of vectors, and
+-- the other kinds of instructions, have no meaning yet
 abbrev pub effect_of : Module → Memory → InstKind → Ty → List ValueId → List Value → Effect
-effect_of m memory (Binary op) (IntTy w) labels (x ∷ y ∷ []) = gives (combined op x y)
+effect_of m memory (Binary op flags) (IntTy w) labels (x ∷ y ∷ []) = gives (combined op flags x y)
 effect_of m memory (Compare p (IntTy w)) ty labels (x ∷ y ∷ []) = Sets (compared p x y)
 effect_of m memory Jump ty (label ∷ []) [] = Goes label
 effect_of m memory Branch ty labels (x ∷ []) = branched labels x

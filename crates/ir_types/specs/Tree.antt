@@ -9,18 +9,26 @@ use Rattle.ir_types.specs.TypeNodes.{TypeNode}
 abbrev pub KeptTexts : Type 0
 KeptTexts = List (List ℕ)
 
--- an operand: a local by its name, or a number
+-- an operand
 pub data OperandTree : Type 0 where
+  -- a local by its name
   local : Name → OperandTree
   number : ℕ → OperandTree
+  -- the null pointer
+  null : OperandTree
+  poison : OperandTree
+  -- constant lanes, none for a poison lane
+  lanes : List (Option ℕ) → OperandTree
 
--- an instruction: its result's name, where it has one
+-- an instruction: its result's name, where it has one, whether a number that is written in it is out of its type's range, and its attachments
 pub record InstTree : Type 0 where
   pub kind : InstKind
   pub ty : Ty
   pub args : List OperandTree
   pub labels : List Name
   pub result : Option Name
+  pub wide : Bool
+  pub kept : KeptTexts
 
 -- a block: its label, and its instructions
 pub record BlockTree : Type 0 where

@@ -1,10 +1,11 @@
 -- The types of values, and the results of operations.
-use Rattle.std.specs.Prelude.{ℕ, ◌+◌, ◌-◌, ◌%◌, ◌^◌, Bool, true, false, not, ◌&&◌, if◌then◌else◌, nat_eq, nat_lt, nat_le, IsTrue, length, Option, Some, None}
+use Rattle.std.specs.Prelude.{ℕ, ◌+◌, ◌-◌, ◌%◌, ◌^◌, Bool, true, false, not, ◌&&◌, ◌||◌, if◌then◌else◌, nat_eq, nat_lt, nat_le, IsTrue, length, Option, Some, None}
 use Rattle.std.specs.List.{list_all}
 use Rattle.ir_types.specs.declared.inst.Ty.{Ty}
 use Rattle.ir_types.specs.declared.inst.Ty.TheVariants.{Int as IntTy, Ptr as PtrTy, Vector, Void}
 use Rattle.ir_types.specs.declared.inst.BinOp.{BinOp}
 use Rattle.ir_types.specs.declared.inst.BinOp.TheVariants.{Add}
+use Rattle.ir_types.specs.declared.inst.Flags.{Flags}
 use Rattle.ir_types.specs.declared.inst.Pred.{Pred}
 use Rattle.ir_types.specs.declared.inst.Pred.TheVariants.{Eq, Ne, Ugt, Uge, Ult, Ule, Sgt, Sge, Slt, Sle}
 use Rattle.ir_types.specs.declared.value.Outcome.{Outcome}
@@ -52,9 +53,14 @@ of_numbers result x y = Poison
 abbrev pub sum : (w x y : ℕ) → Value
 sum w x y = Int w ((x + y) % 2 ^ w)
 
--- the result of a binary operator
-abbrev pub combined : BinOp → Value → Value → Outcome
-combined Add x y = Result (of_numbers sum x y)
+-- whether a binary operator has a flag
+abbrev pub has_flag : Flags → Bool
+has_flag flags = (flags.nuw || flags.nsw) || (flags.exact || flags.disjoint)
+
+-- the result of a binary operator; none has a meaning yet but `add` without a flag
+abbrev pub combined : BinOp → Flags → Value → Value → Option Outcome
+combined Add flags x y = if has_flag flags then None else Some (Result (of_numbers sum x y))
+combined op flags x y = None
 
 -- a number of w bits that is read as signed, moved up by 2^(w-1), so that the least signed number comes to 0
 abbrev pub moved_up : (w x : ℕ) → ℕ

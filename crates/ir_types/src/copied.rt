@@ -1,19 +1,63 @@
 // Copies of modules and of their parts.
 
 use crate::{
-    Allocation, Block, Function, Inst, MemTy, Module, Outcome, Param, Symbol, TypeName, Value,
+    Allocation, Block, Function, Inst, InstKind, MemTy, Module, Operand, Outcome, Param, Symbol,
+    TypeName, Value,
 };
 use lists::Copies;
 use std::alloc::AllocError;
 
+impl Copies for Operand {
+    fn copy(&self) -> Result<Self, AllocError> {
+        match self {
+            Operand::Local(id) => Ok(Operand::Local(*id)),
+            Operand::Int(number) => Ok(Operand::Int(*number)),
+            Operand::Null => Ok(Operand::Null),
+            Operand::Poison => Ok(Operand::Poison),
+            Operand::Lanes(lanes) => Ok(Operand::Lanes(lanes.copy()?)),
+        }
+    }
+}
+
+impl Copies for InstKind {
+    fn copy(&self) -> Result<Self, AllocError> {
+        match self {
+            InstKind::Binary(operator, flags) => Ok(InstKind::Binary(*operator, *flags)),
+            InstKind::Compare(predicate, ty) => Ok(InstKind::Compare(*predicate, *ty)),
+            InstKind::Select(condition, last) => Ok(InstKind::Select(*condition, *last)),
+            InstKind::Freeze => Ok(InstKind::Freeze),
+            InstKind::Trunc(from, nuw, nsw) => Ok(InstKind::Trunc(*from, *nuw, *nsw)),
+            InstKind::Zext(from, nneg) => Ok(InstKind::Zext(*from, *nneg)),
+            InstKind::Sext(from) => Ok(InstKind::Sext(*from)),
+            InstKind::PtrToInt => Ok(InstKind::PtrToInt),
+            InstKind::Phi => Ok(InstKind::Phi),
+            InstKind::Load(align) => Ok(InstKind::Load(*align)),
+            InstKind::Store(ty, align) => Ok(InstKind::Store(*ty, *align)),
+            InstKind::Extract(vector, width) => Ok(InstKind::Extract(*vector, *width)),
+            InstKind::Insert(element, width) => Ok(InstKind::Insert(*element, *width)),
+            InstKind::Shuffle(first, second, mask) => {
+                Ok(InstKind::Shuffle(*first, *second, *mask))
+            }
+            InstKind::Jump => Ok(InstKind::Jump),
+            InstKind::Branch => Ok(InstKind::Branch),
+            InstKind::Switch(width, cases) => Ok(InstKind::Switch(*width, cases.copy()?)),
+            InstKind::ReturnVoid => Ok(InstKind::ReturnVoid),
+            InstKind::Return(ty) => Ok(InstKind::Return(*ty)),
+            InstKind::Unreachable => Ok(InstKind::Unreachable),
+        }
+    }
+}
+
 impl Copies for Inst {
     fn copy(&self) -> Result<Self, AllocError> {
         Ok(Inst {
-            kind: self.kind,
+            kind: self.kind.copy()?,
             ty: self.ty,
             args: self.args.copy()?,
             labels: self.labels.copy()?,
             result: self.result,
+            wide: self.wide,
+            kept: self.kept.copy()?,
         })
     }
 }

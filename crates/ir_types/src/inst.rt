@@ -1,7 +1,7 @@
 // Instructions, their types and their operands.
 
-use crate::ValueId;
-use lists::Few;
+use crate::{Kept, ValueId};
+use lists::{Few, Items};
 
 /// A first-class type, or `Void` where there is no value.
 #[derive(Clone, Copy, Debug, PartialEq, Eq)]
@@ -16,11 +16,48 @@ pub enum Ty {
     Void,
 }
 
-/// A binary operator of integers.
+/// A binary operator of integers. (LLVM's Language Reference, "Binary Operations" and "Bitwise Binary Operations".)
 #[derive(Clone, Copy, Debug, PartialEq, Eq)]
 pub enum BinOp {
-    /// The sum modulo 2^w.
+    /// `add`: the sum.
     Add,
+    /// `sub`: the difference.
+    Sub,
+    /// `mul`: the product.
+    Mul,
+    /// `shl`: moved to the left, by so many bits.
+    Shl,
+    /// `udiv`: the quotient of unsigned numbers.
+    UDiv,
+    /// `sdiv`: the quotient of signed numbers.
+    SDiv,
+    /// `urem`: the remainder of unsigned numbers.
+    URem,
+    /// `srem`: the remainder of signed numbers.
+    SRem,
+    /// `lshr`: moved to the right, with zeros from the left.
+    LShr,
+    /// `ashr`: moved to the right, with the sign from the left.
+    AShr,
+    /// `and`: the bits that both have.
+    And,
+    /// `or`: the bits that one has.
+    Or,
+    /// `xor`: the bits that one alone has.
+    Xor,
+}
+
+/// The flags of a binary operator: where one of these is not kept to, the result is poison.
+#[derive(Clone, Copy, Debug, PartialEq, Eq)]
+pub struct Flags {
+    /// `nuw`: no unsigned wrap.
+    pub nuw: bool,
+    /// `nsw`: no signed wrap.
+    pub nsw: bool,
+    /// `exact`: no remainder, and no one bit is moved out.
+    pub exact: bool,
+    /// `disjoint`: no bit is one in both operands.
+    pub disjoint: bool,
 }
 
 /// A predicate of `icmp`, of the first operand against the second.
@@ -49,17 +86,23 @@ pub enum Pred {
 }
 
 /// What an instruction is applied to.
-#[derive(Clone, Copy, Debug, PartialEq, Eq)]
+#[derive(Debug, Drop)]
 pub enum Operand {
     /// The value of a local name.
     Local(ValueId),
     /// A number, modulo 2^w of its type's width w.
     Int(u64),
+    /// The null pointer.
+    Null,
+    /// Poison, of a vector in each lane.
+    Poison,
+    /// A vector's constant lanes, each a number modulo 2^w of its element's width w, or none for poison.
+    Lanes(Items<Option<u64>>),
 }
 
 impl Default for Operand {
     fn default() -> Operand {
-        Operand::Int(0)
+        Operand::Poison
     }
 }
 
@@ -69,23 +112,50 @@ pub type Operands = Few<Operand, 4>;
 /// The labels of an instruction, in the text's order.
 pub type Labels = Few<ValueId, 2>;
 
-/// What an instruction does. Types that the grammar writes beside the result's type stand here.
-#[derive(Clone, Copy, Debug, PartialEq, Eq)]
+/// What an instruction does. Types that the grammar writes beside the result's type stand here. (LLVM's Language Reference,
+/// "Instruction Reference".)
+#[derive(Debug, Drop)]
 pub enum InstKind {
-    /// Two operands of the result's type.
-    Binary(BinOp),
+    /// A binary operator: two operands of the result's type.
+    Binary(BinOp, Flags),
     /// `icmp`: two operands of the type held here, and a result of one bit, or of one bit for each lane.
     Compare(Pred, Ty),
-    /// An operand and a label for each entry.
+    /// `select`: the condition and two arms. The types of the condition and of the last arm; the first arm has the result's.
+    Select(Ty, Ty),
+    /// `freeze`: one operand of the result's type.
+    Freeze,
+    /// `trunc`: the operand's type, `nuw` and `nsw`.
+    Trunc(Ty, bool, bool),
+    /// `zext`: the operand's type and `nneg`.
+    Zext(Ty, bool),
+    /// `sext`: the operand's type.
+    Sext(Ty),
+    /// `ptrtoint`: one pointer.
+    PtrToInt,
+    /// `phi`: an operand and a label for each entry.
     Phi,
+    /// `load`: the alignment in bytes. The operand is the pointer.
+    Load(u64),
+    /// `store`: the value's type and the alignment in bytes. The operands are the value and the pointer.
+    Store(Ty, u64),
+    /// `extractelement`: the vector's type and the index's width. The operands are the vector and the index.
+    Extract(Ty, u32),
+    /// `insertelement`: the element's type and the index's width. The operands are the vector, the element and the index.
+    Insert(Ty, u32),
+    /// `shufflevector`: the types of both vectors and of the mask. The operands are these three.
+    Shuffle(Ty, Ty, Ty),
     /// `br label`: one label.
     Jump,
     /// `br i1`: the condition, and the labels for true and for false.
     Branch,
-    /// `ret`: the value, of the type held here.
-    Return(Ty),
+    /// `switch`: the width of the value and the numbers of the cases, modulo 2^width. The labels are the default's and one for each case.
+    Switch(u32, Items<u64>),
     /// `ret void`.
     ReturnVoid,
+    /// `ret`: the value, of the type held here.
+    Return(Ty),
+    /// `unreachable`.
+    Unreachable,
 }
 
 /// An instruction.
@@ -101,4 +171,8 @@ pub struct Inst {
     pub labels: Labels,
     /// The name of its result, where it has one.
     pub result: Option<ValueId>,
+    /// Whether a number that is written in it is out of its type's range. (No reader says so yet.)
+    pub wide: bool,
+    /// The attachments behind it, each behind its comma.
+    pub kept: Kept,
 }

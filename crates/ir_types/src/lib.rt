@@ -10,9 +10,9 @@ mod name;
 mod opcode;
 mod value;
 
-pub use inst::{BinOp, Inst, InstKind, Labels, Operand, Operands, Pred, Ty};
+pub use inst::{BinOp, Flags, Inst, InstKind, Labels, Operand, Operands, Pred, Ty};
 pub use memory_type::{Extent, MemTy, NamedType, TypeId, TypeName};
 pub use module::{Block, FuncId, Function, Kept, Module, Param, Symbol, SymbolKind};
 pub use name::{Name, Names, ValueId};
-pub use opcode::{Extra, ItemWord, Operation, Terminator};
+pub use opcode::{Extra, FlagOrder, ItemWord, Operation, Terminator};
 pub use value::{Allocation, Byte, Outcome, Pointer, Value};

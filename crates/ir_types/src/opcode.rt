@@ -1,23 +1,64 @@
 // The words with which instructions and items begin.
 
+use crate::BinOp;
+
 /// The words of instructions that don't end a block.
 #[derive(Clone, Copy, Debug, PartialEq, Eq)]
 pub enum Operation {
-    /// `add`: a sum.
-    Add,
-    /// `icmp`: a comparison of integers.
+    /// `add`, `sub`, `mul` or `shl`, which may have `nuw` and `nsw`.
+    Overflowing(BinOp),
+    /// `udiv`, `sdiv`, `lshr` or `ashr`, which may have `exact`.
+    PossiblyExact(BinOp),
+    /// `urem`, `srem`, `and` or `xor`.
+    Plain(BinOp),
+    /// `or`, which may have `disjoint`.
+    Or,
+    /// `icmp`: a comparison of integers or pointers.
     Icmp,
+    /// `select`: one of two values.
+    Select,
+    /// `freeze`: a value that isn't poison.
+    Freeze,
+    /// `trunc`: fewer bits.
+    Trunc,
+    /// `zext`: more bits, zeros.
+    Zext,
+    /// `sext`: more bits, the sign's.
+    Sext,
+    /// `ptrtoint`: a pointer's address.
+    PtrToInt,
     /// `phi`: a value that depends on the block before.
     Phi,
+    /// `load`: what lies in memory.
+    Load,
+    /// `store`: into memory.
+    Store,
+    /// `extractelement`: a lane of a vector.
+    ExtractElement,
+    /// `insertelement`: a vector with another lane.
+    InsertElement,
+    /// `shufflevector`: lanes of two vectors.
+    ShuffleVector,
 }
 
-/// The words of terminators.
+/// The words of terminators behind which more stands.
 #[derive(Clone, Copy, Debug, PartialEq, Eq)]
 pub enum Terminator {
     /// `br`: on to a block, or to one of two.
     Br,
+    /// `switch`: on to one of several blocks.
+    Switch,
     /// `ret`: back to the caller.
     Ret,
+}
+
+/// Which of two flags stands first.
+#[derive(Clone, Copy, Debug, PartialEq, Eq)]
+pub enum FlagOrder {
+    /// The one that is printed first.
+    Usual,
+    /// The other.
+    Reversed,
 }
 
 /// The words of items.
