@@ -1,5 +1,5 @@
 -- The pieces that a block is printed as write it.
-use Rattle.std.proofs.Common.{◌≡◌, List, [], ◌∷◌, ◌++◌, Option, Some, None, refl, ap}
+use Rattle.std.proofs.Common.{◌≡◌, List, [], ◌∷◌, ◌++◌, Option, Some, None, Bool, false, refl, sym, ap, subst}
 use Rattle.std.specs.Prelude.{map, codes}
 use Rattle.std.specs.List.{AllByRecursion}
 use Rattle.std.proofs.lemmas.List.{append-nil}
@@ -11,15 +11,16 @@ use Rattle.ir_types.specs.declared.name.Name.{Name}
 use Rattle.ir_types.specs.declared.inst.Ty.{Ty}
 use Rattle.ir_types.specs.declared.inst.Ty.TheVariants.{Int, Ptr, Vector, Void}
 use Rattle.ir_types.specs.Tree.{InstTree}
-use Rattle.ir_types.specs.Grammar.{label, operation, terminator, named_by, line, block}
+use Rattle.ir_types.specs.Grammar.{bare_inst, with_kept, attached, label, operation, terminator, named_by, line, block}
 use Rattle.ir_shape.specs.Shape.{IsName, IsBody, IsInst, IsResult, IsTerminator, EndsOnce, IsBlock}
 use Rattle.type_printer.specs.Pieces.{indent, label_token, each_behind}
 use Rattle.type_printer.proofs.Laid.{nothing_behind, token_laid}
 use Rattle.type_printer.proofs.Names.{local_again, local_kind, label_kind}
 use Rattle.type_printer.proofs.Spelled.{label_says}
 use Rattle.type_printer.proofs.Writes.{Writes, laid_writes, both, spaced, on_next_line, indented, with_feed, anywhere, left_writes, right_writes, mapped_writes, made_writes, ahead_writes, there_writes, more_writes, no_more, EachWrites}
-use Rattle.ir_printer.specs.Print.{result_pieces, inst_pieces, block_pieces}
-use Rattle.ir_printer.proofs.Instructions.{bare, operation_writes, terminator_writes}
+use Rattle.ir_printer.specs.Print.{kind_pieces, result_pieces, inst_pieces, block_pieces}
+use Rattle.ir_printer.proofs.KeptWritten.{behind_kept}
+use Rattle.ir_printer.proofs.Instructions.{operation_writes, terminator_writes}
 use Rattle.ir_printer.proofs.Numbering.{written_block}
 
 -- ---- lines
@@ -38,16 +39,30 @@ with_result f i Ptr (Some n) ps h p = named_writes f i n ps h p
 with_result f i (Vector m w) (Some n) ps h p = named_writes f i n ps h p
 with_result f i Void (Some n) ps h p = named_writes f i n ps h p
 
-stripped : (i : InstTree) → IsBody i → IsBody (bare i.kind i.ty i.args i.labels)
-stripped i h = record { shape = h.shape; at = h.at; args = h.args; labels = h.labels }
+-- an instruction without its result's name and its attachments
+abbrev stripped : InstTree → InstTree
+stripped i = bare_inst i.kind i.ty i.args i.labels
+
+stripped_body : (i : InstTree) → IsBody i → IsBody (stripped i)
+stripped_body i h = record { args = h.args; labels = h.labels; count = h.count; result = h.result; parts = h.parts; narrow = refl }
+
+-- with them again
+same_again : (i : InstTree) → i.wide ≡ false → named_by (with_kept (stripped i) i.kept) i.result ≡ i
+same_again i e = ap (λ (b : Bool). record i { wide = b }) (sym e)
+
+line_writes : (f : Form InstTree) (i : InstTree) → IsInst i → Writes closed f (stripped i) (kind_pieces i.kind i.ty i.args i.labels) → Writes closed (line (attached f)) i (inst_pieces i)
+unfolding inst_pieces
+line_writes f i h w =
+    subst (λ (j : InstTree). Writes closed (line (attached f)) j (inst_pieces i)) (same_again i h.body.narrow)
+    (with_result (attached f) (with_kept (stripped i) i.kept) i.ty i.result _ h.result (mapped_writes (stripped i, i.kept) _ refl (both w (with_feed (behind_kept h.attachments)))))
 
 operation_line : (i : InstTree) → IsInst i → ¬ IsTerminator i.kind → Writes closed (line operation) i (inst_pieces i)
-unfolding inst_pieces
-operation_line i h g = with_result operation (bare i.kind i.ty i.args i.labels) i.ty i.result _ h.result (with_feed (operation_writes i.kind i.ty i.args i.labels (stripped i h.body) g))
+unfolding operation
+operation_line i h g = line_writes _ i h (operation_writes i.kind i.ty i.args i.labels (stripped_body i h.body) g)
 
 terminator_line : (i : InstTree) → IsInst i → IsTerminator i.kind → Writes closed (line terminator) i (inst_pieces i)
-unfolding inst_pieces
-terminator_line i h g = with_result terminator (bare i.kind i.ty i.args i.labels) i.ty i.result _ h.result (with_feed (terminator_writes i.kind i.ty i.args i.labels (stripped i h.body) g))
+unfolding terminator
+terminator_line i h g = line_writes _ i h (terminator_writes i.kind i.ty i.args i.labels (stripped_body i h.body) g)
 
 -- ---- blocks
 

@@ -1,10 +1,14 @@
 pub mod Numbers
 pub mod Appended
 pub mod KeptPrinted
+pub mod Places
 pub mod Lines
 pub mod Grouped
 pub mod Numbering
+pub mod Operands
 pub mod Values
+pub mod KeptWritten
+pub mod Parts
 pub mod Instructions
 pub mod Blocks
 pub mod SpelledFunctions

@@ -35,6 +35,11 @@ pub bracket_kinds : (kind_of (codes "(") ≡ Some kinds.LeftParen) × (kind_of (
 unfolding table
 bracket_kinds = (refl, refl, refl, refl, refl, refl)
 
+-- and those of angles
+pub angle_kinds : (kind_of (codes "<") ≡ Some kinds.Less) × (kind_of (codes ">") ≡ Some kinds.Greater)
+unfolding table
+angle_kinds = (refl, refl)
+
 pub width_kind : (w : ℕ) → IsOneOf widths w → kind_of (width_word w) ≡ Some kinds.Word
 unfolding width_word
 width_kind w h = let le = (width_within w h).1 in integer_word (decimal w) (decimal_digits w (omega arith))

@@ -1,21 +1,21 @@
 -- Pieces that write a value by a form: they spell it, are tokens, and join.
-use Rattle.std.proofs.Common.{◌≡◌, ◌<◌, ℕ, true, List, [], ◌∷◌, ◌++◌, length, Option, Some, None, refl, sym, ◌∙◌, subst}
+use Rattle.std.proofs.Common.{◌≡◌, ◌<◌, ℕ, true, List, [], ◌∷◌, ◌++◌, length, Option, Some, None, refl, sym, ap, ◌∙◌, subst, append_assoc}
 use Rattle.std.specs.Prelude.{map, codes}
 use Rattle.std.specs.List.{AllByRecursion}
 use Rattle.std.proofs.lemmas.Bool.{and_from}
 use Rattle.std.proofs.lemmas.List.{append-nil}
 use Rattle.forms.specs.declared.TokenKind.{TokenKind}
 use Rattle.forms.specs.declared.TokenKind.TheVariants.{Word, Comma, LeftBracket, RightBracket}
-use Rattle.forms.specs.Form.{Lexeme, Form, pair, either, mapped, made, optional, many, by_word, ahead, entry}
+use Rattle.forms.specs.Form.{Lexeme, Form, exactly, one, pair, either, mapped, made, optional, many, by_word, ahead, entry}
 use Rattle.forms.specs.Combined.{word, behind, after_mark, between, marked, commas, list}
 use Rattle.forms.specs.Lexical.{kind_of}
-use Rattle.text_lex.specs.Layout.{Piece, lexeme, tokens_of, AreTokens, Before, closed, open_, left_by, joins, end_of}
+use Rattle.text_lex.specs.Layout.{Piece, gap, lexeme, tokens_of, AreTokens, is_mark, Before, closed, open_, left_by, joins, end_of}
 use Rattle.text_lex.proofs.Layouts.{tokens_of-append, AreTokens-append, joins-from, joins_any, mark_stands}
 use Rattle.type_printer.specs.Pieces as pieces_of
-use Rattle.type_printer.specs.Pieces.{token, comma, blank, line_feed, indent, with_commas}
-use Rattle.type_printer.proofs.Laid.{IsLaid, all_laid, separated_laid}
+use Rattle.type_printer.specs.Pieces.{token, comma, blank, line_feed, indent, each_behind, with_commas}
+use Rattle.type_printer.proofs.Laid.{IsLaid, IsBehind, loose, nothing_behind, blank_laid, mark_laid, Separates, each_laid, all_laid, separated_laid}
 use Rattle.type_printer.proofs.LaidOut.{commas_part, bracket_kinds, comma_kind}
-use Rattle.type_printer.proofs.Says.{Says, pair_says, left_says, right_says, mapped_says, made_says, word_says, ahead_says, there_says, cons_says, by_word_says, behind_says, after_mark_says, marked_says, between_says, EachSays, commas_says, list_says}
+use Rattle.type_printer.proofs.Says.{Says, pair_says, left_says, right_says, mapped_says, made_says, one_says, exactly_says, word_says, ahead_says, there_says, cons_says, by_word_says, behind_says, after_mark_says, marked_says, between_says, EachSays, behind_each, commas_says, list_says}
 
 -- The first argument says what stands at once before the pieces.
 pub record Writes {A : Type 0} (b : Before) (f : Form A) (a : A) (ps : List Piece) : Type 0 where
@@ -58,6 +58,10 @@ laid_writes s l = record { says = s; tokens = l.tokens; joined = l.joined }
 
 pub is_laid : {A : Type 0} {f : Form A} {a : A} {ps : List Piece} → Writes closed f a ps → IsLaid ps
 is_laid w = record { tokens = w.tokens; joined = w.joined }
+
+-- two parts behind another
+pub regrouped : {A : Type 0} {b : Before} {f : Form A} {a : A} (ps qs rs : List Piece) → Writes b f a (ps ++ (qs ++ rs)) → Writes b f a ((ps ++ qs) ++ rs)
+regrouped {b = b} {f = f} {a = a} ps qs rs w = subst (Writes b f a) (sym (append_assoc ps qs rs)) w
 
 -- ---- the forms
 
@@ -112,6 +116,12 @@ behind_writes w e v = record { says = behind_says w v.says; tokens = (e, v.token
 pub by_word_writes : {K A : Type 0} {table : List (List ℕ × K)} {f : K → Form A} {a : A} {ps : List Piece} (w : List ℕ) (k : K) → kind_of w ≡ Some Word → entry table w ≡ Some k → Writes open_ (f k) a ps → Writes closed (by_word table f) a (pieces_of.word w ∷ ps)
 by_word_writes w k t e v = record { says = by_word_says w k e v.says; tokens = (t, v.tokens); joined = v.joined }
 
+pub exactly_writes : (w : List ℕ) → kind_of w ≡ Some Word → Writes closed (exactly Word w) tt (pieces_of.word w ∷ [])
+exactly_writes w e = record { says = exactly_says Word w; tokens = (e, tt); joined = refl }
+
+pub one_writes : (k : TokenKind) (w : List ℕ) → kind_of w ≡ Some k → Writes closed (one k) w (lexeme (token k w) ∷ [])
+one_writes k w e = record { says = one_says k w; tokens = (e, tt); joined = refl }
+
 -- ---- marks
 
 -- behind a comma and a space
@@ -122,15 +132,19 @@ after_comma {b = b} {ps = ps} v = record { says = after_mark_says Comma (codes "
 pub marked_comma : {A : Type 0} {b : Before} {f : Form A} {a : A} {ps : List Piece} → Writes closed f a ps → Writes b (marked Comma f) a (comma ∷ blank ∷ ps)
 marked_comma {b = b} {ps = ps} v = record { says = marked_says Comma (codes ",") v.says; tokens = (comma_kind, v.tokens); joined = and_from _ _ (mark_stands b (token Comma (codes ",")) refl) v.joined }
 
+-- between two marks, the second of which may stand behind white space
+pub between_writes : {A : Type 0} {b : Before} {f : Form A} {a : A} (o c : TokenKind) (s u : List ℕ) (ps closing : List Piece) → kind_of s ≡ Some o → is_mark o ≡ true → IsBehind closing → tokens_of closing ≡ token c u ∷ [] → Writes closed f a ps → Writes b (between o c f) a (lexeme (token o s) ∷ (ps ++ closing))
+between_writes {b = b} {f = f} {a = a} o c s u ps closing k m l e v =
+    let ends : tokens_of (ps ++ closing) ≡ tokens_of ps ++ token c u ∷ [] = tokens_of-append ps closing ∙ ap (λ (ts : List Lexeme). tokens_of ps ++ ts) e in
+    record {
+      says = subst (λ (ts : List Lexeme). Says (between o c f) a (token o s ∷ ts)) (sym ends) (between_says (tokens_of ps) o c s u v.says);
+      tokens = (k, AreTokens-append ps closing v.tokens l.tokens);
+      joined = and_from _ _ (mark_stands b (token o s) m) (rw m (joins-from closed ps closing v.joined (joins_any (end_of closed ps) closing l.joined)));
+    }
+
 -- in brackets, with a space before and behind it
 pub bracketed : {A : Type 0} {b : Before} {f : Form A} {a : A} (ps : List Piece) → Writes closed f a ps → Writes b (between LeftBracket RightBracket f) a (pieces_of.left_bracket ∷ blank ∷ (ps ++ (blank ∷ pieces_of.right_bracket ∷ [])))
-bracketed {b = b} {f = f} {a = a} ps v =
-    let closing : List Piece = blank ∷ pieces_of.right_bracket ∷ [] in
-    record {
-      says = subst (λ (ts : List Lexeme). Says (between LeftBracket RightBracket f) a (token LeftBracket (codes "[") ∷ ts)) (sym (tokens_of-append ps closing)) (between_says (tokens_of ps) LeftBracket RightBracket (codes "[") (codes "]") v.says);
-      tokens = (bracket_kinds.2, AreTokens-append ps closing v.tokens (bracket_kinds.3, tt));
-      joined = and_from _ _ (mark_stands b (token LeftBracket (codes "[")) refl) (joins-from closed ps closing v.joined refl);
-    }
+bracketed ps v = between_writes LeftBracket RightBracket (codes "[") (codes "]") (blank ∷ ps) (blank ∷ pieces_of.right_bracket ∷ []) bracket_kinds.2 refl (blank_laid (loose (mark_laid RightBracket (codes "]") refl bracket_kinds.3 (loose nothing_behind)))) refl (spaced v)
 
 -- ---- lists of parts, each printed as these pieces
 
@@ -149,3 +163,9 @@ commas_write e items lt h = laid_writes (commas_says (each_says e) items lt h) (
 
 pub list_write : {A B : Type 0} {f : Form A} {w : B → A} {pieces : B → List Piece} {P : B → Type 0} → EachWrites f w pieces P → (items : List B) → AllByRecursion P items → Writes closed (list f) (map w items) (with_commas (map pieces items))
 list_write e items h = laid_writes (list_says (each_says e) items h) (separated_laid _ _ commas_part (each_is_laid e items h))
+
+-- each behind white space
+pub many_behind : {A B : Type 0} {b : Before} {f : Form A} {w : B → A} {pieces : B → List Piece} {P : B → Type 0} (s : List ℕ) → Separates (gap s ∷ []) → EachWrites f w pieces P → (items : List B) → AllByRecursion P items → Writes b (many f) (map w items) (each_behind (gap s ∷ []) (map pieces items))
+many_behind {pieces = pieces} s apart e items h =
+    let l = each_laid _ (map pieces items) apart (each_is_laid e items h) in
+    anywhere (record { says = behind_each s (each_says e) items h; tokens = l.tokens; joined = l.joined })
