@@ -3,6 +3,7 @@ pub mod Strings
 pub mod LeftOut
 pub mod Numbers
 pub mod Form
+pub mod Balanced
 pub mod Bind
 pub mod Reading
 pub mod View
