@@ -15,21 +15,21 @@ excluded = codes "i32" ∷ codes "align" ∷ codes "cc" ∷ codes "null" ∷ []
 unfoldable value : Form (List ℕ)
 value = either (one Local) (either (one Number) (mapped (λ _. codes "null") (exactly Word (codes "null"))))
 
+-- the value begins with nothing with which the run could go on
 unfoldable kept_then_value : Form (List (List ℕ) × List ℕ)
-kept_then_value = greedy (kept_run excluded) value
+kept_then_value = pair (kept_run excluded) value
 
 kept_decides : decides kept_then_value ≡ true
 unfolding kept_then_value kept_run kept_piece excluded value
 kept_decides = refl
 
--- a plain pair does not decide there
-plain_pair : decides (pair (kept_run excluded) value) ≡ false
-unfolding kept_run kept_piece excluded value
-plain_pair = refl
+-- were `align` a piece by itself too, a number behind it could be its own or the value: then the run has to take what it can, and a number
+-- that may be refused does not decide
+perhaps_number : decides (pair (joined (kept_token Word (codes "align")) (perhaps kept_unsigned)) (one Number)) ≡ false
+perhaps_number = refl
 
--- behind a word a number with a sign is to be left: where it is refused, one token ahead does not decide
-left_number : decides (greedy (joined (kept_token Word (codes "align")) (perhaps kept_unsigned)) (one Number)) ≡ true
-left_number = refl
+longest_number : decides (greedy (joined (kept_token Word (codes "align")) (perhaps kept_unsigned)) (one Number)) ≡ true
+longest_number = refl
 
 refused_number : decides (greedy (joined (kept_token Word (codes "align")) (perhaps (kept_such Number is_unsigned))) (one Number)) ≡ false
 refused_number = refl
@@ -54,15 +54,16 @@ record Readings : Type 0 where
   number_then_name : reading (codes "align 8 %x") ≡ Some (codes "align" ∷ codes "8" ∷ [], codes "%x")
   two_numbers : reading (codes "nonnull align 8 5") ≡ Some (codes "nonnull" ∷ codes "align" ∷ codes "8" ∷ [], codes "5")
   one_number : reading (codes "align 5") ≡ None
-  no_number : reading (codes "align %x") ≡ Some (codes "align" ∷ [], codes "%x")
-  -- a number with a sign is the value, and so is a number behind a list in parentheses
-  signed_number : reading (codes "align -4") ≡ Some (codes "align" ∷ [], codes "-4")
+  no_number : reading (codes "align %x") ≡ None
+  -- it has no sign; a number behind it or behind a list in parentheses is the value
+  signed_number : reading (codes "align -4") ≡ None
   signed_behind : reading (codes "align 8 -4") ≡ Some (codes "align" ∷ codes "8" ∷ [], codes "-4")
   list_then_number : reading (codes "align ( 8 ) 3") ≡ Some (codes "align" ∷ codes "(" ∷ codes "8" ∷ codes ")" ∷ [], codes "3")
   -- a word that begins a value ends the run
-  word_value : reading (codes "noundef align null") ≡ Some (codes "noundef" ∷ codes "align" ∷ [], codes "null")
+  word_value : reading (codes "noundef null") ≡ Some (codes "noundef" ∷ [], codes "null")
+  number_wanted : reading (codes "noundef align null") ≡ None
   several : reading (codes "cc 10 \"a\" = \"b\" #0 %x") ≡ Some (codes "cc" ∷ codes "10" ∷ codes "\"a\"" ∷ codes "=" ∷ codes "\"b\"" ∷ codes "#0" ∷ [], codes "%x")
 
 readings : Readings
 unfolding table kept_then_value kept_run kept_piece excluded value
-readings = record { no_run = refl; word_then_number = refl; number_then_name = refl; two_numbers = refl; one_number = refl; no_number = refl; signed_number = refl; signed_behind = refl; list_then_number = refl; word_value = refl; several = refl }
+readings = record { no_run = refl; word_then_number = refl; number_then_name = refl; two_numbers = refl; one_number = refl; no_number = refl; signed_number = refl; signed_behind = refl; list_then_number = refl; word_value = refl; number_wanted = refl; several = refl }

@@ -46,13 +46,13 @@ abbrev pub is_unsigned : List ℕ → Bool
 is_unsigned [] = false
 is_unsigned (c ∷ ds) = not (c == 45)
 
--- a number without a sign; behind a form that it may follow, one with a sign is left
+-- a number without a sign
 abbrev pub kept_unsigned : Form (List (List ℕ))
 kept_unsigned = mapped (λ w. w ∷ []) (one_such Number is_unsigned)
 
--- a word that may also be followed by a number without a sign
+-- a word with a number without a sign, or with a balanced list in parentheses
 abbrev pub kept_numbered : List ℕ → Form (List (List ℕ))
-kept_numbered w = joined (kept_token Word w) (perhaps (either kept_unsigned in_parens))
+kept_numbered w = joined (kept_token Word w) (either kept_unsigned in_parens)
 
 -- a string, alone or followed by `=` and a string
 abbrev pub kept_string : Form (List (List ℕ))

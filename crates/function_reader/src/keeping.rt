@@ -14,7 +14,7 @@ use lists::Texts;
 use std::alloc::Global;
 
 // The words that no kept run has outside parentheses, but for `align` and `cc`, behind which a number may stand.
-static EXCLUDED_WORDS: [&[u8]; 119] = [
+static EXCLUDED_WORDS: [&[u8]; 120] = [
     b"align",
     b"cc",
     b"global",
@@ -59,12 +59,13 @@ static EXCLUDED_WORDS: [&[u8]; 119] = [
     b"sext",
     b"ptrtoint",
     b"phi",
+    b"getelementptr",
     b"load",
     b"store",
+    b"call",
     b"tail",
     b"musttail",
     b"notail",
-    b"call",
     b"extractelement",
     b"insertelement",
     b"shufflevector",
@@ -137,7 +138,7 @@ static EXCLUDED_WORDS: [&[u8]; 119] = [
 ];
 
 /// The words that no kept run has outside parentheses, but for `align` and `cc`, behind which a number may stand.
-#[tactic(auto, unfolding(ir_types::specs::Grammar::type_words, ir_types::specs::Grammar::value_words, ir_types::specs::Grammar::item_words, ir_types::specs::Grammar::instruction_words, forms::specs::LeftOut::left_out_words, ir_types::specs::Grammar::excluded_words))]
+#[tactic(auto, unfolding(ir_types::specs::Grammar::type_words, ir_types::specs::Grammar::value_words, ir_types::specs::Grammar::item_words, ir_types::specs::Grammar::operation_words, ir_types::specs::Grammar::terminator_words, ir_types::specs::Grammar::instruction_words, forms::specs::LeftOut::left_out_words, ir_types::specs::Grammar::excluded_words))]
 pub fn excluded_words() -> &'static [&'static [u8]]
     ensures { map (λ w. w.now) result.now ≡ excluded_words }
 {

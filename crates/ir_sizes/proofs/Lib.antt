@@ -3,3 +3,7 @@ pub mod Layouts
 pub mod Closing
 pub mod Members
 pub mod Setting
+pub mod Cells
+pub mod Within
+pub mod PlaceNodes
+pub mod Agreed

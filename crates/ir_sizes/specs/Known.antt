@@ -33,10 +33,14 @@ IsExtentOf l (Size s a) = (s ≡ min l.size SIZE_CAP) × (a ≡ l.align)
 abbrev pub IsRight : List MemTy → List TypeName → MemTy → Extent → Type 0
 IsRight types names t x = IsSized x → (l : Layout) × HasLayout types names t l × IsExtentOf l x
 
--- there is an extent for each type, and each size is that of its type
+-- each size that there is is that of its type
+abbrev pub EachIsRight : List MemTy → List TypeName → List Extent → Type 0
+EachIsRight types names extents = (id : TypeId) → IsSizedAt extents id → (l : Layout) × IsLaid types names (at_place id) (l ∷ []) × IsExtentOf l (extent_at extents id.0)
+
+-- and there is an extent for each type
 pub record AreRight (types : List MemTy) (names : List TypeName) (extents : List Extent) : Type 0 where
   pub as_many : length extents ≡ length types
-  pub each : (id : TypeId) → IsSizedAt extents id → (l : Layout) × IsLaid types names (at_place id) (l ∷ []) × IsExtentOf l (extent_at extents id.0)
+  pub each : EachIsRight types names extents
 
 -- the name at a place stands for the type
 abbrev pub IsDefined : List TypeName → ℕ → TypeId → Type 0

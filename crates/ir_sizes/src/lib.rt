@@ -4,12 +4,15 @@
 #![tactic(auto)]
 
 mod extents;
+mod offsets;
 mod order;
 mod place;
 mod single;
 mod size;
+mod steps;
 #[cfg(test)]
 mod tests;
 
 pub use extents::extents_of;
+pub use offsets::{Index, offset};
 pub use size::size_of;

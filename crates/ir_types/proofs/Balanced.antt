@@ -8,21 +8,22 @@ use Rattle.forms.specs.LeftOut.{left_out_words}
 use Rattle.forms.specs.Kept.{kept_piece, kept_run, metadata_node, attachment}
 use Rattle.forms.proofs.Balanced.{balanced, memory_stack}
 use Rattle.forms.proofs.Between.{in_two_steps, between_inside}
+use Rattle.ir_types.specs.Offsets.{Definitions}
 use Rattle.ir_types.specs.TypeNodes.{TypeNode}
 use Rattle.ir_types.specs.Tree.{WrittenBlock}
 use Rattle.ir_types.specs.Grammar.{between, some, local_name, global_name, label, width, vector_type, value_type, memory_leaf, array_begin, type_parts, memory_type, return_type, three_flags, type_words, inst_memory, lane, constant_word, typed_lane, constant_offset, value, value_words, item_words, instruction_words, excluded_words, kept, typed_value, typed_pair, pointer_value, index_value, target, alignment, overflowing, possibly_exact, plain_binary, or_operation, predicates, compared, compare, select, freeze, trunc, zext, sext, ptrtoint, entry_of_phi, phi, getelementptr, load, store, argument, signature, call, extractelement, insertelement, shufflevector, branch, case_of_switch, switch, ret, inst_attachments, operation_words, operation, terminator_words, terminator, block}
 
-pub blocks_balanced : (bs : List WrittenBlock) (ts : List Lexeme) → Spells (some block) bs ts → nests [] ts ≡ true
+pub blocks_balanced : (defs : Definitions) (bs : List WrittenBlock) (ts : List Lexeme) → Spells (some (block defs)) bs ts → nests [] ts ≡ true
 unfolding local_name global_name label width vector_type value_type return_type three_flags inst_memory lane constant_word typed_lane constant_offset value kept kept_run kept_piece typed_value typed_pair pointer_value index_value target alignment overflowing possibly_exact plain_binary or_operation predicates compared compare select freeze trunc zext sext ptrtoint entry_of_phi phi getelementptr load store argument signature call extractelement insertelement shufflevector branch case_of_switch switch ret inst_attachments metadata_node attachment operation_words operation terminator_words terminator block
-blocks_balanced bs ts s = balanced (some block) refl bs ts s
+blocks_balanced defs bs ts s = balanced (some (block defs)) refl bs ts s
 
-body_decides : decides (between LeftBrace RightBrace (some block)) ≡ true
+body_decides : (defs : Definitions) → decides (between LeftBrace RightBrace (some (block defs))) ≡ true
 unfolding local_name global_name label width vector_type value_type return_type three_flags inst_memory lane constant_word typed_lane constant_offset value kept kept_run kept_piece typed_value typed_pair pointer_value index_value target alignment overflowing possibly_exact plain_binary or_operation predicates compared compare select freeze trunc zext sext ptrtoint entry_of_phi phi getelementptr load store argument signature call extractelement insertelement shufflevector branch case_of_switch switch ret inst_attachments metadata_node attachment operation_words operation terminator_words terminator block type_words excluded_words value_words item_words instruction_words left_out_words
-body_decides = refl
+body_decides defs = refl
 
 -- a body is read in two steps
-pub body_later : (ts : List Lexeme) → read (between LeftBrace RightBrace (some block)) ts ≡ in_two_steps LeftBrace RightBrace (some block) ts
-body_later ts = between_inside LeftBrace RightBrace (some block) body_decides refl blocks_balanced ts
+pub body_later : (defs : Definitions) (ts : List Lexeme) → read (between LeftBrace RightBrace (some (block defs))) ts ≡ in_two_steps LeftBrace RightBrace (some (block defs)) ts
+body_later defs ts = between_inside LeftBrace RightBrace (some (block defs)) (body_decides defs) refl (blocks_balanced defs) ts
 
 pub leaf_stack : stack_after memory_leaf [] ≡ Some []
 unfolding local_name width vector_type value_type memory_leaf

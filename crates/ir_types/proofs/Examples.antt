@@ -19,7 +19,7 @@ use Rattle.ir_types.specs.declared.call.TailKind.TheVariants.{Unmarked, Tail, Mu
 use Rattle.ir_types.specs.Kinds.{Kind, Offset, Binary, Compare, Select, Freeze, Trunc, Zext, Sext, PtrToInt, Phi, Load, Store, Call, Extract, Insert, Shuffle, Jump, Branch, Switch, Return, ReturnVoid, Unreachable}
 use Rattle.ir_types.specs.declared.inst.BinOp.TheVariants.{Add, Sub, Mul, Shl, UDiv, AShr, And, Or, Xor}
 use Rattle.ir_types.specs.Written.{number_of, number_at, unescaped, name_behind, name_before}
-use Rattle.ir_types.specs.Offsets.{definitions_in}
+use Rattle.ir_types.specs.Offsets.{Definitions, definitions_in}
 use Rattle.ir_types.specs.TypeNodes.{TypeNode, scalar, called, array, opening, closing}
 use Rattle.ir_types.specs.Tree.{KeptTexts, OperandTree, local, number, null, poison, lanes, global, InstTree, BlockTree, FunctionTree, WrittenFunction, TypeNameTree, defined, opaque, ModuleTree, Item, head_line, comdat_line, type_item, variable_item, function_item, metadata_line}
 use Rattle.ir_types.specs.Grammar.{local_name, global_name, label, width, vector_type, value_type, return_type, three_flags, inst_memory, lane, constant_word, typed_lane, constant_offset, value, typed_value, typed_pair, pointer_value, index_value, target, alignment, overflowing, possibly_exact, plain_binary, or_operation, predicates, compared, compare, select, freeze, trunc, zext, sext, ptrtoint, entry_of_phi, phi, getelementptr, load, store, argument, signature, call, extractelement, insertelement, shufflevector, branch, case_of_switch, switch, ret, inst_attachments, bare_inst, named_by, with_kept, no_flags, wrap_flags, exact_flag, disjoint_flag, operation_words, operation, terminator_words, terminator, block, type_words, value_words, item_words, instruction_words, excluded_words, kept, memory_leaf, array_begin, type_parts, parameter, dotted_parameters, declared_function, defined_function, target_line, attribute_group, comdat, metadata, type_definition, initialiser_stops, extra_behind, behind_type, variable_word, variable_definition, item, module_form}
@@ -211,6 +211,9 @@ record Readings : Type 0 where
   -- parameters first, then the entry, then the results and blocks in the text's order; `br` and `ret` take none
   in_order : names_in (codes "define i32 @f ( i32 , i32 ) { add i32 %0 , %1 br label %x x: add i32 1 , 2 ret i32 %4 }")
       ≡ Some ((Number 0 ∷ Number 1 ∷ Number 2 ∷ Number 3 ∷ Text (codes "x") ∷ Number 4 ∷ []) ∷ [])
+  -- results of `call` of a value take numbers, those of `store` and of `call` of `void` none, though a name may be written
+  no_results : names_in (codes "define void @f ( ) { %a = call void @f ( ) store i8 0 , ptr null %7 = store i8 0 , ptr null call i8 @g ( ) switch i8 %8 , label %x [ ] x: unreachable }")
+      ≡ Some ((Number 0 ∷ Text (codes "a") ∷ Number 7 ∷ Number 8 ∷ Text (codes "x") ∷ []) ∷ [])
   -- the block behind a terminator needs no label
   unnamed_block : names_in (codes "define i32 @f ( ) { br label %1 ret i32 0 }") ≡ Some ((Number 0 ∷ Number 1 ∷ []) ∷ [])
   -- a written number counts on, a smaller one changes nothing, and each function counts from 0
@@ -224,7 +227,7 @@ record Readings : Type 0 where
 
 readings : Readings
 unfolding table local_name global_name label width vector_type value_type return_type three_flags inst_memory lane constant_word typed_lane constant_offset value typed_value typed_pair pointer_value index_value target alignment overflowing possibly_exact plain_binary or_operation predicates compared compare select freeze trunc zext sext ptrtoint entry_of_phi phi getelementptr load store argument signature call extractelement insertelement shufflevector branch case_of_switch switch ret inst_attachments operation_words operation terminator_words terminator block kept_piece kept_run metadata_node attachment attachments left_out_words type_words value_words item_words instruction_words excluded_words kept memory_leaf array_begin type_parts parameter dotted_parameters declared_function defined_function target_line attribute_group comdat metadata type_definition initialiser_stops extra_behind behind_type variable_word variable_definition item module_form
-readings = record { whole = refl; numbers = refl; none = refl; operands = refl; no_block = refl; no_terminator = refl; open_block = refl; parameter_comma = refl; only_comma = refl; operand_comma = refl; entry_comma = refl; no_entries = refl; one_target = refl; three_lanes = refl; signed_lanes = refl; other_type = refl; fraction = refl; great_name = refl; in_order = refl; unnamed_block = refl; written_number = refl; used_number = refl; last_number = refl; no_next = refl }
+readings = record { whole = refl; numbers = refl; none = refl; operands = refl; no_block = refl; no_terminator = refl; open_block = refl; parameter_comma = refl; only_comma = refl; operand_comma = refl; entry_comma = refl; no_entries = refl; one_target = refl; three_lanes = refl; signed_lanes = refl; other_type = refl; fraction = refl; great_name = refl; in_order = refl; no_results = refl; unnamed_block = refl; written_number = refl; used_number = refl; last_number = refl; no_next = refl }
 
 -- ---- instructions
 
@@ -275,12 +278,19 @@ record Instructions : Type 0 where
   inexact : inst (codes "udiv i8 %x , %y") ≡ Some (bare_inst (Binary UDiv no_flags) (Int 8) (x ∷ y ∷ []) [])
   apart_bits : inst (codes "or disjoint i8 %x , %y") ≡ Some (bare_inst (Binary Or (disjoint_flag true)) (Int 8) (x ∷ y ∷ []) [])
   no_wraps : inst (codes "urem nuw i8 %x , %y") ≡ None
+  exact_sum : inst (codes "add exact i8 %x , %y") ≡ None
+  two_casts : inst (codes "trunc nsw nuw i64 %x to i8") ≡ Some (bare_inst (Trunc (Int 64) true true) (Int 8) (x ∷ []) [])
+  -- a comparison of vectors has a bit for each lane
+  lanes_compared : inst (codes "icmp slt < 2 x i8 > %x , %y") ≡ Some (bare_inst (Compare Slt (Vector 2 8)) (Vector 2 1) (x ∷ y ∷ []) [])
+  other_arm : inst (codes "select i1 %x , i8 %y , i16 7") ≡ Some (bare_inst (Select (Int 1) (Int 16)) (Int 8) (x ∷ y ∷ number 7 ∷ []) [])
   chosen : inst (codes "select < 2 x i1 > %x , < 2 x i8 > %y , < 2 x i8 > poison") ≡ Some (bare_inst (Select (Vector 2 1) (Vector 2 8)) (Vector 2 8) (x ∷ y ∷ poison ∷ []) [])
   fewer_bits : inst (codes "trunc nsw i64 %x to i8") ≡ Some (bare_inst (Trunc (Int 64) false true) (Int 8) (x ∷ []) [])
   more_bits : inst (codes "zext nneg i8 %x to i64") ≡ Some (bare_inst (Zext (Int 8) true) (Int 64) (x ∷ []) [])
   sign_bits : inst (codes "sext < 2 x i8 > %x to < 2 x i32 >") ≡ Some (bare_inst (Sext (Vector 2 8)) (Vector 2 32) (x ∷ []) [])
   address : inst (codes "ptrtoint ptr %x to i64") ≡ Some (bare_inst PtrToInt (Int 64) (x ∷ []) [])
   -- without an alignment it is the natural one; it is held modulo 2^64, and has no sign
+  natural_bits : inst (codes "load < 4 x i1 > , ptr %x") ≡ Some (bare_inst (Load 1) (Vector 4 1) (x ∷ []) [])
+  late_alignment : inst (codes "load i8 , ptr %x , !a !0 , align 1") ≡ None
   natural : inst (codes "load < 4 x i32 > , ptr %x") ≡ Some (bare_inst (Load 16) (Vector 4 32) (x ∷ []) [])
   aligned_load : inst (codes "load i64 , ptr %x , align 18446744073709551618") ≡ Some (bare_inst (Load 2) (Int 64) (x ∷ []) [])
   signed_load : inst (codes "load i64 , ptr %x , align -8") ≡ None
@@ -305,7 +315,7 @@ record Instructions : Type 0 where
 
 instructions : Instructions
 unfolding table local_name global_name label width vector_type value_type return_type three_flags inst_memory lane constant_word typed_lane constant_offset value typed_value typed_pair pointer_value index_value target alignment overflowing possibly_exact plain_binary or_operation predicates compared compare select freeze trunc zext sext ptrtoint entry_of_phi phi getelementptr load store argument signature call extractelement insertelement shufflevector branch case_of_switch switch ret inst_attachments operation_words operation terminator_words terminator block kept_piece kept_run metadata_node attachment attachments left_out_words type_words value_words item_words instruction_words excluded_words kept memory_leaf array_begin type_parts parameter dotted_parameters declared_function defined_function target_line attribute_group comdat metadata type_definition initialiser_stops extra_behind behind_type variable_word variable_definition item module_form
-instructions = record { wraps = refl; one_wrap = refl; twice = refl; exactly_so = refl; inexact = refl; apart_bits = refl; no_wraps = refl; chosen = refl; fewer_bits = refl; more_bits = refl; sign_bits = refl; address = refl; natural = refl; aligned_load = refl; signed_load = refl; stored = refl; stored_so = refl; a_lane = refl; another_lane = refl; mixed_lanes = refl; joined_values = refl; joined_numbers = refl; switched = refl; no_cases = refl; wide_case = refl; comma_case = refl; true_case = refl; never = refl; no_attachment = refl }
+instructions = record { wraps = refl; one_wrap = refl; twice = refl; exactly_so = refl; inexact = refl; apart_bits = refl; no_wraps = refl; exact_sum = refl; two_casts = refl; lanes_compared = refl; other_arm = refl; chosen = refl; fewer_bits = refl; more_bits = refl; sign_bits = refl; address = refl; natural_bits = refl; late_alignment = refl; natural = refl; aligned_load = refl; signed_load = refl; stored = refl; stored_so = refl; a_lane = refl; another_lane = refl; mixed_lanes = refl; joined_values = refl; joined_numbers = refl; switched = refl; no_cases = refl; wide_case = refl; comma_case = refl; true_case = refl; never = refl; no_attachment = refl }
 
 -- ---- calls
 
@@ -320,9 +330,11 @@ record Calls : Type 0 where
   bare : inst (codes "call void @f ( )") ≡ Some (bare_inst (called_f Unmarked [] None [] []) Void [] [])
   dots : inst (codes "musttail call void ( ... ) @f ( )") ≡ Some (bare_inst (called_f MustTail [] (Some (record { params = []; varargs = true })) [] []) Void [] [])
   no_types : inst (codes "notail call void ( ) @f ( )") ≡ Some (bare_inst (called_f NoTail [] (Some (record { params = []; varargs = false })) [] []) Void [] [])
-  -- a number behind `align` is the run's, one with a sign is the value
-  aligned_value : inst (codes "call void @f ( i8 align 4 5 )") ≡ Some (bare_inst (called_f Unmarked [] None (record { ty = Int 8; kept = codes "align" ∷ codes "4" ∷ [] } ∷ []) []) Void (number 5 ∷ []) [])
-  signed_value : inst (codes "call void @f ( i8 align -4 )") ≡ Some (bare_inst (called_f Unmarked [] None (record { ty = Int 8; kept = codes "align" ∷ [] } ∷ []) []) Void (number 252 ∷ []) [])
+  -- a number behind `align` is the run's, and has to stand there, without a sign
+  aligned_value : inst (codes "call void @f ( i8 align 4 5 , i8 align ( 4 ) -5 )")
+      ≡ Some (bare_inst (called_f Unmarked [] None (record { ty = Int 8; kept = codes "align" ∷ codes "4" ∷ [] } ∷ record { ty = Int 8; kept = codes "align" ∷ codes "(" ∷ codes "4" ∷ codes ")" ∷ [] } ∷ []) []) Void (number 5 ∷ number 251 ∷ []) [])
+  signed_value : inst (codes "call void @f ( i8 align -4 )") ≡ None
+  bare_align : inst (codes "call void @f ( i8 align %x )") ≡ None
   no_value : inst (codes "call void @f ( i8 align 4 )") ≡ None
   only_comma : inst (codes "call void ( , ... ) @f ( )") ≡ None
   argument_comma : inst (codes "call void @f ( i8 5 , )") ≡ None
@@ -333,7 +345,7 @@ record Calls : Type 0 where
 
 calls : Calls
 unfolding table local_name global_name label width vector_type value_type return_type three_flags inst_memory lane constant_word typed_lane constant_offset value typed_value typed_pair pointer_value index_value target alignment overflowing possibly_exact plain_binary or_operation predicates compared compare select freeze trunc zext sext ptrtoint entry_of_phi phi getelementptr load store argument signature call extractelement insertelement shufflevector branch case_of_switch switch ret inst_attachments operation_words operation terminator_words terminator block kept_piece kept_run metadata_node attachment attachments left_out_words type_words value_words item_words instruction_words excluded_words kept memory_leaf array_begin type_parts parameter dotted_parameters declared_function defined_function target_line attribute_group comdat metadata type_definition initialiser_stops extra_behind behind_type variable_word variable_definition item module_form
-calls = record { whole = refl; bare = refl; dots = refl; no_types = refl; aligned_value = refl; signed_value = refl; no_value = refl; only_comma = refl; argument_comma = refl; dots_argument = refl; local_callee = refl; no_call = refl; two_words = refl }
+calls = record { whole = refl; bare = refl; dots = refl; no_types = refl; aligned_value = refl; signed_value = refl; bare_align = refl; no_value = refl; only_comma = refl; argument_comma = refl; dots_argument = refl; local_callee = refl; no_call = refl; two_words = refl }
 
 -- ---- items
 
@@ -457,6 +469,16 @@ record Constants : Type 0 where
   almost_great : constant [] (codes "getelementptr ( [ 2305843009213693951 x i8 ] , ptr @v , i64 8 )") ≡ behind_v (2 ^ 64 - 8)
   -- no member, nothing to lead into, no size, no index
   no_member : constant structs (codes "getelementptr ( %s , ptr @v , i64 0 , i32 3 )") ≡ None
+  negative_bit : constant [] (codes "getelementptr ( { i8 , i32 } , ptr @v , i64 0 , i1 1 )") ≡ None
+  backwards : constant [] (codes "getelementptr ( [ 2 x i32 ] , ptr @v , i64 0 , i1 1 )") ≡ behind_v (2 ^ 64 - 4)
+  padded : constant [] (codes "getelementptr ( { i8 , < { i8 , i64 } > , i32 } , ptr @v , i64 1 , i32 2 )") ≡ behind_v 28
+  few_bits : constant [] (codes "getelementptr ( { i8 , < 16 x i1 > , i8 } , ptr @v , i64 1 , i32 2 )") ≡ behind_v 10
+  none_aligned : constant [] (codes "getelementptr ( { i8 , [ 0 x i64 ] } , ptr @v , i64 0 , i32 1 , i64 -1 )") ≡ behind_v 0
+  first_counts : constant (codes "%s = type i8 %s = type i64") (codes "getelementptr ( %s , ptr @v , i64 1 )") ≡ behind_v 1
+  first_opaque : constant (codes "%s = type opaque %s = type i64") (codes "getelementptr ( %s , ptr @v , i64 1 )") ≡ None
+  chain : constant (codes "%a = type %b %c = type i32 %b = type { i8 , %c }") (codes "getelementptr ( %a , ptr @v , i64 1 , i32 1 )") ≡ behind_v 12
+  circle : constant (codes "%a = type %b %b = type %a") (codes "getelementptr ( %a , ptr @v , i64 1 )") ≡ None
+  part_of_itself : constant (codes "%r = type { i8 , [ 0 x %r ] }") (codes "getelementptr ( %r , ptr @v , i64 1 )") ≡ None
   negative_member : constant structs (codes "getelementptr ( %s , ptr @v , i64 0 , i32 -1 )") ≡ None
   into_number : constant structs (codes "getelementptr ( %s , ptr @v , i64 0 , i32 0 , i64 0 )") ≡ None
   into_lanes : constant [] (codes "getelementptr ( < 2 x i8 > , ptr @v , i64 0 , i64 1 )") ≡ None
@@ -477,7 +499,25 @@ record Constants : Type 0 where
 
 constants : Constants
 unfolding table local_name global_name label width vector_type value_type return_type three_flags inst_memory lane constant_word typed_lane constant_offset value typed_value typed_pair pointer_value index_value target alignment overflowing possibly_exact plain_binary or_operation predicates compared compare select freeze trunc zext sext ptrtoint entry_of_phi phi getelementptr load store argument signature call extractelement insertelement shufflevector branch case_of_switch switch ret inst_attachments operation_words operation terminator_words terminator block kept_piece kept_run metadata_node attachment attachments left_out_words type_words value_words item_words instruction_words excluded_words kept memory_leaf array_begin type_parts parameter dotted_parameters declared_function defined_function target_line attribute_group comdat metadata type_definition initialiser_stops extra_behind behind_type variable_word variable_definition item module_form
-constants = record { bare = refl; member = refl; packed = refl; named_twice = refl; before = refl; small_before = refl; around = refl; beyond = refl; no_type = refl; great_step = refl; none_of_great = refl; into_great = refl; great = refl; almost_great = refl; no_member = refl; negative_member = refl; into_number = refl; into_lanes = refl; itself = refl; unknown_type = refl; missing_struct = refl; no_index = refl; local_index = refl; stepped_from = refl; packed_from = refl; lanes_from = refl; no_steps = refl; flag_twice = refl; void_from = refl; unclosed_type = refl }
+constants = record { bare = refl; member = refl; packed = refl; named_twice = refl; before = refl; small_before = refl; around = refl; beyond = refl; no_type = refl; great_step = refl; none_of_great = refl; into_great = refl; great = refl; almost_great = refl; no_member = refl; negative_bit = refl; backwards = refl; padded = refl; few_bits = refl; none_aligned = refl; first_counts = refl; first_opaque = refl; chain = refl; circle = refl; part_of_itself = refl; negative_member = refl; into_number = refl; into_lanes = refl; itself = refl; unknown_type = refl; missing_struct = refl; no_index = refl; local_index = refl; stepped_from = refl; packed_from = refl; lanes_from = refl; no_steps = refl; flag_twice = refl; void_from = refl; unclosed_type = refl }
+
+-- a constant whose type is defined behind it: the items that are read with these definitions have these definitions
+abbrev later_text : List Lexeme
+later_text = tokens [] (codes "define void @f ( ) { icmp eq ptr null , getelementptr ( %s , ptr @v , i64 1 ) ret void } %s = type i64")
+
+abbrev later_definitions : Definitions
+later_definitions = (Text (codes "s"), Some (scalar (Int 64) ∷ [])) ∷ []
+
+abbrev later_items : Option (List (Item WrittenFunction))
+later_items = read_whole (module_form later_definitions (length later_text)) later_text
+
+record Later : Type 0 where
+  themselves : (later_items >>= λ items. Some (definitions_in items)) ≡ Some later_definitions
+  eight_bytes : (later_items >>= numbered_module >>= first_args) ≡ behind_v 8
+
+later : Later
+unfolding table local_name global_name label width vector_type value_type return_type three_flags inst_memory lane constant_word typed_lane constant_offset value typed_value typed_pair pointer_value index_value target alignment overflowing possibly_exact plain_binary or_operation predicates compared compare select freeze trunc zext sext ptrtoint entry_of_phi phi getelementptr load store argument signature call extractelement insertelement shufflevector branch case_of_switch switch ret inst_attachments operation_words operation terminator_words terminator block kept_piece kept_run metadata_node attachment attachments left_out_words type_words value_words item_words instruction_words excluded_words kept memory_leaf array_begin type_parts parameter dotted_parameters declared_function defined_function target_line attribute_group comdat metadata type_definition initialiser_stops extra_behind behind_type variable_word variable_definition item module_form
+later = record { themselves = refl; eight_bytes = refl }
 
 -- ---- sizes
 

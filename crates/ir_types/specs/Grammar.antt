@@ -2,7 +2,7 @@
 use Rattle.std.specs.Prelude.{ℕ, ◌%◌, Bool, true, false, not, ◌&&◌, nat_le, count_by, is_some, length, List, [], ◌∷◌, ◌++◌, map, replicate, codes, find, nat_lt, ◌^◌, ◌==◌, Option, Some, None, if◌then◌else◌}
 use Rattle.std.specs.List.{list_all}
 use Rattle.forms.specs.declared.TokenKind.TheVariants.{Quoted, Local, Global, Comdat, Label, Word, Number, Metadata, AttributeGroup, Dots, Bang, Equal, Comma, LeftParen, RightParen, LeftBracket, RightBracket, LeftBrace, RightBrace, Less, Greater}
-use Rattle.forms.specs.Form.{Lexeme, Form, Stops, Spells, is_one_of, exactly, one, one_such, enclosed, ahead, up_to, pair, greedy, either, mapped, made, optional, many, by_word}
+use Rattle.forms.specs.Form.{Lexeme, Form, Stops, Spells, is_one_of, exactly, one, one_such, enclosed, ahead, up_to, pair, either, mapped, made, optional, many, by_word}
 use Rattle.forms.specs.Reading.{◌>>=◌, read_whole}
 use Rattle.forms.specs.declared.TokenKind.{TokenKind}
 use Rattle.forms.specs.Gives.{mark}
@@ -24,10 +24,6 @@ use Rattle.ir_types.specs.declared.call.Callee.{Callee}
 use Rattle.ir_types.specs.declared.call.Signature.{Signature}
 use Rattle.ir_types.specs.declared.call.TailKind.{TailKind}
 use Rattle.ir_types.specs.declared.call.TailKind.TheVariants.{Unmarked, Tail, MustTail, NoTail}
-use Rattle.ir_types.specs.declared.opcode.FlagOrder.{FlagOrder}
-use Rattle.ir_types.specs.declared.opcode.FlagOrder.TheVariants.{Usual, Reversed}
-use Rattle.ir_types.specs.declared.opcode.OffsetFlag.{OffsetFlag}
-use Rattle.ir_types.specs.declared.opcode.OffsetFlag.TheVariants.{Inbounds, Nuw, Nusw}
 use Rattle.ir_types.specs.declared.opcode.ItemWord.{ItemWord}
 use Rattle.ir_types.specs.declared.opcode.ItemWord.TheVariants as items
 use Rattle.ir_types.specs.declared.opcode.Extra.{Extra}
@@ -116,42 +112,27 @@ memory_type depth = memory type_parts depth
 abbrev pub one_flag : List ℕ → Form Bool
 one_flag w = mapped is_some (optional (exactly Word w))
 
--- the one of two flags that stands first
-abbrev pub flag_orders : (first second : List ℕ) → List (List ℕ × FlagOrder)
-flag_orders first second = (first, Usual) ∷ (second, Reversed) ∷ []
+-- what is there, or else this
+abbrev pub or_else : {A : Type 0} → A → Option A → A
+or_else a None = a
+or_else a (Some b) = b
 
--- what is behind it: perhaps the other
-abbrev pub other_flag : (first second : List ℕ) → FlagOrder → Form (Bool × Bool)
-other_flag first second Usual = mapped (λ b. (true, b)) (one_flag second)
-other_flag first second Reversed = mapped (λ b. (b, true)) (one_flag first)
+-- a flag, and behind it perhaps others
+abbrev pub flag_then : {A B : Type 0} → (A → B) → List ℕ → Form A → Form B
+flag_then h w f = mapped h (behind w f)
 
--- neither flag where none stands there
-abbrev pub or_neither : Option (Bool × Bool) → Bool × Bool
-or_neither None = (false, false)
-or_neither (Some x) = x
-
--- [first] [second], in any order
+-- [first] [second], in any order: the first and perhaps the second, or the second and perhaps the first, or neither
 abbrev pub two_flags : (first second : List ℕ) → Form (Bool × Bool)
-two_flags first second = mapped or_neither (optional (by_word (flag_orders first second) (other_flag first second)))
+two_flags first second =
+    mapped (or_else (false, false)) (optional (either (flag_then (λ b. (true, b)) first (one_flag second)) (flag_then (λ b. (b, true)) second (one_flag first))))
 
--- the first of three flags that stands there, in any order
-abbrev pub offset_flags : List (List ℕ × OffsetFlag)
-offset_flags = (codes "inbounds", Inbounds) ∷ (codes "nuw", Nuw) ∷ (codes "nusw", Nusw) ∷ []
-
--- what is behind it: perhaps the others
-abbrev pub other_offset_flags : OffsetFlag → Form (Bool × (Bool × Bool))
-other_offset_flags Inbounds = mapped (λ x. (true, (x.0, x.1))) (two_flags (codes "nuw") (codes "nusw"))
-other_offset_flags Nuw = mapped (λ x. (x.0, (true, x.1))) (two_flags (codes "inbounds") (codes "nusw"))
-other_offset_flags Nusw = mapped (λ x. (x.0, (x.1, true))) (two_flags (codes "inbounds") (codes "nuw"))
-
--- none of them where none stands there
-abbrev pub or_none_of_three : Option (Bool × (Bool × Bool)) → Bool × (Bool × Bool)
-or_none_of_three None = (false, (false, false))
-or_none_of_three (Some x) = x
-
--- [inbounds] [nuw] [nusw], in any order
+-- [inbounds] [nuw] [nusw], in any order: one of them and perhaps the others, or none
 unfoldable pub three_flags : Form (Bool × (Bool × Bool))
-three_flags = mapped or_none_of_three (optional (by_word offset_flags other_offset_flags))
+three_flags =
+    mapped (or_else (false, (false, false))) (optional
+    (either (flag_then (λ x. (true, x)) (codes "inbounds") (two_flags (codes "nuw") (codes "nusw")))
+    (either (flag_then (λ x. (x.0, (true, x.1))) (codes "nuw") (two_flags (codes "inbounds") (codes "nusw")))
+    (flag_then (λ x. (x.0, (x.1, true))) (codes "nusw") (two_flags (codes "inbounds") (codes "nuw"))))))
 
 abbrev pub no_flags : Flags
 no_flags = record { nuw = false; nsw = false; exact = false; disjoint = false }
@@ -190,7 +171,8 @@ type_tokens =
 abbrev pub type_spelled : List Lexeme → Option (List TypeNode)
 type_spelled ts = read_whole (memory_type (length ts)) ts
 
--- M in an instruction
+-- M in an instruction: as in items, but that its tokens are found first, which are balanced, and then what they spell (proofs/InstMemory: it is the
+-- same, at any depth that is deep enough)
 unfoldable pub inst_memory : Form (List TypeNode)
 inst_memory = made type_spelled type_tokens
 
@@ -341,13 +323,49 @@ item_words =
     (codes "attributes", items.Attributes) ∷
     []
 
+-- the words with which an instruction begins that doesn't end a block
+unfoldable pub operation_words : List (List ℕ × Operation)
+operation_words =
+    (codes "add", operations.Overflowing Add) ∷
+    (codes "sub", operations.Overflowing Sub) ∷
+    (codes "mul", operations.Overflowing Mul) ∷
+    (codes "shl", operations.Overflowing Shl) ∷
+    (codes "udiv", operations.PossiblyExact UDiv) ∷
+    (codes "sdiv", operations.PossiblyExact SDiv) ∷
+    (codes "lshr", operations.PossiblyExact LShr) ∷
+    (codes "ashr", operations.PossiblyExact AShr) ∷
+    (codes "urem", operations.Plain URem) ∷
+    (codes "srem", operations.Plain SRem) ∷
+    (codes "and", operations.Plain And) ∷
+    (codes "xor", operations.Plain Xor) ∷
+    (codes "or", operations.Or) ∷
+    (codes "icmp", operations.Icmp) ∷
+    (codes "select", operations.Select) ∷
+    (codes "freeze", operations.Freeze) ∷
+    (codes "trunc", operations.Trunc) ∷
+    (codes "zext", operations.Zext) ∷
+    (codes "sext", operations.Sext) ∷
+    (codes "ptrtoint", operations.PtrToInt) ∷
+    (codes "phi", operations.Phi) ∷
+    (codes "getelementptr", operations.GetElementPtr) ∷
+    (codes "load", operations.Load) ∷
+    (codes "store", operations.Store) ∷
+    (codes "call", operations.Call Unmarked) ∷
+    (codes "tail", operations.Call Tail) ∷
+    (codes "musttail", operations.Call MustTail) ∷
+    (codes "notail", operations.Call NoTail) ∷
+    (codes "extractelement", operations.ExtractElement) ∷
+    (codes "insertelement", operations.InsertElement) ∷
+    (codes "shufflevector", operations.ShuffleVector) ∷
+    []
+
+-- the words with which a terminator begins that has something behind its word
+unfoldable pub terminator_words : List (List ℕ × Terminator)
+terminator_words = (codes "br", terminators.Br) ∷ (codes "switch", terminators.Switch) ∷ (codes "ret", terminators.Ret) ∷ []
+
 -- the words with which instructions begin
 unfoldable pub instruction_words : List (List ℕ)
-instruction_words =
-    codes "add" ∷ codes "sub" ∷ codes "mul" ∷ codes "shl" ∷ codes "udiv" ∷ codes "sdiv" ∷ codes "lshr" ∷ codes "ashr" ∷ codes "urem" ∷ codes "srem" ∷
-    codes "and" ∷ codes "xor" ∷ codes "or" ∷ codes "icmp" ∷ codes "select" ∷ codes "freeze" ∷ codes "trunc" ∷ codes "zext" ∷ codes "sext" ∷ codes "ptrtoint" ∷
-    codes "phi" ∷ codes "load" ∷ codes "store" ∷ codes "tail" ∷ codes "musttail" ∷ codes "notail" ∷ codes "call" ∷ codes "extractelement" ∷
-    codes "insertelement" ∷ codes "shufflevector" ∷ codes "br" ∷ codes "switch" ∷ codes "ret" ∷ codes "unreachable" ∷ []
+instruction_words = map (λ e. e.0) operation_words ++ (map (λ e. e.0) terminator_words ++ codes "unreachable" ∷ [])
 
 -- the words that no kept run has outside parentheses, but for `align` and `cc`, behind which a number may stand
 unfoldable pub excluded_words : List (List ℕ)
@@ -422,14 +440,9 @@ align_or t (Some n) = n
 abbrev pub dotted : {A : Type 0} → List A × Option (Unit {0}) → List A × Bool
 dotted x = (x.0, is_some x.1)
 
--- no elements and no dots
-abbrev pub or_no_elements : {A : Type 0} → Option (List A × Bool) → List A × Bool
-or_no_elements None = ([], false)
-or_no_elements (Some x) = x
-
 -- `...`, or elements parted by commas [, ...], or nothing
 abbrev pub dotted_list : {A : Type 0} → Form A → Form (List A × Bool)
-dotted_list f = mapped or_no_elements (optional (either (mapped (λ _. ([], true)) (mark Dots)) (mapped dotted (pair (commas f) (optional (marked Comma (mark Dots)))))))
+dotted_list f = mapped (or_else ([], false)) (optional (either (mapped (λ _. ([], true)) (mark Dots)) (mapped dotted (pair (commas f) (optional (marked Comma (mark Dots)))))))
 
 -- ---- instructions, without the name of the result and attachments
 
@@ -553,15 +566,12 @@ unfoldable pub phi : Definitions → Form InstTree
 phi defs = made (phi_tree defs) (pair value_type (commas entry_of_phi))
 
 -- a pointer that is stepped from through a memory type, by indexes
-abbrev pub offset_tree : (Bool × (Bool × Bool)) × (List TypeNode × (OperandTree × ((ℕ × OperandTree) × List (ℕ × OperandTree)))) → InstTree
-offset_tree x =
-    let indexes = x.1.1.1.0 ∷ x.1.1.1.1 in
-    bare_inst (kinds.Offset x.1.0 (map (λ i. i.0) indexes) x.0.0 x.0.1.0 x.0.1.1) Ptr (x.1.1.0 ∷ map (λ i. i.1) indexes) []
+abbrev pub offset_tree : (Bool × (Bool × Bool)) × (List TypeNode × (OperandTree × List (ℕ × OperandTree))) → InstTree
+offset_tree x = bare_inst (kinds.Offset x.1.0 (map (λ i. i.0) x.1.1.1) x.0.0 x.0.1.0 x.0.1.1) Ptr (x.1.1.0 ∷ map (λ i. i.1) x.1.1.1) []
 
 -- [inbounds] [nuw] [nusw] M, ptr V, iN V, ..
 unfoldable pub getelementptr : Definitions → Form InstTree
-getelementptr defs =
-    mapped offset_tree (pair three_flags (pair inst_memory (pair (after_mark Comma (pointer_value defs)) (pair (after_mark Comma (index_value defs)) (many (marked Comma (index_value defs)))))))
+getelementptr defs = mapped offset_tree (pair three_flags (pair inst_memory (pair (after_mark Comma (pointer_value defs)) (some (marked Comma (index_value defs))))))
 
 -- a load from a pointer
 abbrev pub load_tree : Ty × (OperandTree × Option ℕ) → InstTree
@@ -619,9 +629,9 @@ shufflevector defs = mapped shuffle_tree (three_values defs)
 abbrev pub actual_at : Definitions → Ty × (KeptTexts × WrittenValue) → Option (Actual × OperandTree)
 actual_at defs x = operand_at defs x.0 x.1.1 >>= λ a. Some (record { ty = x.0; kept = x.1.0 }, a)
 
--- T K V, where K takes as much as it can
+-- T K V
 unfoldable pub argument : Definitions → Form (Actual × OperandTree)
-argument defs = made (actual_at defs) (pair value_type (greedy kept value))
+argument defs = made (actual_at defs) (pair value_type (pair kept value))
 
 -- ( T, .. [, ...] )
 unfoldable pub signature : Form Signature
@@ -704,42 +714,6 @@ with_kept i kept = record i { kept = kept }
 abbrev pub attached : Form InstTree → Form InstTree
 attached f = mapped (λ x. with_kept x.0 x.1) (pair f inst_attachments)
 
--- the words with which an instruction begins that doesn't end a block
-unfoldable pub operation_words : List (List ℕ × Operation)
-operation_words =
-    (codes "add", operations.Overflowing Add) ∷
-    (codes "sub", operations.Overflowing Sub) ∷
-    (codes "mul", operations.Overflowing Mul) ∷
-    (codes "shl", operations.Overflowing Shl) ∷
-    (codes "udiv", operations.PossiblyExact UDiv) ∷
-    (codes "sdiv", operations.PossiblyExact SDiv) ∷
-    (codes "lshr", operations.PossiblyExact LShr) ∷
-    (codes "ashr", operations.PossiblyExact AShr) ∷
-    (codes "urem", operations.Plain URem) ∷
-    (codes "srem", operations.Plain SRem) ∷
-    (codes "and", operations.Plain And) ∷
-    (codes "xor", operations.Plain Xor) ∷
-    (codes "or", operations.Or) ∷
-    (codes "icmp", operations.Icmp) ∷
-    (codes "select", operations.Select) ∷
-    (codes "freeze", operations.Freeze) ∷
-    (codes "trunc", operations.Trunc) ∷
-    (codes "zext", operations.Zext) ∷
-    (codes "sext", operations.Sext) ∷
-    (codes "ptrtoint", operations.PtrToInt) ∷
-    (codes "phi", operations.Phi) ∷
-    (codes "getelementptr", operations.GetElementPtr) ∷
-    (codes "load", operations.Load) ∷
-    (codes "store", operations.Store) ∷
-    (codes "call", operations.Call Unmarked) ∷
-    (codes "tail", operations.Call Tail) ∷
-    (codes "musttail", operations.Call MustTail) ∷
-    (codes "notail", operations.Call NoTail) ∷
-    (codes "extractelement", operations.ExtractElement) ∷
-    (codes "insertelement", operations.InsertElement) ∷
-    (codes "shufflevector", operations.ShuffleVector) ∷
-    []
-
 -- what is behind such a word, before the attachments
 abbrev pub operation_behind : Definitions → Operation → Form InstTree
 operation_behind defs (operations.Overflowing op) = overflowing defs op
@@ -765,10 +739,6 @@ operation_behind defs operations.ShuffleVector = shufflevector defs
 -- an instruction that doesn't end a block
 unfoldable pub operation : Definitions → Form InstTree
 operation defs = attached (by_word operation_words (operation_behind defs))
-
--- the words with which a terminator begins that has something behind its word
-unfoldable pub terminator_words : List (List ℕ × Terminator)
-terminator_words = (codes "br", terminators.Br) ∷ (codes "switch", terminators.Switch) ∷ (codes "ret", terminators.Ret) ∷ []
 
 abbrev pub terminator_behind : Definitions → Terminator → Form InstTree
 terminator_behind defs terminators.Br = branch defs

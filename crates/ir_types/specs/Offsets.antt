@@ -26,7 +26,7 @@ definitions_in items = filter_map as_definition items
 abbrev pub nodes_of_name : Definitions → Name → Option (List TypeNode)
 nodes_of_name defs n = find (λ d. same_name d.0 n) defs >>= λ d. d.1
 
--- ---- layouts of memory types, by their nodes
+-- ---- layouts of memory types, by their nodes; they are those of `Sizes`, where types stand in a list (ir_sizes proves it)
 
 -- a memory type with its layout
 pub record Laid : Type 0 where
@@ -92,7 +92,7 @@ layout_of_name defs n = layout_within (length defs) defs n
 abbrev pub layout_of : Definitions → List TypeNode → Option Layout
 layout_of defs nodes = layout_by (layout_of_name defs) nodes
 
--- its size, where that is below 2^61
+-- its size; from 2^61 on a type counts as having none
 abbrev pub small_size : Definitions → List TypeNode → Option ℕ
 small_size defs nodes = layout_of defs nodes >>= λ l. if nat_lt l.size SIZE_CAP then Some l.size else None
 
@@ -114,10 +114,14 @@ abbrev pub member_at : Bool → List Laid → ℕ → Option (ℕ × List TypeNo
 member_at true xs k = slice_get xs k >>= λ x. Some (sum_by (λ (l : Layout). l.size) (layouts (take k xs)), x.nodes)
 member_at false xs k = slice_get xs k >>= λ x. Some (aligned x.layout.align (end_behind 0 (layouts (take k xs))), x.nodes)
 
+-- a number of w bits, where it is not negative as a signed one
+abbrev pub counted : ℕ × ℕ → Option ℕ
+counted i = if nat_lt i.1 (2 ^ (i.0 - 1)) then Some i.1 else None
+
 -- one index into a type: how many bytes it leads on, and the nodes of the type there; it leads into an array's element or a struct's member
 abbrev pub stepped_into : Definitions → List TypeNode → ℕ × ℕ → Option (ℕ × List TypeNode)
 stepped_into defs (array n ∷ element) i = small_size defs element >>= λ s. Some (scaled s i, element)
-stepped_into defs (opening packed ∷ nodes) i = cells_of (layout_of_name defs) nodes >>= up_to_end >>= λ y. member_at packed y.0 i.1
+stepped_into defs (opening packed ∷ nodes) i = cells_of (layout_of_name defs) nodes >>= up_to_end >>= λ y. counted i >>= member_at packed y.0
 stepped_into defs nodes i = None
 
 -- indexes into a type, one after another

@@ -16,5 +16,5 @@ pub use inst::{BinOp, Flags, Inst, InstKind, Labels, Operand, Operands, Pred, Ty
 pub use memory_type::{Extent, MemTy, NamedType, TypeId, TypeName};
 pub use module::{Block, FuncId, Function, Kept, Module, Param, Symbol, SymbolKind};
 pub use name::{Name, Names, ValueId};
-pub use opcode::{Extra, FlagOrder, ItemWord, OffsetFlag, Operation, Terminator};
+pub use opcode::{Extra, ItemWord, Operation, Terminator};
 pub use value::{Allocation, Byte, Outcome, Pointer, Value};

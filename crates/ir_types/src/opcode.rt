@@ -56,26 +56,6 @@ pub enum Terminator {
     Ret,
 }
 
-/// Which of two flags stands first.
-#[derive(Clone, Copy, Debug, PartialEq, Eq)]
-pub enum FlagOrder {
-    /// The one that is printed first.
-    Usual,
-    /// The other.
-    Reversed,
-}
-
-/// The flags of `getelementptr`.
-#[derive(Clone, Copy, Debug, PartialEq, Eq)]
-pub enum OffsetFlag {
-    /// `inbounds`.
-    Inbounds,
-    /// `nuw`: no unsigned wrap.
-    Nuw,
-    /// `nusw`: no unsigned wrap of the pointer, by signed steps.
-    Nusw,
-}
-
 /// The words of items.
 #[derive(Clone, Copy, Debug, PartialEq, Eq)]
 pub enum ItemWord {

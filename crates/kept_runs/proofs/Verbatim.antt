@@ -101,7 +101,7 @@ verbatim_word ws = verbatim_joined (mapped (λ w. w ∷ []) (one_such Word (is_n
 verbatim_numbered : (w : List ℕ) → Verbatim (kept_numbered w)
 verbatim_numbered w =
     let number = either kept_unsigned in_parens in
-    verbatim_joined (kept_token Word w) (perhaps number) (verbatim_token Word w) (verbatim_perhaps number (verbatim_either kept_unsigned in_parens (verbatim_one_such Number is_unsigned) verbatim_parens))
+    verbatim_joined (kept_token Word w) number (verbatim_token Word w) (verbatim_either kept_unsigned in_parens (verbatim_one_such Number is_unsigned) verbatim_parens)
 
 verbatim_string : Verbatim kept_string
 verbatim_string =
@@ -133,3 +133,7 @@ verbatim_attachment = verbatim_joined (kept_such Metadata is_named) metadata_nod
 pub verbatim_attachments : Verbatim attachments
 unfolding attachments
 verbatim_attachments = verbatim_each attachment verbatim_attachment
+
+-- each behind a comma
+pub verbatim_comma_attachments : Verbatim (mapped concat (many (kept_behind_comma attachment)))
+verbatim_comma_attachments = verbatim_each (kept_behind_comma attachment) (verbatim_behind_comma attachment verbatim_attachment)

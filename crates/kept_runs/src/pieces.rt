@@ -77,18 +77,18 @@ pub fn keep_unsigned<'t>(tokens: Cursor<'t>, texts: &mut Texts) -> Result<Cursor
     Ok(rest)
 }
 
-/// Keeps a number or a balanced list in parentheses, or nothing.
-fn perhaps_number<'t>(
+/// Keeps a number or a balanced list in parentheses.
+fn number_or_parens<'t>(
     alloc: Global,
     tokens: Cursor<'t>,
     texts: &mut Texts,
 ) -> Result<Cursor<'t>, SyntaxFault>
-    ensures { Gives (λ rest. (texts.new, left rest)) result (behind texts.old (read (perhaps (either kept_unsigned in_parens)) (left tokens.entry))) }
+    ensures { Gives (λ rest. (texts.new, left rest)) result (behind texts.old (read (either kept_unsigned in_parens) (left tokens.entry))) }
 {
     if begins_unsigned(tokens) {
         return keep_unsigned(tokens, texts);
     }
-    perhaps_parens(alloc, tokens, texts)
+    keep_parens(alloc, tokens, texts)
 }
 
 /// Keeps this word, and a number or a balanced list in parentheses behind it.
@@ -101,7 +101,7 @@ fn keep_numbered<'t>(
     ensures { Gives (λ rest. (texts.new, left rest)) result (behind texts.old (read (kept_numbered word.now) (left tokens.entry))) }
 {
     let rest = keep_word(tokens, word, texts)?;
-    perhaps_number(alloc, rest, texts)
+    number_or_parens(alloc, rest, texts)
 }
 
 /// Keeps `=` and a string, or nothing.

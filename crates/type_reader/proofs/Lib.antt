@@ -1,10 +1,11 @@
 pub mod Digits
 pub mod Same
 pub mod Vectors
-pub mod Places
+pub mod FirstPlaces
 pub mod NodeLists
 pub mod Going
 pub mod Holding
 pub mod Openings
 pub mod LookUps
+pub mod Growth
 pub mod Looking

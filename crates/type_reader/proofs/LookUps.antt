@@ -7,11 +7,10 @@ use Rattle.std.proofs.lemmas.Map.Views.{Contains-from_any}
 use Rattle.forms.proofs.Begins.{or_right}
 use Rattle.ir_types.specs.declared.name.Name.{Name}
 use Rattle.ir_types.specs.declared.memory_type.TypeName.{TypeName}
-use Rattle.ir_types.specs.Names.{same_name}
-use Rattle.ir_types.specs.TypeNodes.{TypeNode, called}
-use Rattle.ir_types.specs.Collected.{as_called, names_used, has_name, unknown}
+use Rattle.ir_types.specs.Names.{same_name, has_name, unknown}
+use Rattle.ir_types.specs.TypeNodes.{TypeNode, called, as_called, names_used}
 use Rattle.type_reader.specs.TypeTable.{names_of, missing_entry, LooksUp, LooksUpAll}
-use Rattle.type_reader.proofs.Places.{same_name-Decides}
+use Rattle.type_reader.proofs.FirstPlaces.{same_name-Decides}
 
 -- some names, and then others
 pub unknown_append : (known xs ys : List Name) → unknown known (xs ++ ys) ≡ unknown known xs ++ unknown (known ++ unknown known xs) ys
@@ -67,7 +66,7 @@ looks_up_more old mid new nodes more h k = looked_up old mid new (names_used nod
 
 -- ---- one name
 
-has_this : (n : Name) (ns : List Name) (i : ℕ) → i < length ns → get_or ns i n ≡ n → has_name n ns ≡ true
+pub has_this : (n : Name) (ns : List Name) (i : ℕ) → i < length ns → get_or ns i n ≡ n → has_name n ns ≡ true
 has_this n [] i lt e = absurd (omega arith)
 has_this n (m ∷ ns) zero lt e = rw ((same_name-Decides n m).1 (sym e)) refl
 has_this n (m ∷ ns) (suc i) lt e = or_right (same_name n m) (has_name n ns) (has_this n ns i (omega arith) e)

@@ -15,8 +15,7 @@ use Rattle.ir_types.specs.declared.name.Name.{Name}
 use Rattle.ir_types.specs.declared.memory_type.TypeId.{TypeId}
 use Rattle.ir_types.specs.declared.memory_type.TypeName.{TypeName}
 use Rattle.ir_types.specs.declared.memory_type.MemTy.{MemTy}
-use Rattle.ir_types.specs.TypeNodes.{TypeNode, opening, nodes_from, all_nodes, type_nodes}
-use Rattle.ir_types.specs.Collected.{names_used}
+use Rattle.ir_types.specs.TypeNodes.{TypeNode, opening, nodes_from, all_nodes, type_nodes, names_used}
 use Rattle.ir_types.proofs.NameAt.{extends_refl}
 use Rattle.type_reader.specs.TypeTable.{names_of, LooksUpAll}
 use Rattle.type_reader.specs.Frames.{Frame, innermost, in_array, in_struct, frame_nodes, opened_nodes, nodes_so_far, closed, around_of, end_nodes, AreBefore, Holds, Looked}

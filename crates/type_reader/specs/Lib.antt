@@ -1,5 +1,6 @@
 pub mod Vectors
 pub mod TypeTable
+pub mod Tables
 pub mod Frames
 pub mod Heads
 pub mod Levels

@@ -3,13 +3,12 @@
 ghost use Rattle.std.specs.Prelude.{◌≡◌, ◌<◌, ◌^◌, ◌++◌, ◌∷◌, [], IfOk, OnOk, OnErr, length, position};
 ghost use Rattle.std.specs.Prelude.{List};
 ghost use Rattle.ir_types.specs.declared.memory_type.TypeName.{TypeName};
-ghost use Rattle.ir_types.specs.declared.memory_type.NamedType.{NamedType};
 ghost use Rattle.ir_types.specs.Names.{same_name};
-ghost use Rattle.type_reader.specs.TypeTable.{HasFirstPlaces};
 
+use crate::places::keep_place;
 use indexmap::IndexMap;
 use ir_types::{Name, NamedType, TypeName};
-use lists::{Copies, Items};
+use lists::Items;
 use std::alloc::{AllocError, Global};
 use std::marker::Model;
 
@@ -23,25 +22,13 @@ pub struct TypeNames {
 impl Model for TypeNames {
     ghost use Rattle.std.specs.Prelude.{List, length, ◌<◌, ◌^◌};
     ghost use Rattle.ir_types.specs.declared.memory_type.TypeName.{TypeName};
-    ghost use Rattle.type_reader.specs.TypeTable.{HasFirstPlaces};
+    ghost use Rattle.type_reader.specs.TypeTable.{names_of, HasFirstPlaces};
 
     ghost Value = { List TypeName };
 
     ghost view = { λ s. s.types.items };
 
-    ghost invariant = { λ s. HasFirstPlaces s.types.items s.places.entries × (length s.types.items < 2 ^ 32) };
-}
-
-// Keeps the place of the next entry as the first of its name, where the name has none before.
-fn keep_place(places: &mut IndexMap<Name, u32>, name: &Name, place: u32) -> Result<(), AllocError>
-    ensures ok { OnOk result ((types : List TypeName) (ty : NamedType) → length types ≡ place → HasFirstPlaces types places.old.entries → HasFirstPlaces (types ++ record { name = name.now; ty = ty } ∷ []) places.new.entries) }
-    ensures err { OnErr result (places.new.entries ≡ places.old.entries) }
-{
-    if places.contains_key(name) {
-        return Ok(());
-    }
-    places.insert(name.copy()?, place)?;
-    Ok(())
+    ghost invariant = { λ s. HasFirstPlaces (names_of s.types.items) s.places.entries × (length s.types.items < 2 ^ 32) };
 }
 
 impl TypeNames {
@@ -112,7 +99,7 @@ impl TypeNames {
     ///
     /// Where there is no room for the name, and where it is to be added to 2^32 - 1 names.
     pub fn place_of(&mut self, name: Name) -> Result<u32, AllocError>
-        ensures place { IfOk result (IsPlaceOf self.new name) }
+        ensures place { IfOk result (IsPlaceOf (names_of self.new) name) }
         ensures ok { OnOk result (LooksUp self.old name self.new) }
         ensures err { OnErr result (self.new ≡ self.old) }
     {

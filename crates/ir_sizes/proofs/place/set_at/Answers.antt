@@ -25,4 +25,4 @@ returns-clause-right c =
     right_set c.args.types.now c.args.names.now c.args.extents.now c.args.place c.index-types-place.result c.extent_of-extent.result c.requires.right
     (omega (arith, c.requires.right.as_many))
     (found (goal.at.returns-clause-right c).After-extent_of-extent)
-    (c.extent_of-extent.ensures.right c.args.types.now c.requires.right)
+    (c.extent_of-extent.ensures.right c.args.types.now c.requires.right.each)

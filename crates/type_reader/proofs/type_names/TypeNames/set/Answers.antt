@@ -3,7 +3,7 @@ use Rattle.std.specs.Prelude.{slice_get}
 use Rattle.std.proofs.lemmas.Option.{slice_get-get_or}
 use Rattle.ir_types.specs.declared.memory_type.TypeName.{TypeName}
 use Rattle.type_reader.specs.TypeTable.{HasFirstPlaces, with_type, names_of}
-use Rattle.type_reader.proofs.Places.{set_types, same_names, places_stay, same_length}
+use Rattle.type_reader.proofs.FirstPlaces.{set_types, same_names, places_stay, same_length}
 use Rattle.type_reader.proofs.type_names.TypeNames.set.Goals as goal
 
 pub returns-clause-types : goal.returns-clause-types
@@ -14,7 +14,7 @@ returns-clause-types c =
 pub invariant_of-self : goal.invariant_of-self
 invariant_of-self c =
     rw (returns-clause-types c) (
-      places_stay c.args.self.now c.self.inside.places.entries c.args.place c.args.ty (subst (λ (l : List TypeName). HasFirstPlaces l c.self.inside.places.entries) c.self.view_is c.self.invariant.0),
+      places_stay c.args.self.now c.self.inside.places.entries c.args.place c.args.ty (subst (λ (l : List TypeName). HasFirstPlaces (names_of l) c.self.inside.places.entries) c.self.view_is c.self.invariant.0),
       omega (arith, same_length c.args.self.now c.args.place c.args.ty, ap length c.self.view_is, c.self.invariant.1),
     )
 

@@ -1,0 +1,147 @@
+// What a module has for its functions, while these are read.
+
+ghost use Rattle.std.specs.Prelude.{◌≡◌, ℕ, List, length, IfOk};
+ghost use Rattle.std.specs.List.{AllByRecursion};
+ghost use Rattle.forms.specs.Gives.{Gives, left};
+ghost use Rattle.forms.specs.Reading.{read};
+ghost use Rattle.ir_types.specs.Names.{name_at};
+ghost use Rattle.ir_types.specs.Types.{AreTypes};
+ghost use Rattle.ir_types.specs.Grammar.{inst_memory};
+ghost use Rattle.ir_types.specs.Offsets.{offset_of};
+ghost use Rattle.type_reader.specs.TypeTable.{names_of};
+ghost use Rattle.type_reader.specs.Tables.{TableLists, nodes_there, definitions_of, Grows, IsDefinedBefore, AreEntriesApart, AreTables};
+
+use crate::memory::memory_type;
+use crate::symbol_names::SymbolNames;
+use crate::type_names::TypeNames;
+use forms::{Cursor, SyntaxFault};
+use ir_sizes::extents_of;
+use ir_types::{Extent, MemTy, Name, TypeId, TypeName};
+use lists::Items;
+use std::alloc::{AllocError, Global};
+use std::marker::Model;
+
+/// The names of symbols, of which some are defined or declared and the others only used, the names of types, the types and their extents.
+#[derive(Drop, Debug)]
+pub struct Tables {
+    types: Vec<MemTy>,
+    extents: Vec<Extent>,
+    names: TypeNames,
+    symbols: SymbolNames,
+    known: usize,
+}
+
+impl Model for Tables {
+    ghost use Rattle.type_reader.specs.Tables.{TableLists, AreTables};
+
+    ghost Value = { TableLists };
+
+    ghost view = { λ s. record { symbols = s.symbols; known = s.known; entries = s.names; types = s.types.items; extents = s.extents.items } };
+
+    ghost invariant = { λ s. AreTables (record { symbols = s.symbols; known = s.known; entries = s.names; types = s.types.items; extents = s.extents.items }) };
+}
+
+/// The parts of tables.
+#[derive(Drop, Debug)]
+pub struct TableParts {
+    /// The types.
+    pub types: Items<MemTy>,
+    /// Their extents.
+    pub extents: Items<Extent>,
+    /// The names of types.
+    pub type_names: Items<TypeName>,
+    /// The names of symbols, those that are only used behind the others.
+    pub symbols: Items<Name>,
+    /// How many of them are defined or declared.
+    pub known: usize,
+}
+
+impl Tables {
+    /// The tables of these types, names of types and symbols.
+    pub fn new(
+        alloc: Global,
+        types: Vec<MemTy>,
+        names: TypeNames,
+        symbols: SymbolNames,
+    ) -> Result<Tables, AllocError>
+        requires are { AreTypes (names_of names) 0 types.items }
+        requires defined { AllByRecursion (IsDefinedBefore (length types.items)) names }
+        requires apart { AreEntriesApart names }
+        ensures symbols { IfOk result (λ t. t.symbols ≡ symbols) }
+        ensures known { IfOk result (λ t. t.known ≡ length symbols) }
+        ensures entries { IfOk result (λ t. t.entries ≡ names) }
+        ensures types { IfOk result (λ t. t.types ≡ types.items) }
+    {
+        let extents = extents_of(alloc, types.as_slice(), names.as_slice())?.into_vec();
+        let known = symbols.len();
+        Ok(Tables {
+            types,
+            extents,
+            names,
+            symbols,
+            known,
+        })
+    }
+
+    /// The place of a symbol, which is added at the end where no symbol has the name.
+    ///
+    /// # Errors
+    ///
+    /// Where there is no room for the name, and where it is to be added to 2^32 - 1 names.
+    pub fn symbol(&mut self, name: Name) -> Result<u32, AllocError>
+        ensures grows { Grows self.old self.new }
+        ensures named { IfOk result (λ id. name_at self.new.symbols id ≡ name) }
+        ensures stays { IfOk result (λ id. (later : TableLists) → Grows self.new later → name_at later.symbols id ≡ name_at self.new.symbols id) }
+    {
+        self.symbols.place_of(name)
+    }
+
+    /// A memory type in an instruction, which is added at the end behind its parts.
+    ///
+    /// # Errors
+    ///
+    /// Where no type stands; and where there is no room, or there would be 2^32 types or names.
+    pub fn memory_type<'t>(
+        &mut self,
+        alloc: Global,
+        tokens: Cursor<'t>,
+    ) -> Result<(TypeId, Cursor<'t>), SyntaxFault>
+        ensures grows { Grows self.old self.new }
+        ensures reads { Gives (λ x. (nodes_there self.new x.0, left x.1)) result (read inst_memory (left tokens.entry)) }
+        ensures stays { IfOk result (λ x. (later : TableLists) → Grows self.new later → nodes_there later x.0 ≡ nodes_there self.new x.0) }
+    {
+        memory_type(alloc, tokens, &mut self.types, &mut self.names)
+    }
+
+    /// The bytes that these indexes, each with its width, lead on from a pointer to the type at a place, modulo 2^64.
+    pub fn offset(&self, id: TypeId, indexes: &[(u32, u64)]) -> Option<u64>
+        ensures { result ≡ offset_of (definitions_of self.now) (nodes_there self.now id) indexes.now }
+    {
+        None
+    }
+
+    /// The parts, in the same memory.
+    pub fn into_parts(self) -> TableParts
+        ensures types { result.types ≡ self.types }
+        ensures extents { result.extents ≡ self.extents }
+        ensures type_names { result.type_names ≡ self.entries }
+        ensures symbols { result.symbols ≡ self.symbols }
+        ensures known { result.known ≡ self.known }
+        ensures are { AreTables self }
+    {
+        let Tables {
+            types,
+            extents,
+            names,
+            symbols,
+            known,
+        } = self;
+        TableParts {
+            types: Items::from_vec(types),
+            extents: Items::from_vec(extents),
+            type_names: names.into_items(),
+            symbols: symbols.into_items(),
+            known,
+        }
+    }
+}
