@@ -8,16 +8,19 @@ use Rattle.std.proofs.lemmas.Option.{cond_some}
 use Rattle.forms.specs.declared.TokenKind.TheVariants.{Local, Global, Label, Number, LeftParen, RightParen, Comma, Less, Greater}
 use Rattle.forms.proofs.Sound.{bind_some}
 use Rattle.forms.proofs.Exact.{some_is}
+use Rattle.ir_types.specs.declared.name.Name.{Name}
 use Rattle.ir_types.specs.declared.inst.Ty.{Ty}
 use Rattle.ir_types.specs.declared.inst.Ty.TheVariants.{Int, Ptr, Vector, Void}
 use Rattle.ir_types.specs.Sizes.{bytes_of, value_size}
+use Rattle.ir_types.specs.Offsets.{Definitions, small_size, path_offset, offset_of}
+use Rattle.ir_types.specs.TypeNodes.{TypeNode}
 use Rattle.ir_types.specs.Written.{number_of, number_at}
 use Rattle.ir_types.specs.Tree.{OperandTree, lanes}
-use Rattle.ir_types.specs.Grammar.{local_name, global_name, label, width, lanes_of, vector_type, value_type, return_type, WrittenLane, lane_digits, lane_true, lane_false, lane_poison, typed_lane, WrittenValue, named, digits, yes, no, null_word, poison_word, zeros, splat, lane_list, constant_word, value, lane_counts, width_of, lane_at, zeros_at, splat_at, lanes_at, operand_at, typed_value, typed_pair, pointer_value, index_value, target, alignment_of, alignment, align_or}
+use Rattle.ir_types.specs.Grammar.{local_name, global_name, label, width, lanes_of, vector_type, value_type, return_type, WrittenLane, lane_digits, lane_true, lane_false, lane_poison, typed_lane, WrittenValue, named, digits, yes, no, null_word, poison_word, zeros, splat, lane_list, symbol, stepped, constant_word, comma_index, constant_offset, value, lane_counts, width_of, lane_at, zeros_at, splat_at, lanes_at, operand_at, typed_value, typed_pair, pointer_value, index_value, target, alignment_of, alignment, align_or, some}
 use Rattle.ir_shape.specs.Shape.{IsName, IsOneOf, widths, IsType, IsReturnType, IsBelow, IsLane, IsOperand, IsTyped}
 use Rattle.ir_shape.proofs.Among.{of_each}
 use Rattle.ir_shape.proofs.Names.{behind_is, before_is}
-use Rattle.ir_shape.proofs.Sure.{Sure, one_sure, mark_sure, word_sure, pair_sure, either_sure, mapped_sure, made_sure, IsThere, optional_sure, behind_sure, after_mark_sure, between_sure, marked_sure, commas_sure}
+use Rattle.ir_shape.proofs.Sure.{Sure, any_sure, one_sure, mark_sure, word_sure, pair_sure, either_sure, mapped_sure, made_sure, IsThere, optional_sure, behind_sure, after_mark_sure, between_sure, marked_sure, commas_sure}
 
 -- ---- names, types and values
 
@@ -108,6 +111,8 @@ zero_fits t h = omega (arith, one_fits t h)
 abbrev pub IsValue : WrittenValue → Type 0
 IsValue (named n) = IsName n
 IsValue (lane_list xs) = 0 < length xs
+IsValue (symbol n) = IsName n
+IsValue (stepped x) = IsName x.1.0
 IsValue v = Unit {0}
 
 lane_sure : Sure typed_lane (λ x. Unit {0})
@@ -117,13 +122,20 @@ constant_sure : Sure constant_word IsValue
 unfolding constant_word
 constant_sure = either_sure (word_sure _ yes tt) (either_sure (word_sure _ no tt) (either_sure (word_sure _ null_word tt) (either_sure (word_sure _ poison_word tt) (word_sure _ zeros tt))))
 
+constant_offset_sure : Sure constant_offset (λ x. IsName x.1.0)
+unfolding constant_offset
+constant_offset_sure =
+    behind_sure (codes "getelementptr") (mapped_sure {Q = λ x. IsName x.1.0} (pair_sure any_sure (between_sure LeftParen RightParen (pair_sure any_sure (pair_sure (after_mark_sure Comma (behind_sure (codes "ptr") global_sure)) (any_sure {f = some comma_index}))))) (λ x h. h.1.1.0))
+
 pub value_sure : Sure value IsValue
 unfolding value
 value_sure =
     either_sure (mapped_sure local_sure (λ n h. h))
     (either_sure (mapped_sure (one_sure Number) (λ s u. tt))
     (either_sure constant_sure
-    (either_sure (mapped_sure (behind_sure (codes "splat") (between_sure LeftParen RightParen lane_sure)) (λ x u. tt)) (mapped_sure (between_sure Less Greater (commas_sure lane_sure)) (λ xs h. h.0)))))
+    (either_sure (mapped_sure (behind_sure (codes "splat") (between_sure LeftParen RightParen lane_sure)) (λ x u. tt))
+    (either_sure (mapped_sure (between_sure Less Greater (commas_sure lane_sure)) (λ xs h. h.0))
+    (either_sure (mapped_sure global_sure (λ n h. h)) (mapped_sure constant_offset_sure (λ x h. h)))))))
 
 lane_is : (w : ℕ) (x : WrittenLane) → IsOneOf widths w → IsLane w (lane_at w x)
 lane_is w (lane_digits s) h = number_small w s (none_below w h)
@@ -162,41 +174,56 @@ lanes_are : (t : Ty) (xs : List (Ty × WrittenLane)) (a : OperandTree) → IsTyp
 lanes_are (Vector n w) xs a i some e = subst (IsOperand (Vector n w)) (cond_some _ _ a e).1 (rw (length-map xs (λ (x : Ty × WrittenLane). lane_at w x.1)) some, each_lane w xs i.1)
 lanes_are t xs a i some e = absurd cc
 
-pub operand_is : (t : Ty) (v : WrittenValue) (a : OperandTree) → IsType t → IsValue v → operand_at t v ≡ Some a → IsOperand t a
-operand_is t (named n) a i h e = by_some t _ a e h
-operand_is t (digits s) a i h e = by_some t _ a e (number_small (width_of t) s (zero_fits t i))
-operand_is t yes a i h e = by_some t _ a e (one_fits t i)
-operand_is t no a i h e = by_some t _ a e (zero_fits t i)
-operand_is t null_word a i h e = by_some t _ a e tt
-operand_is t poison_word a i h e = by_some t _ a e tt
-operand_is t zeros a i h e = zeros_are t a i e
-operand_is t (splat x) a i h e = splat_is t x a i e
-operand_is t (lane_list xs) a i h e = lanes_are t xs a i h e
+-- steps lead over a number of bytes of 64 bits
+offset_small : (defs : Definitions) (nodes : List TypeNode) (is : List (ℕ × ℕ)) (o : ℕ) → offset_of defs nodes is ≡ Some o → IsBelow 64 o
+offset_small defs nodes [] o e = absurd cc
+offset_small defs nodes (i ∷ is) o e =
+    let s = bind_some (small_size defs nodes) _ o e in
+    let p = bind_some (path_offset defs nodes is) _ o s.2 in
+    subst (IsBelow 64) (some_is _ o p.2) (below (2 ^ 64) _ (lit< tt))
+
+stepped_is : (defs : Definitions) (t : Ty) (x : List TypeNode × (Name × List (ℕ × ℕ))) (a : OperandTree) → IsName x.1.0 → operand_at defs t (stepped x) ≡ Some a → IsOperand t a
+stepped_is defs t x a h e =
+    let o = bind_some (offset_of defs x.0 x.1.1) _ a e in
+    by_some t _ a o.2 (h, offset_small defs x.0 x.1.1 o.0 o.1)
+
+pub operand_is : (defs : Definitions) (t : Ty) (v : WrittenValue) (a : OperandTree) → IsType t → IsValue v → operand_at defs t v ≡ Some a → IsOperand t a
+operand_is defs t (named n) a i h e = by_some t _ a e h
+operand_is defs t (digits s) a i h e = by_some t _ a e (number_small (width_of t) s (zero_fits t i))
+operand_is defs t yes a i h e = by_some t _ a e (one_fits t i)
+operand_is defs t no a i h e = by_some t _ a e (zero_fits t i)
+operand_is defs t null_word a i h e = by_some t _ a e tt
+operand_is defs t poison_word a i h e = by_some t _ a e tt
+operand_is defs t zeros a i h e = zeros_are t a i e
+operand_is defs t (splat x) a i h e = splat_is t x a i e
+operand_is defs t (lane_list xs) a i h e = lanes_are t xs a i h e
+operand_is defs t (symbol n) a i h e = by_some t _ a e (h, lit< tt)
+operand_is defs t (stepped x) a i h e = stepped_is defs t x a h e
 
 -- ---- parts of instructions
 
-pub typed_sure : Sure typed_value (λ x. IsTyped x.0 x.1)
+pub typed_sure : (defs : Definitions) → Sure (typed_value defs) (λ x. IsTyped x.0 x.1)
 unfolding typed_value
-typed_sure = made_sure (pair_sure type_sure value_sure) (λ x y h e.
-    let a = bind_some (operand_at x.0 x.1) _ y e in
-    subst (λ (z : Ty × OperandTree). IsTyped z.0 z.1) (some_is _ y a.2) (h.0, operand_is x.0 x.1 a.0 h.0 h.1 a.1))
+typed_sure defs = made_sure (pair_sure type_sure value_sure) (λ x y h e.
+    let a = bind_some (operand_at defs x.0 x.1) _ y e in
+    subst (λ (z : Ty × OperandTree). IsTyped z.0 z.1) (some_is _ y a.2) (h.0, operand_is defs x.0 x.1 a.0 h.0 h.1 a.1))
 
-pub typed_pair_sure : Sure typed_pair (λ x. IsTyped x.0 x.1.0 × IsTyped x.0 x.1.1)
+pub typed_pair_sure : (defs : Definitions) → Sure (typed_pair defs) (λ x. IsTyped x.0 x.1.0 × IsTyped x.0 x.1.1)
 unfolding typed_pair
-typed_pair_sure = made_sure (pair_sure type_sure (pair_sure value_sure (after_mark_sure Comma value_sure))) (λ x y h e.
-    let a = bind_some (operand_at x.0 x.1.0) _ y e in
-    let b = bind_some (operand_at x.0 x.1.1) _ y a.2 in
-    subst (λ (z : Ty × (OperandTree × OperandTree)). IsTyped z.0 z.1.0 × IsTyped z.0 z.1.1) (some_is _ y b.2) ((h.0, operand_is x.0 x.1.0 a.0 h.0 h.1.0 a.1), (h.0, operand_is x.0 x.1.1 b.0 h.0 h.1.1 b.1)))
+typed_pair_sure defs = made_sure (pair_sure type_sure (pair_sure value_sure (after_mark_sure Comma value_sure))) (λ x y h e.
+    let a = bind_some (operand_at defs x.0 x.1.0) _ y e in
+    let b = bind_some (operand_at defs x.0 x.1.1) _ y a.2 in
+    subst (λ (z : Ty × (OperandTree × OperandTree)). IsTyped z.0 z.1.0 × IsTyped z.0 z.1.1) (some_is _ y b.2) ((h.0, operand_is defs x.0 x.1.0 a.0 h.0 h.1.0 a.1), (h.0, operand_is defs x.0 x.1.1 b.0 h.0 h.1.1 b.1)))
 
-pub pointer_sure : Sure pointer_value (IsTyped Ptr)
+pub pointer_sure : (defs : Definitions) → Sure (pointer_value defs) (IsTyped Ptr)
 unfolding pointer_value
-pointer_sure = made_sure (behind_sure (codes "ptr") value_sure) (λ v a h e. (tt, operand_is Ptr v a tt h e))
+pointer_sure defs = made_sure (behind_sure (codes "ptr") value_sure) (λ v a h e. (tt, operand_is defs Ptr v a tt h e))
 
-pub index_sure : Sure index_value (λ x. IsTyped (Int x.0) x.1)
+pub index_sure : (defs : Definitions) → Sure (index_value defs) (λ x. IsTyped (Int x.0) x.1)
 unfolding index_value
-index_sure = made_sure (pair_sure width_sure value_sure) (λ x y h e.
-    let a = bind_some (operand_at (Int x.0) x.1) _ y e in
-    subst (λ (z : ℕ × OperandTree). IsTyped (Int z.0) z.1) (some_is _ y a.2) (h.0, operand_is (Int x.0) x.1 a.0 h.0 h.1 a.1))
+index_sure defs = made_sure (pair_sure width_sure value_sure) (λ x y h e.
+    let a = bind_some (operand_at defs (Int x.0) x.1) _ y e in
+    subst (λ (z : ℕ × OperandTree). IsTyped (Int z.0) z.1) (some_is _ y a.2) (h.0, operand_is defs (Int x.0) x.1 a.0 h.0 h.1 a.1))
 
 pub target_sure : Sure target IsName
 unfolding target

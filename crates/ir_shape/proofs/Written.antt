@@ -7,7 +7,8 @@ use Rattle.forms.specs.Form.{Form}
 use Rattle.forms.proofs.Sound.{bind_some}
 use Rattle.forms.proofs.Exact.{some_is}
 use Rattle.ir_types.specs.declared.name.Name.{Name}
-use Rattle.ir_types.specs.declared.inst.InstKind.{InstKind}
+use Rattle.ir_types.specs.Kinds.{Kind}
+use Rattle.ir_types.specs.Offsets.{Definitions}
 use Rattle.ir_types.specs.Written.{name_behind}
 use Rattle.ir_types.specs.Tree.{InstTree, WrittenParam, WrittenBlock}
 use Rattle.ir_types.specs.Grammar.{inst_attachments, operation, terminator, named_by, line, block, kept}
@@ -46,11 +47,11 @@ renamed i o h = record { args = h.args; labels = h.labels; count = h.count; resu
 written : (i : InstTree) (o : Option Name) → IsPlain i → IsNameThere o → IsWrittenInst (named_by i o)
 written i o h g = record { body = renamed i o h.body; result = g; attachments = h.attachments }
 
-operation_line_sure : Sure (line operation) IsOperationLine
-operation_line_sure = line_sure operation_sure (λ i o h g. record { inst = written i o h.plain g; goes_on = h.goes_on })
+operation_line_sure : (defs : Definitions) → Sure (line (operation defs)) IsOperationLine
+operation_line_sure defs = line_sure (operation_sure defs) (λ i o h g. record { inst = written i o h.plain g; goes_on = h.goes_on })
 
-terminator_line_sure : Sure (line terminator) IsTerminatorLine
-terminator_line_sure = line_sure terminator_sure (λ i o h g. record { inst = written i o h.plain g; ends = h.ends })
+terminator_line_sure : (defs : Definitions) → Sure (line (terminator defs)) IsTerminatorLine
+terminator_line_sure defs = line_sure (terminator_sure defs) (λ i o h g. record { inst = written i o h.plain g; ends = h.ends })
 
 -- ---- blocks
 
@@ -69,7 +70,7 @@ all_insts [] last h g = (g.inst, tt)
 all_insts (i ∷ is) last h g = (h.0.inst, all_insts is last h.1 g)
 
 -- something stands behind
-ends_behind : (k : InstKind) (is : List InstTree) (last : InstTree) → ¬ IsTerminator k → EndsOnce (map (λ i. i.kind) (is ++ last ∷ [])) → EndsOnce (k ∷ map (λ i. i.kind) (is ++ last ∷ []))
+ends_behind : (k : Kind) (is : List InstTree) (last : InstTree) → ¬ IsTerminator k → EndsOnce (map (λ i. i.kind) (is ++ last ∷ [])) → EndsOnce (k ∷ map (λ i. i.kind) (is ++ last ∷ []))
 ends_behind k [] last n h = (n, h)
 ends_behind k (i ∷ is) last n h = (n, h)
 
@@ -81,9 +82,9 @@ pub there_name : (o : Option Name) → IsThere IsName o → IsNameThere o
 there_name None h = tt
 there_name (Some n) h = h
 
-pub block_sure : Sure block IsWrittenBlock
+pub block_sure : (defs : Definitions) → Sure (block defs) IsWrittenBlock
 unfolding block
-block_sure = mapped_sure (pair_sure (optional_sure label_sure) (pair_sure (many_sure operation_line_sure) terminator_line_sure)) (λ x h. record {
+block_sure defs = mapped_sure (pair_sure (optional_sure label_sure) (pair_sure (many_sure (operation_line_sure defs)) (terminator_line_sure defs))) (λ x h. record {
   name = there_name x.0 h.0;
   insts = all_insts x.1.0 x.1.1 h.1.0 h.1.1;
   ending = ending_of x.1.0 x.1.1 h.1.0 h.1.1;

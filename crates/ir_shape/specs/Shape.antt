@@ -9,18 +9,19 @@ use Rattle.text_lex.specs.KeptText.{token_of, IsToken}
 use Rattle.ir_types.specs.declared.name.Name.{Name}
 use Rattle.ir_types.specs.declared.name.Name.TheVariants.{Text, Number}
 use Rattle.ir_types.specs.declared.inst.Ty.{Ty}
-use Rattle.ir_types.specs.declared.inst.Ty.TheVariants.{Vector, Void}
+use Rattle.ir_types.specs.declared.inst.Ty.TheVariants.{Int, Ptr, Vector, Void}
 use Rattle.ir_types.specs.declared.inst.BinOp.{BinOp}
 use Rattle.ir_types.specs.declared.inst.BinOp.TheVariants.{Add, Sub, Mul, Shl, UDiv, SDiv, LShr, AShr, Or}
 use Rattle.ir_types.specs.declared.inst.Flags.{Flags}
-use Rattle.ir_types.specs.declared.inst.InstKind.{InstKind}
-use Rattle.ir_types.specs.declared.inst.InstKind.TheVariants.{Binary, Compare, Phi, Load, Store, Extract, Shuffle, Jump, Branch, Switch, ReturnVoid, Return, Unreachable}
+use Rattle.ir_types.specs.declared.call.Actual.{Actual}
+use Rattle.ir_types.specs.declared.call.Callee.{Callee}
+use Rattle.ir_types.specs.declared.call.Signature.{Signature}
+use Rattle.ir_types.specs.Kinds.{Kind, Binary, Compare, Select, Freeze, Trunc, Zext, Sext, PtrToInt, Phi, Offset, Load, Store, Call, Extract, Insert, Shuffle, Jump, Branch, Switch, ReturnVoid, Return, Unreachable}
 pub use Rattle.ir_types.specs.Types.{IsOneOf, widths, IsType}
 use Rattle.ir_types.specs.TypeNodes.{TypeNode, scalar, called, array, opening, closing}
 use Rattle.ir_types.specs.Collected.{collected}
-use Rattle.ir_types.specs.Meaning.{operand_types}
 use Rattle.ir_types.specs.Grammar.{width_of, bits_for, element_of, shuffled, no_flags, wrap_flags, exact_flag, disjoint_flag, inst_attachments, kept, equal_string, target_line, attribute_group, comdat, metadata, behind_type}
-use Rattle.ir_types.specs.Tree.{KeptTexts, OperandTree, local, number, null, poison, lanes, InstTree, BlockTree, ParamTree, FunctionTree, ModuleTree, VariableTree, Item, head_line, comdat_line, type_item, variable_item, function_item, attribute_line, metadata_line}
+use Rattle.ir_types.specs.Tree.{KeptTexts, OperandTree, local, number, null, poison, lanes, global, InstTree, BlockTree, ParamTree, FunctionTree, ModuleTree, VariableTree, Item, head_line, comdat_line, type_item, variable_item, function_item, attribute_line, metadata_line}
 
 -- a number as a name has 32 bits
 abbrev pub IsName : Name → Type 0
@@ -36,6 +37,21 @@ IsReturnType t = IsType t
 pub record IsKept (form : Form KeptTexts) (xs : KeptTexts) : Type 0 where
   pub spelled : Spells form xs (map token_of xs)
   pub tokens : AllByRecursion IsToken xs
+
+-- ---- memory types
+
+-- a node of a memory type as it can be written
+abbrev pub IsNode : TypeNode → Type 0
+IsNode (scalar t) = IsType t
+IsNode (called n) = IsName n
+IsNode (array n) = n < 2 ^ 64
+IsNode (opening packed) = Unit {0}
+IsNode closing = Unit {0}
+
+-- nodes of a memory type: there is one at least, and each can be written
+pub record IsMemory (nodes : List TypeNode) : Type 0 where
+  pub some : 0 < length nodes
+  pub each : AllByRecursion IsNode nodes
 
 -- ---- instructions
 
@@ -53,25 +69,46 @@ abbrev pub AreLanes : Ty → List (Option ℕ) → Type 0
 AreLanes (Vector n w) xs = (0 < length xs) × AllByRecursion (IsLane w) xs
 AreLanes t xs = ⊥
 
--- a name, a number of the type, `null`, `poison`, or lanes
+-- a name, a number of the type, `null`, `poison`, lanes, or a symbol and a number of bytes of 64 bits
 abbrev pub IsOperand : Ty → OperandTree → Type 0
 IsOperand t (local n) = IsName n
 IsOperand t (number v) = IsBelow (width_of t) v
 IsOperand t null = Unit {0}
 IsOperand t poison = Unit {0}
 IsOperand t (lanes xs) = AreLanes t xs
+IsOperand t (global n bytes) = IsName n × IsBelow 64 bytes
 
 -- a type that is written, and an operand at it
 abbrev pub IsTyped : Ty → OperandTree → Type 0
 IsTyped t a = IsType t × IsOperand t a
 
 -- the types of so many operands: those of a phi's entries are the result's
-abbrev pub types_of_operands : InstKind → Ty → ℕ → List Ty
+abbrev pub types_of_operands : Kind → Ty → ℕ → List Ty
+types_of_operands (Binary op flags) t n = t ∷ t ∷ []
+types_of_operands (Compare p of) t n = of ∷ of ∷ []
+types_of_operands (Select condition last) t n = condition ∷ t ∷ last ∷ []
+types_of_operands Freeze t n = t ∷ []
+types_of_operands (Trunc from nuw nsw) t n = from ∷ []
+types_of_operands (Zext from nneg) t n = from ∷ []
+types_of_operands (Sext from) t n = from ∷ []
+types_of_operands PtrToInt t n = Ptr ∷ []
 types_of_operands Phi t n = replicate n t
-types_of_operands kind t n = operand_types kind t
+types_of_operands (Offset nodes indexes inbounds nuw nusw) t n = Ptr ∷ map Int indexes
+types_of_operands (Load align) t n = Ptr ∷ []
+types_of_operands (Store of align) t n = of ∷ Ptr ∷ []
+types_of_operands (Call callee) t n = map (λ a. a.ty) callee.actuals
+types_of_operands (Extract of width) t n = of ∷ Int width ∷ []
+types_of_operands (Insert element width) t n = t ∷ element ∷ Int width ∷ []
+types_of_operands (Shuffle one other mask) t n = one ∷ other ∷ mask ∷ []
+types_of_operands Jump t n = []
+types_of_operands Branch t n = Int 1 ∷ []
+types_of_operands (Switch width cases) t n = Int width ∷ []
+types_of_operands ReturnVoid t n = []
+types_of_operands (Return of) t n = of ∷ []
+types_of_operands Unreachable t n = []
 
 -- how many labels an instruction with so many operands has
-abbrev pub label_count : InstKind → ℕ → ℕ
+abbrev pub label_count : Kind → ℕ → ℕ
 label_count Phi n = n
 label_count Jump n = 1
 label_count Branch n = 2
@@ -79,7 +116,7 @@ label_count (Switch w cases) n = suc (length cases)
 label_count kind n = 0
 
 -- an instruction ends a block
-abbrev pub IsTerminator : InstKind → Type 0
+abbrev pub IsTerminator : Kind → Type 0
 IsTerminator Jump = Unit {0}
 IsTerminator Branch = Unit {0}
 IsTerminator (Switch w cases) = Unit {0}
@@ -88,9 +125,11 @@ IsTerminator (Return u) = Unit {0}
 IsTerminator Unreachable = Unit {0}
 IsTerminator kind = ⊥
 
--- the result's type: one that follows from the operands', or one that is written; none of a store and a terminator
-abbrev pub HasResult : InstKind → Ty → Type 0
+-- the result's type: one that follows from the operands', or one that is written, for a call perhaps `Void`; none of a store and a terminator
+abbrev pub HasResult : Kind → Ty → Type 0
 HasResult (Compare p u) t = t ≡ bits_for u
+HasResult (Offset nodes indexes inbounds nuw nusw) t = t ≡ Ptr
+HasResult (Call callee) t = IsReturnType t
 HasResult (Extract u w) t = t ≡ element_of u
 HasResult (Shuffle u v mask) t = t ≡ shuffled u mask
 HasResult (Store u n) t = t ≡ Void
@@ -115,12 +154,28 @@ HasFlags AShr f = f ≡ exact_flag f.exact
 HasFlags Or f = f ≡ disjoint_flag f.disjoint
 HasFlags op f = f ≡ no_flags
 
--- what else is known of an instruction with so many operands: its flags, its alignment, that there is an entry, that cases are numbers of their type
-abbrev pub HasParts : InstKind → ℕ → Type 0
+-- the types that a call writes before the function's name, where it writes them
+abbrev pub IsSignature : Option Signature → Type 0
+IsSignature None = Unit {0}
+IsSignature (Some s) = AllByRecursion IsType s.params
+
+-- what is called: its name, the types that are written, and what is kept before its result's type, behind each argument's type and behind all
+pub record IsCallee (c : Callee) : Type 0 where
+  pub before : IsKept kept c.before
+  pub signature : IsSignature c.signature
+  pub name : IsName c.name
+  pub actuals : AllByRecursion (λ (a : Actual). IsKept kept a.kept) c.actuals
+  pub after : IsKept kept c.after
+
+-- what else is known of an instruction with so many operands: its flags, its memory type, its alignment, that there is an entry or an index, that
+-- cases are numbers of their type, and what is called
+abbrev pub HasParts : Kind → ℕ → Type 0
 HasParts (Binary op f) n = HasFlags op f
 HasParts Phi n = 0 < n
+HasParts (Offset nodes indexes inbounds nuw nusw) n = IsMemory nodes × (0 < length indexes)
 HasParts (Load align) n = IsBelow 64 align
 HasParts (Store u align) n = IsBelow 64 align
+HasParts (Call callee) n = IsCallee callee
 HasParts (Switch w cases) n = AllByRecursion (IsBelow w) cases
 HasParts kind n = Unit {0}
 
@@ -151,7 +206,7 @@ pub record IsInst (i : InstTree) : Type 0 where
   pub attachments : IsKept inst_attachments i.kept
 
 -- a terminator is the last instruction, and no other is one
-abbrev pub EndsOnce : List InstKind → Type 0
+abbrev pub EndsOnce : List Kind → Type 0
 EndsOnce [] = ⊥
 EndsOnce (k ∷ []) = IsTerminator k
 EndsOnce (k ∷ l ∷ ks) = (¬ IsTerminator k) × EndsOnce (l ∷ ks)
@@ -199,19 +254,6 @@ pub record IsFunction (f : FunctionTree) : Type 0 where
   pub fixed : f.varargs ≡ true → f.body ≡ []
   pub after : IsKept (after_form f.body) f.after
   pub blocks : AllByRecursion IsBlock f.body
-
--- a node of a memory type as it can be written
-abbrev pub IsNode : TypeNode → Type 0
-IsNode (scalar t) = IsType t
-IsNode (called n) = IsName n
-IsNode (array n) = n < 2 ^ 64
-IsNode (opening packed) = Unit {0}
-IsNode closing = Unit {0}
-
--- nodes of a memory type: there is one at least, and each can be written
-pub record IsMemory (nodes : List TypeNode) : Type 0 where
-  pub some : 0 < length nodes
-  pub each : AllByRecursion IsNode nodes
 
 -- the type of a definition, where it is not opaque
 abbrev pub IsDefinition : Option (List TypeNode) → Type 0
