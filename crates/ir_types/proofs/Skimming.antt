@@ -16,7 +16,7 @@ use Rattle.ir_types.specs.TypeNodes.{TypeNode}
 use Rattle.ir_types.specs.Offsets.{Definitions, as_definition, definitions_in}
 use Rattle.ir_types.specs.Tree.{KeptTexts, WrittenParam, WrittenBlock, WrittenFunction, Item, head_line, comdat_line, type_item, variable_item, function_item, attribute_line, metadata_line}
 use Rattle.ir_types.specs.Grammar.{between, some, list, return_type, global_name, parameter, kept, block, defined_tree, defined_function, item_words, item_behind, item, memory_type, module_form, SpellsModule}
-use Rattle.ir_types.specs.Skimmed.{Skimmed, skimmed_tree, skimmed_definition, as_it_is, skimmed_behind, wordless_item, skimmed_item, skimmed_module, body_read, with_body, with_body_of_item, with_bodies, with_own_bodies, items_spelled}
+use Rattle.ir_types.specs.Skimmed.{Skimmed, skimmed_tree, skimmed_definition, as_it_is, skimmed_behind, wordless_item, skimmed_item, skimmed_module, body_read, with_body, with_body_of_item, with_bodies, with_own_bodies, items_read}
 use Rattle.ir_types.proofs.Balanced.{body_later}
 use Rattle.ir_types.proofs.Decides.{module_decides}
 use Rattle.ir_types.proofs.Later.{Later, second, into, pair_later, mapped_later, at_once, word_later, each, each_later, whole_later}
@@ -57,9 +57,9 @@ parts_later defs =
     pair_later kept (from_type (body defs)) (from_type body_tokens) (second (second (second (second read_later)))) type_too
 
 -- A defined function is read as it is skimmed, and then with its body.
-pub definition_later : (defs : Definitions) → Later (defined_function defs) skimmed_definition (with_body defs)
+pub function_later : (defs : Definitions) → Later (defined_function defs) skimmed_definition (with_body defs)
 unfolding defined_function skimmed_definition
-definition_later defs =
+function_later defs =
     mapped_later (pair kept (from_type (body defs))) (pair kept (from_type body_tokens)) (with_last (body_read defs)) defined_tree skimmed_tree (with_body defs) (parts_later defs) (λ x. same x (body_read defs x.1.1.1.1.1))
   where
     same : (x : KeptTexts × (Ty × (Name × (List WrittenParam × (KeptTexts × List Lexeme))))) (o : Option (List WrittenBlock))
@@ -85,7 +85,7 @@ behind_later : (defs : Definitions) (w : ItemWord) → Later (item_behind defs w
 behind_later defs items.SourceFilename = no_body defs (item_behind [] items.SourceFilename)
 behind_later defs items.Target = no_body defs (item_behind [] items.Target)
 behind_later defs items.Declare = no_body defs (item_behind [] items.Declare)
-behind_later defs items.Define = mapped_later (defined_function defs) skimmed_definition (with_body defs) function_item function_item (with_body_of_item defs) (definition_later defs) (λ s. refl)
+behind_later defs items.Define = mapped_later (defined_function defs) skimmed_definition (with_body defs) function_item function_item (with_body_of_item defs) (function_later defs) (λ s. refl)
 behind_later defs items.Attributes = no_body defs (item_behind [] items.Attributes)
 
 -- An item is read as it is skimmed, and then with its body.
@@ -143,17 +143,26 @@ same_definitions defs (s ∷ more) written e =
 
 -- ---- what tokens spell
 
+-- what the tokens are skimmed to, and with which bodies
+pub record Skims (written : List (Item WrittenFunction)) (ts : List Lexeme) : Type 0 where
+  pub items : List (Item Skimmed)
+  pub read : read_whole (skimmed_module (length ts)) ts ≡ Some items
+  pub bodies : with_own_bodies items ≡ Some written
+
+pub skims_from : (written : List (Item WrittenFunction)) (ts : List Lexeme) → items_read ts ≡ Some written → Skims written ts
+skims_from written ts e = let s = bind_some (read_whole (skimmed_module (length ts)) ts) with_own_bodies written e in record { items = s.0; read = s.1; bodies = s.2 }
+
 -- Skimmed items, with their bodies, are spelled by the tokens.
-pub bodies_spelled : (ts : List Lexeme) (skimmed : List (Item Skimmed)) (written : List (Item WrittenFunction)) → read_whole (skimmed_module (length ts)) ts ≡ Some skimmed → with_own_bodies skimmed ≡ Some written → SpellsModule written ts
-bodies_spelled ts skimmed written r b =
+pub skims_spelled : (written : List (Item WrittenFunction)) (ts : List Lexeme) → Skims written ts → SpellsModule written ts
+skims_spelled written ts s =
     let defs = definitions_in written in
     let d = length ts in
-    let own : with_bodies defs skimmed ≡ Some written = ap (λ (l : Definitions). with_bodies l skimmed) (same_definitions (definitions_in skimmed) skimmed written b) ∙ b in
-    read_spells (module_form defs d) (module_decides defs d) written ts (whole_module_later defs d ts ∙ rw r own)
+    let own : with_bodies defs s.items ≡ Some written = ap (λ (l : Definitions). with_bodies l s.items) (same_definitions (definitions_in s.items) s.items written s.bodies) ∙ s.bodies in
+    read_spells (module_form defs d) (module_decides defs d) written ts (whole_module_later defs d ts ∙ rw s.read own)
 
 -- What the tokens spell is found by skimming them.
-pub spelled_skimmed : (ts : List Lexeme) (written : List (Item WrittenFunction)) → SpellsModule written ts → items_spelled ts ≡ Some written
-spelled_skimmed ts written s =
+pub spelled_found : (written : List (Item WrittenFunction)) (ts : List Lexeme) → SpellsModule written ts → items_read ts ≡ Some written
+spelled_found written ts s =
     let defs = definitions_in written in
     let d = length ts in
     let e = sym (whole_module_later defs d ts) ∙ spells_read (module_form defs d) (module_decides defs d) written ts s in
@@ -162,23 +171,21 @@ spelled_skimmed ts written s =
     rw b.1 own
 
 -- What is found by skimming the tokens is spelled by them.
-pub skimmed_spelled : (ts : List Lexeme) (written : List (Item WrittenFunction)) → items_spelled ts ≡ Some written → SpellsModule written ts
-skimmed_spelled ts written e =
-    let b = bind_some (read_whole (skimmed_module (length ts)) ts) with_own_bodies written e in
-    bodies_spelled ts b.0 written b.1 b.2
+pub found_spelled : (written : List (Item WrittenFunction)) (ts : List Lexeme) → items_read ts ≡ Some written → SpellsModule written ts
+found_spelled written ts e = skims_spelled written ts (skims_from written ts e)
 
--- Where nothing is found by skimming the tokens, they spell no items.
-pub none_spelled : (ts : List Lexeme) → items_spelled ts ≡ None → (written : List (Item WrittenFunction)) → SpellsModule written ts → ⊥
-none_spelled ts e written s = let f = spelled_skimmed ts written s in cc
+-- Where nothing is found so, the tokens spell no items:
+pub none_spelled : (ts : List Lexeme) → items_read ts ≡ None → (written : List (Item WrittenFunction)) → SpellsModule written ts → ⊥
+none_spelled ts e written s = let f = spelled_found written ts s in cc
 
--- the tokens can't be skimmed
+-- they can't be skimmed,
 pub none_skimmed : (ts : List Lexeme) → read_whole (skimmed_module (length ts)) ts ≡ None → (written : List (Item WrittenFunction)) → SpellsModule written ts → ⊥
 none_skimmed ts e = none_spelled ts (rw e refl)
 
--- a body spells no blocks
+-- or some body spells no blocks.
 pub no_bodies : (ts : List Lexeme) (skimmed : List (Item Skimmed)) → read_whole (skimmed_module (length ts)) ts ≡ Some skimmed → with_own_bodies skimmed ≡ None → (written : List (Item WrittenFunction)) → SpellsModule written ts → ⊥
 no_bodies ts skimmed r b = none_spelled ts (rw r b)
 
 -- The same tokens spell the items of one module.
-pub one_spelling : (ts : List Lexeme) (written other : List (Item WrittenFunction)) → SpellsModule written ts → SpellsModule other ts → written ≡ other
-one_spelling ts written other s r = some_is written other (sym (spelled_skimmed ts written s) ∙ spelled_skimmed ts other r)
+pub one_spelling : (one other : List (Item WrittenFunction)) (ts : List Lexeme) → SpellsModule one ts → SpellsModule other ts → one ≡ other
+one_spelling one other ts s r = some_is one other (sym (spelled_found one ts s) ∙ spelled_found other ts r)

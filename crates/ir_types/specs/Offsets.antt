@@ -1,5 +1,5 @@
 -- How many bytes behind a symbol a constant `getelementptr` stands. (LLVM's Language Reference, "'getelementptr' Instruction".)
-use Rattle.std.specs.Prelude.{ℕ, zero, suc, ◌+◌, ◌-◌, ◌*◌, ◌%◌, ◌^◌, Bool, true, false, nat_lt, ◌==◌, List, [], ◌∷◌, ◌++◌, length, map, take, find, slice_get, sum_by, Option, Some, None, if◌then◌else◌}
+use Rattle.std.specs.Prelude.{ℕ, zero, suc, ◌+◌, ◌-◌, ◌*◌, ◌%◌, ◌^◌, Bool, true, false, nat_lt, List, [], ◌∷◌, ◌++◌, length, map, take, find, slice_get, sum_by, Option, Some, None, if◌then◌else◌}
 use Rattle.std.specs.List.{filter_map}
 use Rattle.forms.specs.Bind.{◌>>=◌}
 use Rattle.forms.specs.Nested.{concat}

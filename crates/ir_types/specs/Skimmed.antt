@@ -97,5 +97,5 @@ abbrev pub with_own_bodies : List (Item Skimmed) → Option (List (Item WrittenF
 with_own_bodies skimmed = with_bodies (definitions_in skimmed) skimmed
 
 -- the items that all of the tokens spell: first skimmed, and then with their bodies (proofs/Skimming: they are those of `SpellsModule`)
-abbrev pub items_spelled : List Lexeme → Option (List (Item WrittenFunction))
-items_spelled tokens = read_whole (skimmed_module (length tokens)) tokens >>= with_own_bodies
+abbrev pub items_read : List Lexeme → Option (List (Item WrittenFunction))
+items_read tokens = read_whole (skimmed_module (length tokens)) tokens >>= with_own_bodies
