@@ -1,5 +1,5 @@
 -- A text reads as at most one module, up to the positions of names and types.
-use Rattle.std.proofs.Common.{◌≡◌, ℕ, length, List, Some, None, sym, ap, ◌∙◌, subst}
+use Rattle.std.proofs.Common.{◌≡◌, ℕ, List, Some, None, sym, ap, ◌∙◌, subst}
 use Rattle.forms.specs.Form.{Lexeme}
 use Rattle.forms.specs.Lexical.{StopsAt, Lexes}
 use Rattle.forms.proofs.Exact.{some_is}
@@ -10,7 +10,7 @@ use Rattle.ir_types.specs.Grammar.{SpellsModule}
 use Rattle.ir_types.specs.Numbered.{numbered_module}
 use Rattle.ir_types.specs.Collected.{collected}
 use Rattle.ir_types.specs.Reads.{Reads, SameModule}
-use Rattle.ir_types.specs.Tree.{FunctionTree, WrittenFunction, Item, ModuleTree}
+use Rattle.ir_types.specs.Tree.{FunctionTree, WrittenFunction, Item}
 use Rattle.ir_types.proofs.Skimming.{one_spelling}
 
 same_numbered : (w v : List (Item WrittenFunction)) (a b : List (Item FunctionTree)) → w ≡ v → numbered_module w ≡ Some a → numbered_module v ≡ Some b → a ≡ b
