@@ -1,5 +1,5 @@
 -- Modules of one tree, with the local names in other positions of their tables, run alike.
-use Rattle.std.proofs.Common.{◌≡◌, ℕ, zero, suc, ◌+◌, List, [], ◌∷◌, length, Option, Some, None, slice_get, find, refl, sym, ap, subst}
+use Rattle.std.proofs.Common.{◌≡◌, ℕ, zero, suc, ◌+◌, List, [], ◌∷◌, length, Option, Some, None, slice_get, find, refl, sym, ap, ◌∙◌, subst}
 use Rattle.std.specs.List.{AllZip, AllByRecursion}
 use Rattle.forms.specs.Bind.{◌>>=◌}
 use Rattle.ir_types.specs.declared.name.Name.{Name}
@@ -19,7 +19,7 @@ use Rattle.ir_types.specs.Runs.{run, seen}
 use Rattle.ir_shape.specs.Placed.{IsPlaced}
 use Rattle.ir_laws.proofs.Pairs.{Both, both_none, both_some, both-bind, zip-get, zip-find, zip-while, zip-length}
 use Rattle.ir_laws.proofs.Positions.{SameId, same-test, SameInst, SameBlock, SameFunction, SameFunctions, same-functions}
-use Rattle.ir_laws.proofs.AlikeValues.{SameValues, SameEffect, same_sets, same_goes, same_leaves, same_fails, same_waits, effect-same, result-same, phis-same, arguments-same}
+use Rattle.ir_laws.proofs.AlikeValues.{SameValues, SameEffect, same_sets, same_goes, same_leaves, same_fails, same_waits, is_phi-kept, effect-same, result-same, phis-same, arguments-same}
 
 -- ---- frames and states
 
@@ -47,7 +47,7 @@ module _ (f g : Function) (s : SameFunction f g) where
   block-same i j h = zip-find (SameBlock f.names g.names) (λ b. same_id b.name i) (λ c. same_id c.name j) (λ b c t. same-test f.names g.names s.table s.table' b.name c.name i j t.name h) f.body g.body s.body
 
   phi-test : (i j : Inst) → SameInst f.names g.names i j → is_phi i.kind ≡ is_phi j.kind
-  phi-test i j t = ap is_phi t.kind
+  phi-test i j t = sym (is_phi-kept i.kind) ∙ ap is_phi t.kind ∙ is_phi-kept j.kind
 
   head-same : (b c : Block) → SameBlock f.names g.names b c → AllZip (SameInst f.names g.names) (phis_of b) (phis_of c)
   head-same b c t = zip-while (SameInst f.names g.names) (λ i. is_phi i.kind) (λ j. is_phi j.kind) phi-test b.insts c.insts t.insts

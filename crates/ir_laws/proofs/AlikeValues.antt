@@ -1,27 +1,28 @@
 -- What instructions ask for, where positions that name the same have the same values.
-use Rattle.std.proofs.Common.{◌≡◌, Bool, true, false, cond, nat_eq, List, [], ◌∷◌, Option, Some, None, refl, ap, ◌∙◌, subst}
+use Rattle.std.proofs.Common.{◌≡◌, Bool, true, false, cond, nat_eq, List, [], ◌∷◌, Option, Some, None, refl, sym, ap, ◌∙◌, subst, subst₂}
 use Rattle.std.specs.List.{AllZip}
 use Rattle.forms.specs.Bind.{◌>>=◌}
 use Rattle.ir_types.specs.declared.name.Name.{Name}
 use Rattle.ir_types.specs.declared.name.ValueId.{ValueId}
 use Rattle.ir_types.specs.declared.inst.Ty.{Ty}
-use Rattle.ir_types.specs.declared.inst.Ty.TheVariants.{Int as IntTy, Ptr as PtrTy, Vector, Void}
+use Rattle.ir_types.specs.declared.inst.Ty.TheVariants.{Int as IntTy}
 use Rattle.ir_types.specs.declared.inst.Operand.{Operand}
-use Rattle.ir_types.specs.declared.inst.BinOp.TheVariants.{Add}
 use Rattle.ir_types.specs.declared.inst.InstKind.{InstKind}
-use Rattle.ir_types.specs.declared.inst.InstKind.TheVariants.{Binary, Compare, Jump, Branch, Return, ReturnVoid}
+use Rattle.ir_types.specs.declared.inst.InstKind.TheVariants.{Binary, Compare, Offset, Jump, Branch, Return, ReturnVoid}
 use Rattle.ir_types.specs.declared.inst.Inst.{Inst}
 use Rattle.ir_types.specs.declared.module.Module.{Module}
 use Rattle.ir_types.specs.declared.module.Param.{Param}
 use Rattle.ir_types.specs.declared.value.Value.{Value}
+use Rattle.ir_types.specs.declared.value.Outcome.{Outcome}
+use Rattle.ir_types.specs.declared.value.Outcome.TheVariants.{Value as Result, Undefined}
 use Rattle.ir_types.specs.declared.value.Value.TheVariants.{Int, Ptr, Poison, Lanes}
 use Rattle.ir_types.specs.Names.{IsTable}
-use Rattle.ir_types.specs.Values.{typed, Typed}
+use Rattle.ir_types.specs.Values.{typed, Typed, combined}
 use Rattle.ir_types.specs.Memory.{Memory}
 use Rattle.ir_types.specs.State.{Env, same_id, set_value}
-use Rattle.ir_types.specs.Meaning.{operand_value, operand_types, values_of, Effect, Sets, Goes, Leaves, Fails, Waits, branched, effect_of, effect_with, effect_in, entry_for, phi_value, set_result, after_phis, arguments_in}
+use Rattle.ir_types.specs.Meaning.{operand_value, operand_types, values_of, Effect, Sets, Goes, Leaves, Fails, Waits, gives, branched, is_phi, effect_of, effect_with, effect_in, entry_for, phi_value, set_result, after_phis, arguments_in}
 use Rattle.ir_laws.proofs.Pairs.{Both, both_none, both_some, both-equal, both-same}
-use Rattle.ir_laws.proofs.Positions.{SameId, same-test, SameOperand, same_local, same_int, SameInst, SameParam}
+use Rattle.ir_laws.proofs.Positions.{SameId, same-test, SameOperand, same_local, same_int, same_null, same_poison, same_lanes, same_global, but_type, SameInst, SameParam}
 
 -- positions that name the same have the same values
 pub record SameValues (ns ns' : List Name) (env env' : Env) : Type 0 where
@@ -41,6 +42,20 @@ choice R true true e p q = p
 choice R true false e p q = absurd (cc)
 choice R false true e p q = absurd (cc)
 choice R false false e p q = q
+
+-- ---- the place of a memory type counts for nothing
+
+pub is_phi-kept : (kind : InstKind) → is_phi (but_type kind) ≡ is_phi kind
+is_phi-kept (Offset id widths inbounds nuw nusw) = refl
+is_phi-kept kind = refl
+
+types-kept : (kind : InstKind) (ty : Ty) → operand_types (but_type kind) ty ≡ operand_types kind ty
+types-kept (Offset id widths inbounds nuw nusw) ty = refl
+types-kept kind ty = refl
+
+effect-kept : (m : Module) (memory : Memory) (kind : InstKind) (ty : Ty) (labels : List ValueId) (values : List Value) → effect_of m memory (but_type kind) ty labels values ≡ effect_of m memory kind ty labels values
+effect-kept m memory (Offset id widths inbounds nuw nusw) ty labels values = refl
+effect-kept m memory kind ty labels values = refl
 
 -- ---- names that get a value
 
@@ -65,6 +80,10 @@ module _ (m m' : Module) (memory : Memory) (ns ns' : List Name) where
   operand-same : (env env' : Env) → SameValues ns ns' env env' → (ty : Ty) (a b : Operand) → SameOperand ns ns' a b → operand_value m memory env ty a ≡ operand_value m' memory env' ty b
   operand-same env env' h ty a b (same_local {i = i} {j = j} s) = ap (λ o. o >>= typed ty) (h.at i j s)
   operand-same env env' h ty a b same_int = refl
+  operand-same env env' h ty a b same_null = refl
+  operand-same env env' h ty a b same_poison = refl
+  operand-same env env' h ty a b same_lanes = refl
+  operand-same env env' h ty a b same_global = refl
 
   values-same : (env env' : Env) → SameValues ns ns' env env' → (types : List Ty) (args args' : List Operand) → AllZip (SameOperand ns ns') args args' → values_of m memory env types args ≡ values_of m' memory env' types args'
   values-same env env' h types [] (b ∷ others) s = absurd s
@@ -77,6 +96,11 @@ module _ (m m' : Module) (memory : Memory) (ns ns' : List Name) where
       ∙ ap (λ o. operand_value m' memory env' ty b >>= λ v. o >>= λ vs. Some (v ∷ vs)) (values-same env env' h types more others s.1)
 
   -- ---- effects
+
+  gives-same : (o : Option Outcome) → SameEffect ns ns' (gives o) (gives o)
+  gives-same None = same_waits
+  gives-same (Some (Result v)) = same_sets
+  gives-same (Some Undefined) = same_fails
 
   branched-same : (labels labels' : List ValueId) (v : Value) → AllZip (SameId ns ns') labels labels' → SameEffect ns ns' (branched labels v) (branched labels' v)
   branched-same [] [] v h = same_waits
@@ -94,10 +118,7 @@ module _ (m m' : Module) (memory : Memory) (ns ns' : List Name) where
   branched-same (i ∷ k ∷ n ∷ ks) (j ∷ l ∷ m ∷ ms) v h = same_waits
 
   effect_of-same : (kind : InstKind) (ty : Ty) (labels labels' : List ValueId) (values : List Value) → AllZip (SameId ns ns') labels labels' → SameEffect ns ns' (effect_of m memory kind ty labels values) (effect_of m' memory kind ty labels' values)
-  effect_of-same (Binary Add) (IntTy w) labels labels' (x ∷ y ∷ []) h = same_sets
-  effect_of-same (Binary Add) PtrTy labels labels' values h = same_waits
-  effect_of-same (Binary Add) (Vector n w) labels labels' values h = same_waits
-  effect_of-same (Binary Add) Void labels labels' values h = same_waits
+  effect_of-same (Binary op flags) (IntTy w) labels labels' (x ∷ y ∷ []) h = gives-same (combined op flags x y)
   effect_of-same (Compare p (IntTy w)) ty labels labels' (x ∷ y ∷ []) h = same_sets
   effect_of-same Branch ty labels labels' (x ∷ []) h = branched-same labels labels' x h
   effect_of-same (Return of) ty labels labels' (x ∷ []) h = same_leaves
@@ -113,12 +134,14 @@ module _ (m m' : Module) (memory : Memory) (ns ns' : List Name) where
   effect_with-same : (i j : Inst) → SameInst ns ns' i j → (o : Option (List Value)) → SameEffect ns ns' (effect_with m memory i o) (effect_with m' memory j o)
   effect_with-same i j s None = same_waits
   effect_with-same i j s (Some values) =
-      subst (λ k. SameEffect ns ns' (effect_of m memory i.kind i.ty i.labels values) (effect_of m' memory k j.ty j.labels values)) s.kind
-      (subst (λ t. SameEffect ns ns' (effect_of m memory i.kind i.ty i.labels values) (effect_of m' memory i.kind t j.labels values)) s.ty
-      (effect_of-same i.kind i.ty i.labels j.labels values s.labels))
+      let e = effect-kept m memory i.kind i.ty i.labels values in
+      let e' = ap (λ k. effect_of m' memory k j.ty j.labels values) s.kind ∙ effect-kept m' memory j.kind j.ty j.labels values in
+      subst₂ (SameEffect ns ns') e e'
+      (subst (λ t. SameEffect ns ns' (effect_of m memory (but_type i.kind) i.ty i.labels values) (effect_of m' memory (but_type i.kind) t j.labels values)) s.ty
+      (effect_of-same (but_type i.kind) i.ty i.labels j.labels values s.labels))
 
   types-same : (i j : Inst) → SameInst ns ns' i j → operand_types i.kind i.ty ≡ operand_types j.kind j.ty
-  types-same i j s = ap (λ k. operand_types k i.ty) s.kind ∙ ap (operand_types j.kind) s.ty
+  types-same i j s = sym (types-kept i.kind i.ty) ∙ ap (λ k. operand_types k i.ty) s.kind ∙ types-kept j.kind i.ty ∙ ap (operand_types j.kind) s.ty
 
   pub effect-same : (env env' : Env) → SameValues ns ns' env env' → (i j : Inst) → SameInst ns ns' i j → SameEffect ns ns' (effect_in m memory env i) (effect_in m' memory env' j)
   effect-same env env' h i j s =

@@ -2,36 +2,33 @@
 use Rattle.std.proofs.Common.{◌≡◌, ℕ, length, List, Some, None, sym, ap, ◌∙◌, subst}
 use Rattle.forms.specs.Form.{Lexeme}
 use Rattle.forms.specs.Lexical.{StopsAt, Lexes}
-use Rattle.forms.proofs.Exact.{one_value, some_is}
+use Rattle.forms.proofs.Exact.{some_is}
 use Rattle.text_lex.proofs.Unique.{lexes_unique, stops_lexes}
 use Rattle.ir_types.specs.declared.module.Module.{Module}
 use Rattle.ir_types.specs.Denotes.{Denotes}
-use Rattle.ir_types.specs.Grammar.{module_form, SpellsModule}
+use Rattle.ir_types.specs.Grammar.{SpellsModule}
 use Rattle.ir_types.specs.Numbered.{numbered_module}
-use Rattle.ir_types.specs.Collected.{resolved_module}
+use Rattle.ir_types.specs.Collected.{collected}
 use Rattle.ir_types.specs.Reads.{Reads, SameModule}
 use Rattle.ir_types.specs.Tree.{FunctionTree, WrittenFunction, Item, ModuleTree}
-use Rattle.ir_types.proofs.Decides.{module_decides}
+
+-- what is to come from ir_types/proofs/Skimming
+one_spelling : (tokens : List Lexeme) (w v : List (Item WrittenFunction)) → SpellsModule w tokens → SpellsModule v tokens → w ≡ v
+one_spelling tokens w v p q = ?
 
 same_numbered : (w v : List (Item WrittenFunction)) (a b : List (Item FunctionTree)) → w ≡ v → numbered_module w ≡ Some a → numbered_module v ≡ Some b → a ≡ b
 same_numbered w v a b e p q = some_is a b (sym p ∙ ap numbered_module e ∙ q)
-
-same_resolved : (w v : List (Item FunctionTree)) (a b : ModuleTree) → w ≡ v → resolved_module w ≡ Some a → resolved_module v ≡ Some b → a ≡ b
-same_resolved w v a b e p q = some_is a b (sym p ∙ ap resolved_module e ∙ q)
 
 -- things without a name take the same numbers
 pub one_numbering : (text : List ℕ) (m n : Module) (a : Reads text m) (b : Reads text n) → a.numbered ≡ b.numbered
 one_numbering text m n a b =
     let ts = lexes_unique text a.tokens b.tokens a.lexes b.lexes in
     let spelled : SpellsModule b.written a.tokens = subst (λ (us : List Lexeme). SpellsModule b.written us) (sym ts) b.spelled in
-    let written = one_value (module_form (length a.tokens)) (module_decides (length a.tokens)) a.written b.written a.tokens a.spelled spelled in
+    let written = one_spelling a.tokens a.written b.written a.spelled spelled in
     same_numbered a.written b.written a.numbered b.numbered written a.numbers b.numbers
 
-one_tree : (text : List ℕ) (m n : Module) (a : Reads text m) (b : Reads text n) → a.resolved ≡ b.resolved
-one_tree text m n a b = same_resolved a.numbered b.numbered a.resolved b.resolved (one_numbering text m n a b) a.resolves b.resolves
-
 pub one_reading : (text : List ℕ) (m n : Module) → Reads text m → Reads text n → SameModule m n
-one_reading text m n a b = record { tree = a.resolved; first = a.denotes; second = subst (Denotes n) (sym (one_tree text m n a b)) b.denotes }
+one_reading text m n a b = record { tree = collected a.numbered; first = a.denotes; second = subst (λ items. Denotes n (collected items)) (sym (one_numbering text m n a b)) b.denotes }
 
 -- the text's tokens are those that spell what it reads as
 spelled_by : (text : List ℕ) (tokens : List Lexeme) (m : Module) → Lexes text tokens → (r : Reads text m) → SpellsModule r.written tokens
@@ -42,7 +39,7 @@ unspelled text tokens m x none r = none r.written (spelled_by text tokens m x r)
 
 pub unnumbered : (text : List ℕ) (tokens : List Lexeme) (written : List (Item WrittenFunction)) (m : Module) → Lexes text tokens → SpellsModule written tokens → numbered_module written ≡ None → Reads text m → ⊥
 unnumbered text tokens written m x s e r =
-    let w = one_value (module_form (length tokens)) (module_decides (length tokens)) written r.written tokens s (spelled_by text tokens m x r) in
+    let w = one_spelling tokens written r.written s (spelled_by text tokens m x r) in
     let n = sym e ∙ ap numbered_module w ∙ r.numbers in
     cc
 
@@ -55,10 +52,8 @@ reads-too text m n r s = record {
   tokens = r.tokens;
   written = r.written;
   numbered = r.numbered;
-  resolved = r.resolved;
   lexes = r.lexes;
   spelled = r.spelled;
   numbers = r.numbers;
-  resolves = r.resolves;
-  denotes = record { says = s.second.says ∙ sym s.first.says ∙ r.denotes.says; tables = s.second.tables; types = s.second.types; extents = s.second.extents };
+  denotes = record { says = s.second.says ∙ sym s.first.says ∙ r.denotes.says; tables = s.second.tables; types = s.second.types; extents = s.second.extents; missing_types = s.second.missing_types; missing_symbols = s.second.missing_symbols };
 }

@@ -1,5 +1,5 @@
 -- The first long name of names behind one another.
-use Rattle.std.proofs.Common.{◌≡◌, ◌+◌, ◌<◌, ◌≤◌, ℕ, zero, suc, List, [], ◌∷◌, ◌++◌, length, get_or, drop, Option, Some, None, refl, sym, ap, ◌∙◌, drop-cons, arith}
+use Rattle.std.proofs.Common.{◌≡◌, ◌<◌, ◌≤◌, ℕ, zero, suc, List, [], ◌∷◌, ◌++◌, length, get_or, drop, Option, Some, None, refl, sym, ap, ◌∙◌, drop-cons, arith}
 use Rattle.std.specs.Prelude.{map}
 use Rattle.std.proofs.lemmas.List.{drop_all}
 use Rattle.forms.specs.Nested.{concat}
@@ -7,6 +7,7 @@ use Rattle.ir_types.specs.declared.name.Name.{Name}
 use Rattle.ir_types.specs.Names.{name_at}
 use Rattle.ir_types.specs.Tree.{ParamTree}
 use Rattle.ir_limits.specs.Limits.{long_name, or_else, first_long}
+pub use Rattle.ir_limits.specs.Limits.{first_of}
 
 -- a place behind the table
 pub none_behind : (ns : List Name) (i : ℕ) → length ns ≤ i → long_name (name_at ns i) ≡ None
@@ -27,10 +28,6 @@ or_nothing None = refl
 or_nothing (Some n) = refl
 
 -- ---- the first that a function finds
-
-abbrev pub first_of : {A : Type 0} → (A → Option ℕ) → List A → Option ℕ
-first_of f [] = None
-first_of f (x ∷ xs) = or_else (f x) (first_of f xs)
 
 pub first_of_concat : {A : Type 0} (g : A → List Name) (xs : List A) → first_of (λ x. first_long (g x)) xs ≡ first_long (concat (map g xs))
 first_of_concat g [] = refl

@@ -1,2 +1,3 @@
 pub mod Mentioned
 pub mod Limits
+pub mod Longs

@@ -1,5 +1,5 @@
 -- The limits on what a module has.
-use Rattle.std.specs.Prelude.{ℕ, ◌<◌, Bool, nat_lt, List, [], ◌∷◌, length, map, sum_by, Option, Some, None, if◌then◌else◌}
+use Rattle.std.specs.Prelude.{ℕ, nat_lt, List, [], ◌∷◌, length, sum_by, Option, Some, None, if◌then◌else◌}
 use Rattle.std.specs.List.{filter_map}
 use Rattle.text_lex.specs.declared.fault.Count.{Count}
 use Rattle.text_lex.specs.declared.fault.Count.TheVariants.{Functions, Blocks, Instructions, Name as NameBytes}
@@ -18,6 +18,11 @@ long_name (Number n) = None
 abbrev pub or_else : Option ℕ → Option ℕ → Option ℕ
 or_else None other = other
 or_else (Some n) other = Some n
+
+-- the first that a function finds in a list
+abbrev pub first_of : {A : Type 0} → (A → Option ℕ) → List A → Option ℕ
+first_of f [] = None
+first_of f (x ∷ xs) = or_else (f x) (first_of f xs)
 
 -- the bytes of the first name that has too many
 abbrev pub first_long : List Name → Option ℕ

@@ -1,17 +1,17 @@
--- The names that a module's text mentions, in the text's order; things without a name are there by their numbers.
+-- The names that a module's text mentions, in the text's order; things without a name are there by their numbers. Of a constant
+-- `getelementptr` it is the symbol alone: the names of types in it are defined by other items, or it has no bytes to count.
 use Rattle.std.specs.Prelude.{List, [], ◌∷◌, ◌++◌, map, Option, Some, None}
 use Rattle.forms.specs.Nested.{concat}
 use Rattle.ir_types.specs.declared.name.Name.{Name}
-use Rattle.ir_types.specs.declared.inst.InstKind.{InstKind}
-use Rattle.ir_types.specs.declared.inst.InstKind.TheVariants.{Phi}
-use Rattle.ir_types.specs.Tree.{OperandTree, local, number, InstTree, BlockTree, ParamTree, FunctionTree, Item, head_line, comdat_line, type_item, variable_item, function_item, attribute_line, metadata_line}
-use Rattle.ir_types.specs.TypeNodes.{TypeNode}
-use Rattle.ir_types.specs.Collected.{names_used}
+use Rattle.ir_types.specs.Kinds.{Kind, Phi, Offset, Call}
+use Rattle.ir_types.specs.Tree.{OperandTree, local, global, InstTree, BlockTree, ParamTree, FunctionTree, Item, head_line, comdat_line, type_item, variable_item, function_item, attribute_line, metadata_line}
+use Rattle.ir_types.specs.TypeNodes.{TypeNode, names_used}
 
--- in an operand
+-- in an operand: a local's or a symbol's
 abbrev pub in_operand : OperandTree → List Name
 in_operand (local n) = n ∷ []
-in_operand (number v) = []
+in_operand (global n o) = n ∷ []
+in_operand a = []
 
 -- in operands behind one another
 abbrev pub in_operands : List OperandTree → List Name
@@ -23,10 +23,16 @@ in_entries (a ∷ args) (l ∷ labels) = in_operand a ++ (l ∷ in_entries args 
 in_entries [] labels = labels
 in_entries args [] = in_operands args
 
--- in operands and labels: those of a phi in pairs, and else all operands first
-abbrev pub in_parts : InstKind → List OperandTree → List Name → List Name
+-- before the operands: what is called, or the names in a memory type
+abbrev pub before_operands : Kind → List Name
+before_operands (Call callee) = callee.name ∷ []
+before_operands (Offset nodes widths inbounds nuw nusw) = names_used nodes
+before_operands kind = []
+
+-- in operands and labels, and what stands before them: those of a phi in pairs, and else all operands first
+abbrev pub in_parts : Kind → List OperandTree → List Name → List Name
 in_parts Phi args labels = in_entries args labels
-in_parts kind args labels = in_operands args ++ labels
+in_parts kind args labels = before_operands kind ++ (in_operands args ++ labels)
 
 -- of a result
 abbrev pub of_result : Option Name → List Name

@@ -1,9 +1,10 @@
 // Counts of what functions have, and the first limit that is passed.
 
 ghost use Rattle.std.specs.Prelude.{◌≡◌, map, sum_by, length, IfOk, IfSome};
-ghost use Rattle.ir_types.specs.Denotes.{tree_of_function};
+ghost use Rattle.ir_types.specs.Denotes.{Tables, function_in};
 ghost use Rattle.ir_types.specs.declared.module.Block.{Block};
-ghost use Rattle.ir_limits.specs.Limits.{blocks_of, instructions_of, above, name_count, passed_by};
+ghost use Rattle.ir_types.specs.declared.module.Function.{Function};
+ghost use Rattle.ir_limits.specs.Limits.{above, name_count, passed_by};
 ghost use Rattle.text_lex.specs.declared.fault.Count.TheVariants.{Functions, Blocks, Instructions};
 
 use ir_types::{Block, Function};
@@ -19,7 +20,7 @@ const INSTRUCTION_LIMIT: u64 = 1_000_000;
 
 // The blocks of functions; none where they are 2^64 or more.
 fn block_count(functions: &[Function]) -> Option<u64>
-    ensures { IfSome result (λ n. n ≡ blocks_of (map tree_of_function functions.now)) }
+    ensures { IfSome result (λ n. n ≡ sum_by (λ (f : Function). length f.body) functions.now) }
 {
     let mut count: u64 = 0;
     for function in functions {
@@ -41,7 +42,7 @@ fn instructions_in(blocks: &[Block]) -> Option<u64>
 
 // The instructions of functions.
 fn instruction_count(functions: &[Function]) -> Option<u64>
-    ensures { IfSome result (λ n. n ≡ instructions_of (map tree_of_function functions.now)) }
+    ensures { IfSome result (λ n. n ≡ sum_by (λ (f : Function). sum_by (λ (b : Block). length b.insts) f.body) functions.now) }
 {
     let mut count: u64 = 0;
     for function in functions {
@@ -77,7 +78,7 @@ fn first_passed(
 ///
 /// Where a count is 2^64 or more: no memory holds so much.
 pub fn passed(functions: &[Function], long: Option<u64>) -> Result<Option<(Count, u64)>, AllocError>
-    ensures { IfOk result (λ p. p ≡ passed_by (map tree_of_function functions.now) long) }
+    ensures { IfOk result (λ p. (t : Tables) → p ≡ passed_by (map (function_in t) functions.now) long) }
 {
     let blocks = block_count(functions).ok_or(AllocError)?;
     let instructions = instruction_count(functions).ok_or(AllocError)?;

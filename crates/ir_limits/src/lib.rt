@@ -2,9 +2,11 @@
 #![tactic(auto)]
 
 mod counts;
+mod longs;
 mod names;
 #[cfg(test)]
 mod tests;
 
 pub use counts::passed;
+pub use longs::{LongNames, long_names};
 pub use names::{long_name, long_name_of_function};

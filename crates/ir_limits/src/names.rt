@@ -2,12 +2,13 @@
 
 ghost use Rattle.std.specs.Prelude.{◌≡◌, ◌++◌, List, map, None};
 ghost use Rattle.forms.specs.Nested.{concat};
-ghost use Rattle.ir_types.specs.Denotes.{name_in, operand_in, inst_in, block_in, param_in, tree_of_function};
+ghost use Rattle.ir_types.specs.Denotes.{name_in, operand_in, kind_in, inst_in, block_in, param_in, function_in};
 ghost use Rattle.ir_types.specs.Tree.{ParamTree};
-ghost use Rattle.ir_limits.specs.Mentioned.{in_operand, in_operands, in_entries, in_parts, of_result, in_inst, in_block, in_function};
+ghost use Rattle.ir_limits.specs.Mentioned.{in_operand, in_operands, in_entries, before_operands, of_result, in_inst, in_block, in_function};
 ghost use Rattle.ir_limits.specs.Limits.{long_name, or_else, first_long};
 ghost use Rattle.std.specs.Option.{option_map};
 
+use crate::longs::LongNames;
 use ir_types::{Block, Function, Inst, InstKind, Name, Names, Operand, Param, ValueId};
 
 /// The bytes of a name that is no number, where these are more than 255.
@@ -41,20 +42,21 @@ fn long_result(names: &Names, result_name: Option<ValueId>) -> Option<u64>
     }
 }
 
-fn long_operand(names: &Names, operand: Operand) -> Option<u64>
-    ensures { result ≡ first_long (in_operand (operand_in names.now operand)) }
+fn long_operand(tables: &LongNames<'_>, names: &Names, operand: &Operand) -> Option<u64>
+    ensures { result ≡ first_long (in_operand (operand_in tables.now names.now operand.now)) }
 {
     match operand {
-        Operand::Local(id) => long_at(names, id),
-        Operand::Int(_) => None,
+        Operand::Local(id) => long_at(names, *id),
+        Operand::Global(place, _) => tables.of_symbol(*place),
+        Operand::Int(_) | Operand::Null | Operand::Poison | Operand::Lanes(_) => None,
     }
 }
 
-fn long_operands(names: &Names, operands: &[Operand]) -> Option<u64>
-    ensures { result ≡ first_long (in_operands (map (operand_in names.now) operands.now)) }
+fn long_operands(tables: &LongNames<'_>, names: &Names, operands: &[Operand]) -> Option<u64>
+    ensures { result ≡ first_long (in_operands (map (operand_in tables.now names.now) operands.now)) }
 {
     for operand in operands {
-        if let Some(count) = long_operand(names, *operand) {
+        if let Some(count) = long_operand(tables, names, operand) {
             return Some(count);
         }
     }
@@ -83,16 +85,21 @@ fn either(first: Option<u64>, second: Option<u64>) -> Option<u64>
 }
 
 // Of the entries of a phi: each operand stands before its label.
-fn long_entries(names: &Names, operands: &[Operand], labels: &[ValueId]) -> Option<u64>
-    ensures { result ≡ first_long (in_entries (map (operand_in names.now) operands.now) (map (name_in names.now) labels.now)) }
+fn long_entries(
+    tables: &LongNames<'_>,
+    names: &Names,
+    operands: &[Operand],
+    labels: &[ValueId],
+) -> Option<u64>
+    ensures { result ≡ first_long (in_entries (map (operand_in tables.now names.now) operands.now) (map (name_in names.now) labels.now)) }
 {
     let mut labels_left = labels;
     let mut operands_left = operands;
     'more: while let Some((operand, operands_behind)) = operands_left.split_first() {
         let Some((label, labels_behind)) = labels_left.split_first() else {
-            return long_operands(names, operands_left);
+            return long_operands(tables, names, operands_left);
         };
-        if let Some(count) = either(long_operand(names, *operand), long_at(names, *label)) {
+        if let Some(count) = either(long_operand(tables, names, operand), long_at(names, *label)) {
             return Some(count);
         }
         operands_left = operands_behind;
@@ -101,44 +108,61 @@ fn long_entries(names: &Names, operands: &[Operand], labels: &[ValueId]) -> Opti
     long_labels(names, labels_left)
 }
 
+// Of what stands before the operands: the name that is called, or a memory type.
+fn long_in_kind(tables: &LongNames<'_>, kind: &InstKind) -> Option<u64>
+    ensures { result ≡ first_long (before_operands (kind_in tables.now kind.now)) }
+{
+    match kind {
+        InstKind::Call(callee) => long_name(&callee.name),
+        InstKind::Offset(id, _, _, _, _) => tables.of_type(*id),
+        _ => None,
+    }
+}
+
 #[tactic(auto, using(crate::proofs::Firsts::first_of_both))]
-fn long_inst(names: &Names, inst: &Inst) -> Option<u64>
-    ensures { result ≡ first_long (in_inst (inst_in names.now inst.now)) }
+fn long_inst(tables: &LongNames<'_>, names: &Names, inst: &Inst) -> Option<u64>
+    ensures { result ≡ first_long (in_inst (inst_in tables.now names.now inst.now)) }
 {
     let operands = inst.args.as_slice();
     let labels = inst.labels.as_slice();
-    let parts = match inst.kind {
-        InstKind::Phi => long_entries(names, operands, labels),
-        _ => either(long_operands(names, operands), long_labels(names, labels)),
+    let parts = match &inst.kind {
+        InstKind::Phi => long_entries(tables, names, operands, labels),
+        kind => either(
+            long_in_kind(tables, kind),
+            either(
+                long_operands(tables, names, operands),
+                long_labels(names, labels),
+            ),
+        ),
     };
     either(long_result(names, inst.result), parts)
 }
 
-fn long_insts(names: &Names, insts: &[Inst]) -> Option<u64>
-    ensures { result ≡ first_long (concat (map in_inst (map (inst_in names.now) insts.now))) }
+fn long_insts(tables: &LongNames<'_>, names: &Names, insts: &[Inst]) -> Option<u64>
+    ensures { result ≡ first_long (concat (map in_inst (map (inst_in tables.now names.now) insts.now))) }
 {
     for inst in insts {
-        if let Some(count) = long_inst(names, inst) {
+        if let Some(count) = long_inst(tables, names, inst) {
             return Some(count);
         }
     }
     None
 }
 
-fn long_block(names: &Names, block: &Block) -> Option<u64>
-    ensures { result ≡ first_long (in_block (block_in names.now block.now)) }
+fn long_block(tables: &LongNames<'_>, names: &Names, block: &Block) -> Option<u64>
+    ensures { result ≡ first_long (in_block (block_in tables.now names.now block.now)) }
 {
     either(
         long_at(names, block.name),
-        long_insts(names, block.insts.as_slice()),
+        long_insts(tables, names, block.insts.as_slice()),
     )
 }
 
-fn long_blocks(names: &Names, blocks: &[Block]) -> Option<u64>
-    ensures { result ≡ first_long (concat (map in_block (map (block_in names.now) blocks.now))) }
+fn long_blocks(tables: &LongNames<'_>, names: &Names, blocks: &[Block]) -> Option<u64>
+    ensures { result ≡ first_long (concat (map in_block (map (block_in tables.now names.now) blocks.now))) }
 {
     for block in blocks {
-        if let Some(count) = long_block(names, block) {
+        if let Some(count) = long_block(tables, names, block) {
             return Some(count);
         }
     }
@@ -159,10 +183,10 @@ fn long_params(names: &Names, params: &[Param]) -> Option<u64>
 /// The bytes of the first name in a function that is no number and has more than 255: its own, its parameters', and then those in
 /// its blocks, in the text's order.
 #[tactic(auto, using(crate::proofs::Firsts::first_of_both))]
-pub fn long_name_of_function(function: &Function) -> Option<u64>
-    ensures { result ≡ first_long (in_function (tree_of_function function.now)) }
+pub fn long_name_of_function(tables: &LongNames<'_>, function: &Function) -> Option<u64>
+    ensures { result ≡ first_long (in_function (function_in tables.now function.now)) }
 {
     let params = long_params(&function.names, function.params.as_slice());
-    let blocks = long_blocks(&function.names, function.body.as_slice());
+    let blocks = long_blocks(tables, &function.names, function.body.as_slice());
     either(long_name(&function.name), either(params, blocks))
 }

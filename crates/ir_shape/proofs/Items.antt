@@ -1,47 +1,34 @@
 -- What is known of a module's items that tokens spell.
-use Rattle.std.proofs.Common.{◌≡◌, ◌<◌, ◌^◌, ℕ, zero, suc, Bool, true, false, cond, eqb, lit<, List, [], ◌∷◌, ◌++◌, length, map, Option, Some, None, refl, sym, ap, ◌∙◌, subst, arith, inl, inr}
-use Rattle.std.specs.Prelude.{codes, nat_lt, is_some}
+use Rattle.std.proofs.Common.{◌≡◌, ◌<◌, ℕ, true, false, List, [], ◌∷◌, ◌++◌, length, map, None, refl, sym, ap, ◌∙◌, subst, arith, inl, inr}
+use Rattle.std.specs.Prelude.{codes}
 use Rattle.std.specs.List.{AllByRecursion}
-use Rattle.std.proofs.lemmas.Bool.Decides.{nat_tests}
 use Rattle.std.proofs.lemmas.Option.{cond_some}
-use Rattle.forms.specs.declared.TokenKind.TheVariants.{Quoted, Local, Global, Comdat, Word, Number, Metadata, AttributeGroup, Dots, Bang, Equal, Comma, LeftParen, RightParen, LeftBracket, RightBracket, LeftBrace, RightBrace, Less, Greater}
+use Rattle.forms.specs.declared.TokenKind.TheVariants.{Quoted, Local, Global, Comdat, Word, Number, Metadata, AttributeGroup, Bang, Equal, LeftParen, RightParen, LeftBrace, RightBrace}
 use Rattle.forms.specs.declared.TokenKind.{TokenKind}
-use Rattle.forms.specs.declared.Around.{Around}
-use Rattle.forms.specs.declared.Around.TheVariants.{InArray, InStruct}
-use Rattle.forms.specs.Bind.{◌>>=◌}
 use Rattle.forms.specs.Form.{Lexeme, Form, Spells, texts, ahead, either, mapped, made, many}
-use Rattle.forms.specs.Gives.{mark}
 use Rattle.forms.specs.Kept.{kept_token, attachments}
-use Rattle.forms.specs.Lexical.{kind_of, table}
-use Rattle.forms.specs.Nested.{concat, joined, comma_then, struct_head, struct_end, remainder, struct_of, array_of, one_deeper, memory}
+use Rattle.forms.specs.Lexical.{table}
+use Rattle.forms.specs.Nested.{concat, joined}
 use Rattle.forms.proofs.Sound.{bind_some}
 use Rattle.forms.proofs.Exact.{some_is}
 use Rattle.text_lex.specs.KeptText.{token_of, IsToken, AreLexed}
 use Rattle.text_lex.proofs.Lexed.{lexed_split}
-use Rattle.ir_types.specs.declared.name.Name.{Name}
-use Rattle.ir_types.specs.declared.inst.Ty.{Ty}
 use Rattle.ir_types.specs.declared.opcode.ItemWord.{ItemWord}
 use Rattle.ir_types.specs.declared.opcode.ItemWord.TheVariants.{SourceFilename, Target, Declare, Define, Attributes}
 use Rattle.ir_types.specs.declared.opcode.Extra.{Extra}
-use Rattle.ir_types.specs.TypeNodes.{TypeNode, scalar, called, array, opening}
-use Rattle.ir_types.specs.Written.{number_of, name_behind}
-use Rattle.ir_types.specs.Tree.{KeptTexts, WrittenParam, WrittenBlock, WrittenFunction, VariableTree, Item, head_line, comdat_line, type_item, variable_item, function_item, attribute_line, metadata_line}
-use Rattle.ir_types.specs.Grammar.{elements_of, memory_leaf, array_begin, type_parts, memory_type, kept, parameter, dotted, or_no_params, dotted_parameters, declared_function, defined_function, equal_string, target_line, attribute_group, comdat, metadata, type_definition, initialiser_stops, extra_behind, extra, kept_once, behind_type, variable_word, variable_definition, item_behind, item, module_form}
-use Rattle.ir_shape.specs.Shape.{IsName, IsType, IsReturnType, IsNameThere, IsKept, head_form, attributes_form, IsNode, IsMemory, IsDefinition, IsVariable}
+use Rattle.ir_types.specs.Offsets.{Definitions}
+use Rattle.ir_types.specs.Written.{name_behind}
+use Rattle.ir_types.specs.Tree.{KeptTexts, WrittenBlock, WrittenFunction, Item, head_line, comdat_line, type_item, variable_item, function_item, attribute_line, metadata_line}
+use Rattle.ir_types.specs.Grammar.{memory_type, kept, parameter, dotted_parameters, declared_function, defined_function, equal_string, target_line, attribute_group, comdat, metadata, type_definition, initialiser_stops, extra_behind, extra, kept_once, behind_type, variable_word, variable_definition, item_behind, item, module_form}
+use Rattle.ir_shape.specs.Shape.{IsName, IsReturnType, IsKept, head_form, attributes_form, IsDefinition, IsVariable}
 use Rattle.ir_shape.proofs.Names.{behind_is}
 use Rattle.kept_runs.specs.Verbatim.{Verbatim}
-use Rattle.kept_runs.proofs.Verbatim.{verbatim_one, verbatim_token, verbatim_such, verbatim_joined, verbatim_either, verbatim_perhaps, verbatim_up_to, verbatim_braces, verbatim_run, verbatim_attachment, verbatim_attachments}
-use Rattle.ir_shape.proofs.Sure.{Sure, one_sure, mark_sure, exactly_sure, word_sure, pair_sure, either_sure, mapped_sure, made_sure, ahead_sure, IsThere, optional_sure, by_word_sure, many_sure, behind_sure, after_mark_sure, between_sure, marked_sure, Filled, some_sure, commas_sure, list_sure, joined_sure, joined_filled, concat_sure, filled_all, kept_sure}
-use Rattle.ir_shape.proofs.Written.{local_sure, global_sure, type_sure, return_type_sure, block_sure, there_name, IsWrittenBlock, IsWrittenParam}
-
--- ---- what is kept
-
-kept_is : Verbatim kept
-unfolding kept
-kept_is = verbatim_run _
-
-pub run_sure : Sure kept (IsKept kept)
-run_sure = kept_sure kept_is
+use Rattle.kept_runs.proofs.Verbatim.{verbatim_one, verbatim_token, verbatim_such, verbatim_joined, verbatim_either, verbatim_perhaps, verbatim_up_to, verbatim_braces, verbatim_attachment, verbatim_attachments}
+use Rattle.ir_shape.proofs.Sure.{Sure, word_sure, pair_sure, either_sure, mapped_sure, made_sure, ahead_sure, optional_sure, by_word_sure, many_sure, behind_sure, after_mark_sure, between_sure, some_sure, list_sure, kept_sure}
+use Rattle.ir_shape.proofs.Runs.{kept_is, run_sure, Dotted, dotted_sure}
+use Rattle.ir_shape.proofs.Memory.{type_is_sure}
+use Rattle.ir_shape.proofs.Values.{local_sure, global_sure, type_sure, return_type_sure}
+use Rattle.ir_shape.proofs.Written.{block_sure, there_name, IsWrittenBlock, IsWrittenParam}
 
 -- ---- functions
 
@@ -49,16 +36,9 @@ param_sure : Sure parameter IsWrittenParam
 unfolding parameter
 param_sure = mapped_sure (pair_sure type_sure (pair_sure run_sure (optional_sure local_sure))) (λ x h. record { ty = h.0; kept_texts = h.1.0; name = there_name x.1.1 h.1.1 })
 
-abbrev AreParams : List WrittenParam × Bool → Type 0
-AreParams x = AllByRecursion IsWrittenParam x.0
-
-no_params_sure : (o : Option (List WrittenParam × Bool)) → IsThere AreParams o → AreParams (or_no_params o)
-no_params_sure None h = tt
-no_params_sure (Some x) h = h
-
-dotted_sure : Sure dotted_parameters AreParams
+params_sure : Sure dotted_parameters (Dotted IsWrittenParam)
 unfolding dotted_parameters
-dotted_sure = mapped_sure {Q = AreParams} (optional_sure (either_sure (mapped_sure {Q = AreParams} (mark_sure Dots) (λ u h. tt)) (mapped_sure {Q = AreParams} (pair_sure (commas_sure param_sure) (optional_sure (marked_sure Comma (mark_sure Dots)))) (λ x h. h.0.1)))) no_params_sure
+params_sure = dotted_sure param_sure
 
 -- what a written function keeps before its result's type, and behind its parameters
 abbrev pub before_written : List WrittenBlock → Form KeptTexts
@@ -80,7 +60,7 @@ pub record IsWrittenFunction (f : WrittenFunction) : Type 0 where
 
 declared_sure : Sure declared_function IsWrittenFunction
 unfolding declared_function
-declared_sure = mapped_sure (pair_sure (kept_sure (verbatim_joined _ _ verbatim_attachments kept_is)) (pair_sure return_type_sure (pair_sure global_sure (pair_sure (between_sure LeftParen RightParen dotted_sure) run_sure)))) (λ x h. record {
+declared_sure = mapped_sure (pair_sure (kept_sure (verbatim_joined _ _ verbatim_attachments kept_is)) (pair_sure return_type_sure (pair_sure global_sure (pair_sure (between_sure LeftParen RightParen params_sure) run_sure)))) (λ x h. record {
   name = h.1.1.0;
   before = h.0;
   ret = h.1.0;
@@ -101,9 +81,9 @@ after_defined (b ∷ bs) xs lt h = h
 not_true : false ≡ true → ⊥
 not_true e = cc
 
-defined_sure : Sure defined_function IsWrittenFunction
+defined_sure : (defs : Definitions) → Sure (defined_function defs) IsWrittenFunction
 unfolding defined_function
-defined_sure = mapped_sure (pair_sure run_sure (pair_sure return_type_sure (pair_sure global_sure (pair_sure (between_sure LeftParen RightParen (list_sure param_sure)) (pair_sure (kept_sure (verbatim_joined _ _ kept_is verbatim_attachments)) (between_sure LeftBrace RightBrace (some_sure block_sure))))))) (λ x h. record {
+defined_sure defs = mapped_sure (pair_sure run_sure (pair_sure return_type_sure (pair_sure global_sure (pair_sure (between_sure LeftParen RightParen (list_sure param_sure)) (pair_sure (kept_sure (verbatim_joined _ _ kept_is verbatim_attachments)) (between_sure LeftBrace RightBrace (some_sure (block_sure defs)))))))) (λ x h. record {
   name = h.1.1.0;
   before = before_defined x.1.1.1.1.1 x.0 h.1.1.1.1.1.0 h.0;
   ret = h.1.0;
@@ -112,81 +92,6 @@ defined_sure = mapped_sure (pair_sure run_sure (pair_sure return_type_sure (pair
   after = after_defined x.1.1.1.1.1 x.1.1.1.1.0 h.1.1.1.1.1.0 h.1.1.1.1.0;
   blocks = h.1.1.1.1.1.1;
 })
-
--- ---- memory types
-
-elements_below : (s : List ℕ) (n : ℕ) → cond (nat_lt (number_of s) (2 ^ 64)) (Some (number_of s)) None ≡ Some n → n < 2 ^ 64
-elements_below s n e =
-    let c = cond_some (nat_lt (number_of s) (2 ^ 64)) (number_of s) n e in
-    let lt : number_of s < 2 ^ 64 = let t = c.0 in grind (arith, nat_tests) in
-    subst (λ k. k < 2 ^ 64) c.1 lt
-
-unsigned_below : (b : Bool) (s : List ℕ) (n : ℕ) → cond b None (cond (nat_lt (number_of s) (2 ^ 64)) (Some (number_of s)) None) ≡ Some n → n < 2 ^ 64
-unsigned_below true s n e = absurd cc
-unsigned_below false s n e = elements_below s n e
-
-elements_small : (s : List ℕ) (n : ℕ) → elements_of s ≡ Some n → n < 2 ^ 64
-elements_small [] n e = absurd cc
-elements_small (c ∷ ds) n e = unsigned_below (eqb c 45) (c ∷ ds) n e
-
-abbrev Nodes : List TypeNode → Type 0
-Nodes ns = Filled IsNode ns
-
-one_node : (node : TypeNode) → IsNode node → Nodes (node ∷ [])
-one_node node h = (lit< tt, (h, tt))
-
-leaf_sure : Sure memory_leaf Nodes
-unfolding memory_leaf
-leaf_sure = either_sure (mapped_sure {Q = Nodes} type_sure (λ t h. one_node (scalar t) h)) (mapped_sure {Q = Nodes} local_sure (λ n h. one_node (called n) h))
-
-begin_sure : Sure array_begin Nodes
-unfolding array_begin
-begin_sure = mapped_sure {Q = Nodes} (after_mark_sure LeftBracket (pair_sure (made_sure {Q = λ n. n < 2 ^ 64} (one_sure Number) (λ s n u e. elements_small s n e)) (exactly_sure Word _))) (λ n h. one_node (array n.0) h.0)
-
-parts_leaf : Sure type_parts.leaf Nodes
-unfolding type_parts
-parts_leaf = leaf_sure
-
-parts_begin : Sure type_parts.array_head Nodes
-unfolding type_parts
-parts_begin = begin_sure
-
-opening_sure : (p : Bool) → Sure (struct_head type_parts p) Nodes
-unfolding type_parts
-opening_sure true = mapped_sure {Q = Nodes} (ahead_sure Less (mark_sure LeftBrace)) (λ x h. one_node (opening true) h)
-opening_sure false = mapped_sure {Q = Nodes} (mark_sure LeftBrace) (λ x h. one_node (opening false) h)
-
-abbrev Each : List TypeNode → Type 0
-Each ns = AllByRecursion IsNode ns
-
-closing_sure : (p : Bool) → Sure (struct_end type_parts p) Each
-unfolding type_parts
-closing_sure true = mapped_sure {Q = Each} (pair_sure (mark_sure RightBrace) (mark_sure Greater)) (λ x h. (tt, tt))
-closing_sure false = mapped_sure {Q = Each} (mark_sure RightBrace) (λ x h. (tt, tt))
-
-module _ (m : Form (List TypeNode)) (inner : Sure m Nodes) where
-  behind_sure_of : (w : Around) → Sure (remainder type_parts m w) Each
-  behind_sure_of InArray = mapped_sure {Q = Each} (mark_sure RightBracket) (λ x h. tt)
-  behind_sure_of (InStruct p) = joined_sure (concat_sure (mapped_sure {Q = Each} (pair_sure (mark_sure Comma) (filled_all inner)) (λ x h. h.1))) (closing_sure p)
-
-  members_sure : (p : Bool) → Sure (either (struct_end type_parts p) (joined m (remainder type_parts m (InStruct p)))) Each
-  members_sure p = either_sure (closing_sure p) (joined_sure (filled_all inner) (behind_sure_of (InStruct p)))
-
-  struct_sure : (p : Bool) → Sure (struct_of type_parts p m) Nodes
-  struct_sure p = joined_filled (opening_sure p) (members_sure p)
-
-  array_sure : Sure (array_of type_parts m) Nodes
-  array_sure = joined_filled parts_begin (joined_sure (filled_all inner) (behind_sure_of InArray))
-
-  deeper_sure : Sure (one_deeper type_parts m) Nodes
-  deeper_sure = either_sure parts_leaf (either_sure array_sure (either_sure (struct_sure false) (struct_sure true)))
-
-memory_sure : (d : ℕ) → Sure (memory_type d) Nodes
-memory_sure zero = parts_leaf
-memory_sure (suc d) = deeper_sure (memory_type d) (memory_sure d)
-
-type_is_sure : (d : ℕ) → Sure (memory_type d) IsMemory
-type_is_sure d = record { known = λ a ts l h. let n = (memory_sure d).known a ts l h in record { some = n.0; each = n.1 } }
 
 -- ---- named types and variables
 
@@ -317,22 +222,22 @@ attributes_kept xs h = with_word (codes "attributes") attribute_group xs refl (W
 
 -- ---- items and modules
 
-by_item : (w : ItemWord) → Sure (item_behind w) IsWrittenItem
-by_item SourceFilename = mapped_sure {Q = IsWrittenItem} (kept_sure equal_string_is) source_kept
-by_item Target = mapped_sure {Q = IsWrittenItem} (kept_sure target_is) target_kept
-by_item Declare = mapped_sure {Q = IsWrittenItem} declared_sure (λ f h. h)
-by_item Define = mapped_sure {Q = IsWrittenItem} defined_sure (λ f h. h)
-by_item Attributes = mapped_sure {Q = IsWrittenItem} (kept_sure group_is) attributes_kept
+by_item : (defs : Definitions) (w : ItemWord) → Sure (item_behind defs w) IsWrittenItem
+by_item defs SourceFilename = mapped_sure {Q = IsWrittenItem} (kept_sure equal_string_is) source_kept
+by_item defs Target = mapped_sure {Q = IsWrittenItem} (kept_sure target_is) target_kept
+by_item defs Declare = mapped_sure {Q = IsWrittenItem} declared_sure (λ f h. h)
+by_item defs Define = mapped_sure {Q = IsWrittenItem} (defined_sure defs) (λ f h. h)
+by_item defs Attributes = mapped_sure {Q = IsWrittenItem} (kept_sure group_is) attributes_kept
 
-item_sure : (d : ℕ) → Sure (item (memory_type d)) IsWrittenItem
+item_sure : (defs : Definitions) (d : ℕ) → Sure (item defs (memory_type d)) IsWrittenItem
 unfolding item
-item_sure d =
-    either_sure (by_word_sure by_item)
+item_sure defs d =
+    either_sure (by_word_sure (by_item defs))
     (either_sure (mapped_sure {Q = IsWrittenItem} (kept_sure comdat_is) (λ xs h. h))
     (either_sure (mapped_sure {Q = IsWrittenItem} (kept_sure metadata_is) (λ xs h. h))
     (either_sure (definition_sure d) (variable_sure d))))
 
 -- What the tokens of a text spell is so.
-pub spelled_is : (d : ℕ) (items : List (Item WrittenFunction)) (ts : List Lexeme) → AreLexed ts → Spells (module_form d) items ts → AllByRecursion IsWrittenItem items
+pub spelled_is : (defs : Definitions) (d : ℕ) (items : List (Item WrittenFunction)) (ts : List Lexeme) → AreLexed ts → Spells (module_form defs d) items ts → AllByRecursion IsWrittenItem items
 unfolding module_form
-spelled_is d items ts l h = (many_sure (item_sure d)).known items ts l h
+spelled_is defs d items ts l h = (many_sure (item_sure defs d)).known items ts l h

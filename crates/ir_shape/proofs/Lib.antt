@@ -1,6 +1,13 @@
 pub mod Among
 pub mod Names
 pub mod Sure
+pub mod Values
+pub mod InstMemory
+pub mod Memory
+pub mod Runs
+pub mod Bodies
+pub mod Calls
+pub mod Instructions
 pub mod Written
 pub mod Items
 pub mod Numbering

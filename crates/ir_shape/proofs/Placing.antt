@@ -2,7 +2,7 @@
 use Rattle.std.proofs.Common.{◌≡◌, ◌+◌, ◌<◌, ◌≤◌, ℕ, zero, suc, List, [], ◌∷◌, ◌++◌, length, Option, Some, None, ap, ◌∙◌, subst, arith}
 use Rattle.std.specs.Prelude.{map, IfSome}
 use Rattle.std.specs.Option.{option_map}
-use Rattle.std.specs.List.{AllByRecursion, filter_map}
+use Rattle.std.specs.List.{AllByRecursion, AllZip, filter_map, cons_option}
 use Rattle.std.proofs.lemmas.List.{length-append, length-map}
 use Rattle.text_lex.proofs.Lexed.{each_append}
 use Rattle.ir_types.specs.declared.name.Name.{Name}
@@ -10,7 +10,9 @@ use Rattle.ir_types.specs.declared.name.ValueId.{ValueId}
 use Rattle.ir_types.specs.declared.inst.Ty.{Ty}
 use Rattle.ir_types.specs.declared.inst.Ty.TheVariants as types
 use Rattle.ir_types.specs.declared.inst.Operand.{Operand}
-use Rattle.ir_types.specs.declared.inst.Operand.TheVariants.{Local, Int}
+use Rattle.ir_types.specs.declared.inst.Operand.TheVariants.{Local, Int, Null, Poison, Lanes, Global}
+use Rattle.ir_types.specs.declared.inst.InstKind.{InstKind}
+use Rattle.ir_types.specs.declared.inst.InstKind.TheVariants.{Offset}
 use Rattle.ir_types.specs.declared.inst.Inst.{Inst}
 use Rattle.ir_types.specs.declared.module.Block.{Block}
 use Rattle.ir_types.specs.declared.module.Param.{Param}
@@ -25,29 +27,75 @@ use Rattle.ir_types.specs.declared.memory_type.MemTy.{MemTy}
 use Rattle.ir_types.specs.declared.memory_type.NamedType.{NamedType}
 use Rattle.ir_types.specs.declared.memory_type.NamedType.TheVariants.{Defined, Opaque, Missing}
 use Rattle.ir_types.specs.declared.memory_type.TypeName.{TypeName}
-use Rattle.ir_types.specs.Denotes.{name_in, operand_in, inst_in, block_in, param_in, tree_of_function, type_names_of, nodes_in, named_in, type_name_in, symbol_kind_in, symbol_in, tree_of}
-use Rattle.ir_types.specs.Collected.{as_type, as_variable, as_function, of_definition, all_used, unknown, missing_name, symbol_of, symbols_from}
+use Rattle.ir_types.specs.Denotes.{name_in, Tables, operand_in, kind_in, inst_in, block_in, param_in, function_in, type_names_of, type_name_in, symbol_in, tables_of, tree_of}
+use Rattle.ir_types.specs.Collected.{as_type, as_variable, as_function, of_definition, symbol_of, symbols_from}
 use Rattle.ir_types.specs.Types.{AreTypes}
-use Rattle.ir_types.specs.TypeNodes.{TypeNode, nodes_at, nodes_from, all_nodes}
-use Rattle.ir_types.specs.Tree.{FunctionTree, NamedTree, defined, opaque, missing, SymbolKindTree, variable, function, missing_symbol, ModuleTree, Item, head_line, comdat_line, type_item, variable_item, function_item, attribute_line, metadata_line}
+use Rattle.ir_types.specs.TypeNodes.{TypeNode, nodes_at, nodes_from, all_nodes, type_nodes}
+use Rattle.ir_types.specs.Tree.{FunctionTree, NamedTree, defined, opaque, SymbolKindTree, variable, function, ModuleTree, Item, head_line, comdat_line, type_item, variable_item, function_item, attribute_line, metadata_line}
 use Rattle.ir_types.specs.Reads.{IsReadable}
-use Rattle.ir_shape.specs.Shape.{IsName, IsOperand, operand_type, IsResult, IsInst, IsBlock, IsParam, IsFunction, IsDefinition, IsItem, IsModule}
-use Rattle.ir_shape.specs.Placed.{IsPlace, IsOperandPlaced, IsInstPlaced, IsBlockPlaced, IsParamPlaced, IsFunctionPlaced, IsNamedPlaced, IsSymbolPlaced, IsPlaced}
+use Rattle.ir_shape.specs.Shape.{IsName, IsOperand, IsTyped, IsResult, HasParts, IsInst, IsBlock, IsParam, IsFunction, IsDefinition, IsItem, IsModule}
+use Rattle.ir_shape.specs.Placed.{IsPlace, IsOperandPlaced, IsInstPlaced, IsKindPlaced, IsBlockPlaced, IsParamPlaced, IsFunctionPlaced, IsNamedPlaced, IsSymbolPlaced, IsPlaced}
 use Rattle.ir_shape.proofs.Known.{readable_known}
 use Rattle.ir_shape.proofs.Names.{within_names}
+use Rattle.ir_shape.proofs.Sure.{IsThere}
 
 -- what holds of each element by what is known of its image
 each : {A B : Type 0} (P : B → Type 0) (Q : A → Type 0) (f : A → B) → ((a : A) → P (f a) → Q a) → (xs : List A) → AllByRecursion P (map f xs) → AllByRecursion Q xs
 each P Q f so [] h = tt
 each P Q f so (x ∷ xs) h = (so x h.0, each P Q f so xs h.1)
 
+-- the same, where it may have none
+of_there : {A : Type 0} (P : A → Type 0) (o : Option A) (more : List A) → AllByRecursion P (cons_option o more) → IsThere P o × AllByRecursion P more
+of_there P None more h = (tt, h)
+of_there P (Some a) more h = h
+
+each_there : {A B : Type 0} (P : B → Type 0) (Q : A → Type 0) (f : A → Option B) → ((a : A) → IsThere P (f a) → Q a) → (xs : List A) → AllByRecursion P (filter_map f xs) → AllByRecursion Q xs
+each_there P Q f so [] h = tt
+each_there P Q f so (x ∷ xs) h = let both = of_there P (f x) (filter_map f xs) h in (so x both.0, each_there P Q f so xs both.1)
+
+-- ---- places in a module's lists
+
+node_within : (xs : List (List TypeNode)) (i : ℕ) → 0 < length (nodes_at xs i) → i < length xs
+node_within [] i h = absurd (omega arith)
+node_within (x ∷ xs) zero h = omega arith
+node_within (x ∷ xs) (suc i) h = omega (arith, node_within xs i h)
+
+as_many : (names : List Name) (before : List (List TypeNode)) (ts : List MemTy) → length (all_nodes names before ts) ≡ length before + length ts
+as_many names before [] = omega arith
+as_many names before (t ∷ ts) =
+    let e = as_many names (before ++ nodes_from names before t ∷ []) ts in
+    let l = length-append before (nodes_from names before t ∷ []) in
+    omega (arith, e, l)
+
+-- a type that has a node stands in the list
+type_placed : (names : List Name) (types : List MemTy) (id : TypeId) → 0 < length (type_nodes names types id) → id.0 < length types
+type_placed names types id h =
+    let w = node_within (all_nodes names [] types) id.0 h in
+    let e = as_many names [] types in
+    omega (arith, w, e)
+
+-- ---- positions in functions
+
 -- a position of a proper name
 placed : (names : List Name) (id : ValueId) → IsName (name_in names id) → IsPlace names id
 placed names id h = within_names names id.0 h
 
-operand_placed : (names : List Name) (t : Ty) (a : Operand) → IsOperand t (operand_in names a) → IsOperandPlaced names a
-operand_placed names t (Local id) h = placed names id h
-operand_placed names t (Int n) h = tt
+operand_placed : (t : Tables) (names : List Name) (ty : Ty) (a : Operand) → IsOperand ty (operand_in t names a) → IsOperandPlaced t names a
+operand_placed t names ty (Local id) h = placed names id h
+operand_placed t names ty (Int n) h = tt
+operand_placed t names ty Null h = tt
+operand_placed t names ty Poison h = tt
+operand_placed t names ty (Lanes xs) h = tt
+operand_placed t names ty (Global i bytes) h = within_names t.symbols i h.0
+
+operands_placed : (t : Tables) (names : List Name) (ts : List Ty) (args : List Operand) → AllZip IsTyped ts (map (operand_in t names) args) → AllByRecursion (IsOperandPlaced t names) args
+operands_placed t names ts [] h = tt
+operands_placed t names [] (a ∷ args) h = absurd h
+operands_placed t names (ty ∷ ts) (a ∷ args) h = (operand_placed t names ty a h.0.1, operands_placed t names ts args h.1)
+
+kind_placed : (t : Tables) (k : InstKind) (n : ℕ) → HasParts (kind_in t k) n → IsKindPlaced t k
+kind_placed t (Offset id widths inbounds nuw nusw) n h = type_placed t.type_names t.types id h.0.some
+kind_placed t k n h = tt
 
 result_placed : (names : List Name) (t : Ty) (o : Option ValueId) → IsResult t (option_map (name_in names) o) → IfSome o (IsPlace names)
 result_placed names t None h = tt
@@ -56,28 +104,27 @@ result_placed names types.Ptr (Some id) h = placed names id h
 result_placed names (types.Vector n w) (Some id) h = placed names id h
 result_placed names types.Void (Some id) h = placed names id h
 
-inst_placed : (names : List Name) (i : Inst) → IsInst (inst_in names i) → IsInstPlaced names i
-inst_placed names i h =
-    let t = operand_type i.kind i.ty in
-    record {
-      args = each (IsOperand t) (IsOperandPlaced names) (operand_in names) (operand_placed names t) i.args h.body.args;
-      labels = each IsName (IsPlace names) (name_in names) (placed names) i.labels h.body.labels;
-      result = result_placed names i.ty i.result h.result;
-    }
+inst_placed : (t : Tables) (names : List Name) (i : Inst) → IsInst (inst_in t names i) → IsInstPlaced t names i
+inst_placed t names i h = record {
+  kind = kind_placed t i.kind _ h.body.parts;
+  args = operands_placed t names _ i.args h.body.args;
+  labels = each IsName (IsPlace names) (name_in names) (placed names) i.labels h.body.labels;
+  result = result_placed names i.ty i.result h.result;
+}
 
-block_placed : (names : List Name) (b : Block) → IsBlock (block_in names b) → IsBlockPlaced names b
-block_placed names b h = record {
+block_placed : (t : Tables) (names : List Name) (b : Block) → IsBlock (block_in t names b) → IsBlockPlaced t names b
+block_placed t names b h = record {
   name = placed names b.name h.name;
-  insts = each IsInst (IsInstPlaced names) (inst_in names) (inst_placed names) b.insts h.insts;
+  insts = each IsInst (IsInstPlaced t names) (inst_in t names) (inst_placed t names) b.insts h.insts;
 }
 
 param_placed : (names : List Name) (p : Param) → IsParam (param_in names p) → IsParamPlaced names p
 param_placed names p h = record { name = placed names p.name h.name }
 
-function_placed : (f : Function) → IsFunction (tree_of_function f) → IsFunctionPlaced f
-function_placed f h = record {
+function_placed : (t : Tables) (f : Function) → IsFunction (function_in t f) → IsFunctionPlaced t f
+function_placed t f h = record {
   params = each IsParam (IsParamPlaced f.names) (param_in f.names) (param_placed f.names) f.params h.params;
-  blocks = each IsBlock (IsBlockPlaced f.names) (block_in f.names) (block_placed f.names) f.body h.blocks;
+  blocks = each IsBlock (IsBlockPlaced t f.names) (block_in t f.names) (block_placed t f.names) f.body h.blocks;
 }
 
 -- ---- the functions, types and symbols of some items
@@ -96,13 +143,11 @@ functions_known (metadata_line xs ∷ items) h = functions_known items h.1
 abbrev HasNode : NamedTree → Type 0
 HasNode (defined nodes) = 0 < length nodes
 HasNode opaque = Unit {0}
-HasNode missing = Unit {0}
 
 -- a variable's type has a node, and a function is one of so many
 abbrev HasPlace : ℕ → SymbolKindTree → Type 0
 HasPlace n (variable nodes writable) = 0 < length nodes
 HasPlace n (function i) = i < n
-HasPlace n missing_symbol = Unit {0}
 
 definition_known : (t : Option (List TypeNode)) → IsDefinition t → HasNode (of_definition t)
 definition_known None h = tt
@@ -118,10 +163,6 @@ types_known (function_item f ∷ items) h = types_known items h.1
 types_known (attribute_line xs ∷ items) h = types_known items h.1
 types_known (metadata_line xs ∷ items) h = types_known items h.1
 
-missing_known : (names : List Name) → AllByRecursion (λ t. HasNode t.ty) (map missing_name names)
-missing_known [] = tt
-missing_known (n ∷ names) = (tt, missing_known names)
-
 variables_known : (n : ℕ) (items : List (Item FunctionTree)) → AllByRecursion IsItem items → AllByRecursion (λ s. HasPlace n s.kind) (map symbol_of (filter_map as_variable items))
 variables_known n [] h = tt
 variables_known n (head_line xs ∷ items) h = variables_known n items h.1
@@ -136,47 +177,29 @@ functions_placed : (n i : ℕ) (fs : List FunctionTree) → i + length fs ≤ n 
 functions_placed n i [] le = tt
 functions_placed n i (f ∷ fs) le = (omega arith, functions_placed n (suc i) fs (omega arith))
 
--- ---- places in a module's lists
+-- ---- positions in a module
 
-node_within : (xs : List (List TypeNode)) (i : ℕ) → 0 < length (nodes_at xs i) → i < length xs
-node_within [] i h = absurd (omega arith)
-node_within (x ∷ xs) zero h = omega arith
-node_within (x ∷ xs) (suc i) h = omega (arith, node_within xs i h)
+named_placed : (m : Module) (n : Name) (t : NamedType) → IsThere (λ x. HasNode x.ty) (type_name_in m (record { name = n; ty = t })) → IsNamedPlaced m.types t
+named_placed m n (Defined id) h = type_placed (type_names_of m) m.types id h
+named_placed m n Opaque h = tt
+named_placed m n Missing h = tt
 
-as_many : (names : List Name) (before : List (List TypeNode)) (ts : List MemTy) → length (all_nodes names before ts) ≡ length before + length ts
-as_many names before [] = omega arith
-as_many names before (t ∷ ts) =
-    let e = as_many names (before ++ nodes_from names before t ∷ []) ts in
-    let l = length-append before (nodes_from names before t ∷ []) in
-    omega (arith, e, l)
-
-type_placed : (m : Module) (id : TypeId) → 0 < length (nodes_in m id) → id.0 < length m.types
-type_placed m id h =
-    let w = node_within (all_nodes (type_names_of m) [] m.types) id.0 h in
-    let e = as_many (type_names_of m) [] m.types in
-    omega (arith, w, e)
-
-named_placed : (m : Module) (t : NamedType) → HasNode (named_in m t) → IsNamedPlaced m.types t
-named_placed m (Defined id) h = type_placed m id h
-named_placed m Opaque h = tt
-named_placed m Missing h = tt
-
-symbol_placed : (m : Module) (s : SymbolKind) → HasPlace (length m.functions) (symbol_kind_in m s) → IsSymbolPlaced m s
-symbol_placed m (Variable id writable) h = type_placed m id h
-symbol_placed m (symbols.Function f) h = h
-symbol_placed m symbols.Missing h = tt
+symbol_placed : (m : Module) (s : Symbol) (k : SymbolKind) → IsThere (λ x. HasPlace (length m.functions) x.kind) (symbol_in m (record s { kind = k })) → IsSymbolPlaced m k
+symbol_placed m s (Variable id writable) h = type_placed (type_names_of m) m.types id h
+symbol_placed m s (symbols.Function f) h = h
+symbol_placed m s symbols.Missing h = tt
 
 pub module_placed : (m : Module) → IsModule (tree_of m) → AreTypes (type_names_of m) 0 m.types → IsPlaced m
 module_placed m h t =
     let fs = filter_map as_function h.items in
-    let as_long : length fs ≡ length m.functions = ap (λ (t : ModuleTree). length t.functions) h.says ∙ length-map m.functions tree_of_function in
-    let types = each_append (λ t. HasNode t.ty) (filter_map as_type h.items) _ (types_known h.items h.known) (missing_known (unknown (map (λ t. t.name) (filter_map as_type h.items)) (all_used (filter_map as_type h.items) (filter_map as_variable h.items)))) in
-    let places = each_append (λ s. HasPlace (length m.functions) s.kind) (map symbol_of (filter_map as_variable h.items)) _ (variables_known (length m.functions) h.items h.known) (functions_placed (length m.functions) 0 fs (omega arith)) in
+    let n = length m.functions in
+    let as_long : length fs ≡ n = ap (λ (t : ModuleTree). length t.functions) h.says ∙ length-map m.functions (function_in (tables_of m)) in
+    let places = each_append (λ s. HasPlace n s.kind) (map symbol_of (filter_map as_variable h.items)) _ (variables_known n h.items h.known) (functions_placed n 0 fs (omega arith)) in
     record {
-      functions = each IsFunction IsFunctionPlaced tree_of_function function_placed m.functions (subst (λ (t : ModuleTree). AllByRecursion IsFunction t.functions) h.says (functions_known h.items h.known));
+      functions = each IsFunction (IsFunctionPlaced (tables_of m)) (function_in (tables_of m)) (function_placed (tables_of m)) m.functions (subst (λ (t : ModuleTree). AllByRecursion IsFunction t.functions) h.says (functions_known h.items h.known));
       types = t;
-      named = each (λ t. HasNode t.ty) (λ (n : TypeName). IsNamedPlaced m.types n.ty) (type_name_in m) (λ n. named_placed m n.ty) m.type_names (subst (λ (t : ModuleTree). AllByRecursion (λ n. HasNode n.ty) t.type_names) h.says types);
-      symbols = each (λ s. HasPlace (length m.functions) s.kind) (λ (s : Symbol). IsSymbolPlaced m s.kind) (symbol_in m) (λ s. symbol_placed m s.kind) m.symbols (subst (λ (t : ModuleTree). AllByRecursion (λ s. HasPlace (length m.functions) s.kind) t.symbols) h.says places);
+      named = each_there (λ t. HasNode t.ty) (λ (n : TypeName). IsNamedPlaced m.types n.ty) (type_name_in m) (λ n. named_placed m n.name n.ty) m.type_names (subst (λ (t : ModuleTree). AllByRecursion (λ n. HasNode n.ty) t.type_names) h.says (types_known h.items h.known));
+      symbols = each_there (λ s. HasPlace n s.kind) (λ (s : Symbol). IsSymbolPlaced m s.kind) (symbol_in m) (λ s. symbol_placed m s s.kind) m.symbols (subst (λ (t : ModuleTree). AllByRecursion (λ s. HasPlace n s.kind) t.symbols) h.says places);
     }
 
 -- In a module that some text reads as, each position is one of its list.

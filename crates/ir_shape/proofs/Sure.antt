@@ -1,11 +1,13 @@
 -- What holds of every value that a form spells by tokens of a text.
-use Rattle.std.proofs.Common.{◌≡◌, ◌<◌, ℕ, List, [], ◌∷◌, ◌++◌, length, map, Option, Some, None, subst, sym, ap, ◌∙◌, arith, inl, inr}
+use Rattle.std.proofs.Common.{◌≡◌, ◌<◌, ℕ, Bool, true, List, [], ◌∷◌, ◌++◌, length, map, Option, Some, None, subst, sym, ap, ◌∙◌, arith, inl, inr}
 use Rattle.std.specs.List.{AllByRecursion}
 use Rattle.forms.specs.declared.TokenKind.{TokenKind}
 use Rattle.forms.specs.declared.TokenKind.TheVariants.{Comma, Word}
 use Rattle.forms.specs.Form.{Lexeme, Form, Spells, texts, exactly, one, ahead, pair, either, mapped, made, optional, many, by_word}
 use Rattle.forms.specs.Gives.{mark}
+use Rattle.forms.specs.Reading.{for_all}
 use Rattle.forms.specs.Nested.{joined, concat}
+use Rattle.forms.proofs.Parts.{for_entry}
 use Rattle.text_lex.specs.KeptText.{token_of, IsToken, AreLexed}
 use Rattle.text_lex.proofs.Lexed.{lexed_split, each_append, tokens_again, lexed_are_tokens}
 use Rattle.kept_runs.specs.Verbatim.{Verbatim}
@@ -25,6 +27,10 @@ rest ts x y e l = (lexed_split x y (subst AreLexed e l)).1
 
 behind_one : (t : Lexeme) (ts us : List Lexeme) → ts ≡ t ∷ us → AreLexed ts → AreLexed us
 behind_one t ts us e l = (subst AreLexed e l).1
+
+-- something is known of every value where nothing is said
+pub any_sure : {A : Type 0} {f : Form A} → Sure f (λ a. Unit {0})
+any_sure = record { known = λ a ts l h. tt }
 
 pub one_sure : (k : TokenKind) → Sure (one k) (λ s. Unit {0})
 one_sure k = record { known = λ a ts l h. tt }
@@ -67,6 +73,10 @@ optional_sure p = record { known = if_there p }
 
 pub by_word_sure : {K A : Type 0} {P : A → Type 0} {table : List (List ℕ × K)} {f : K → Form A} → ((k : K) → Sure (f k) P) → Sure (by_word table f) P
 by_word_sure p = record { known = λ a ts l h. (p h.1).known a h.2 (behind_one _ ts h.2 h.3 l) h.5 }
+
+-- the same of a table all of whose entries pass a test
+pub by_test_sure : {K A : Type 0} {P : A → Type 0} {table : List (List ℕ × K)} {f : K → Form A} (passes : K → Bool) → for_all table passes ≡ true → ((k : K) → passes k ≡ true → Sure (f k) P) → Sure (by_word table f) P
+by_test_sure {table = table} passes all p = record { known = λ a ts l h. (p h.1 (for_entry table passes h.0 h.1 h.4 all)).known a h.2 (behind_one _ ts h.2 h.3 l) h.5 }
 
 in_order : {A : Type 0} {P : A → Type 0} {f : Form A} → Sure f P → (items : List A) (ts : List Lexeme) → AreLexed ts → Spells (many f) items ts → AllByRecursion P items
 in_order p [] ts l h = tt

@@ -1,11 +1,13 @@
--- Each position in a module is one of the list that it speaks of: that of a local name in its function's table of names, that of a type or a function
--- in the module's lists.
+-- Each position in a module is one of the list that it speaks of: that of a local name in its function's table of names, that of a type, a symbol or
+-- a function in the module's lists.
 use Rattle.std.specs.Prelude.{◌<◌, List, length, IfSome}
 use Rattle.std.specs.List.{AllByRecursion}
 use Rattle.ir_types.specs.declared.name.Name.{Name}
 use Rattle.ir_types.specs.declared.name.ValueId.{ValueId}
 use Rattle.ir_types.specs.declared.inst.Operand.{Operand}
-use Rattle.ir_types.specs.declared.inst.Operand.TheVariants.{Local, Int}
+use Rattle.ir_types.specs.declared.inst.Operand.TheVariants.{Local, Global}
+use Rattle.ir_types.specs.declared.inst.InstKind.{InstKind}
+use Rattle.ir_types.specs.declared.inst.InstKind.TheVariants.{Offset}
 use Rattle.ir_types.specs.declared.inst.Inst.{Inst}
 use Rattle.ir_types.specs.declared.module.Block.{Block}
 use Rattle.ir_types.specs.declared.module.Param.{Param}
@@ -16,7 +18,7 @@ use Rattle.ir_types.specs.declared.module.SymbolKind.TheVariants.{Variable}
 use Rattle.ir_types.specs.declared.module.SymbolKind.TheVariants as symbols
 use Rattle.ir_types.specs.declared.module.Module.{Module}
 use Rattle.ir_types.specs.Types.{AreTypes}
-use Rattle.ir_types.specs.Denotes.{type_names_of}
+use Rattle.ir_types.specs.Denotes.{Tables, type_names_of, tables_of}
 use Rattle.ir_types.specs.declared.memory_type.MemTy.{MemTy}
 use Rattle.ir_types.specs.declared.memory_type.NamedType.{NamedType}
 use Rattle.ir_types.specs.declared.memory_type.NamedType.TheVariants.{Defined, Opaque, Missing}
@@ -26,30 +28,37 @@ use Rattle.ir_types.specs.declared.memory_type.TypeName.{TypeName}
 abbrev pub IsPlace : List Name → ValueId → Type 0
 IsPlace names id = id.0 < length names
 
--- an operand: a number has no position
-abbrev pub IsOperandPlaced : List Name → Operand → Type 0
-IsOperandPlaced names (Local id) = IsPlace names id
-IsOperandPlaced names (Int n) = Unit {0}
+-- an operand: only a local and a symbol have a position
+abbrev pub IsOperandPlaced : Tables → List Name → Operand → Type 0
+IsOperandPlaced t names (Local id) = IsPlace names id
+IsOperandPlaced t names (Global i bytes) = i < length t.symbols
+IsOperandPlaced t names a = Unit {0}
 
--- an instruction: its operands, its labels, and its result where there is one
-pub record IsInstPlaced (names : List Name) (i : Inst) : Type 0 where
-  pub args : AllByRecursion (IsOperandPlaced names) i.args
+-- what an instruction does: only `getelementptr` has a memory type
+abbrev pub IsKindPlaced : Tables → InstKind → Type 0
+IsKindPlaced t (Offset id widths inbounds nuw nusw) = id.0 < length t.types
+IsKindPlaced t kind = Unit {0}
+
+-- an instruction: its memory type, its operands, its labels, and its result where there is one
+pub record IsInstPlaced (t : Tables) (names : List Name) (i : Inst) : Type 0 where
+  pub kind : IsKindPlaced t i.kind
+  pub args : AllByRecursion (IsOperandPlaced t names) i.args
   pub labels : AllByRecursion (IsPlace names) i.labels
   pub result : IfSome i.result (IsPlace names)
 
 -- a block: its name, and its instructions
-pub record IsBlockPlaced (names : List Name) (b : Block) : Type 0 where
+pub record IsBlockPlaced (t : Tables) (names : List Name) (b : Block) : Type 0 where
   pub name : IsPlace names b.name
-  pub insts : AllByRecursion (IsInstPlaced names) b.insts
+  pub insts : AllByRecursion (IsInstPlaced t names) b.insts
 
 -- a parameter: its name
 pub record IsParamPlaced (names : List Name) (p : Param) : Type 0 where
   pub name : IsPlace names p.name
 
--- a function: its parameters and its blocks, in its own table
-pub record IsFunctionPlaced (f : Function) : Type 0 where
+-- a function: its parameters and its blocks, in its own table and in the module's lists
+pub record IsFunctionPlaced (t : Tables) (f : Function) : Type 0 where
   pub params : AllByRecursion (IsParamPlaced f.names) f.params
-  pub blocks : AllByRecursion (IsBlockPlaced f.names) f.body
+  pub blocks : AllByRecursion (IsBlockPlaced t f.names) f.body
 
 -- what a name of a type stands for: a type of the list
 abbrev pub IsNamedPlaced : List MemTy → NamedType → Type 0
@@ -65,7 +74,7 @@ IsSymbolPlaced m symbols.Missing = Unit {0}
 
 -- a module: all its functions, types, names of types and symbols
 pub record IsPlaced (m : Module) : Type 0 where
-  pub functions : AllByRecursion IsFunctionPlaced m.functions
+  pub functions : AllByRecursion (IsFunctionPlaced (tables_of m)) m.functions
   -- each type's parts stand before it, and it uses a name by its first place
   pub types : AreTypes (type_names_of m) 0 m.types
   pub named : AllByRecursion (λ (n : TypeName). IsNamedPlaced m.types n.ty) m.type_names

@@ -15,7 +15,7 @@ pub fn readable_has_shape()
 {}
 
 /// In a module that some text reads as, each position is one of its list: that of a local name in its function's table of names,
-/// those of types, of their names and of functions in the module's lists; and each type stands behind its parts.
+/// those of types, of their names, of symbols and of functions in the module's lists; and each type stands behind its parts.
 pub fn readable_is_placed()
     ensures { (m : Module) → IsReadable m → IsPlaced m }
 {}

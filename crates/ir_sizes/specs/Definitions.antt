@@ -42,6 +42,14 @@ defined_nodes types names (Defined id) = Some (nodes_in types names id)
 defined_nodes types names Opaque = None
 defined_nodes types names Missing = None
 
+-- a name that is used and not defined
+abbrev pub IsMissing : TypeName → Type 0
+IsMissing n = n.ty ≡ Missing
+
+-- the definition of a name
+abbrev pub definition_of : List MemTy → List TypeName → TypeName → Name × Option (List TypeNode)
+definition_of types names n = (n.name, defined_nodes types names n.ty)
+
 -- definitions that say of each name what it stands for where it first stands
 pub record AreDefinitions (types : List MemTy) (names : List TypeName) (defs : Definitions) : Type 0 where
   pub as_many : length defs ≤ length names

@@ -1,4 +1,5 @@
 pub mod Known
+pub mod Put
 pub mod Small
-pub mod Stepping
 pub mod Definitions
+pub mod Stepping

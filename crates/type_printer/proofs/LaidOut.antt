@@ -10,13 +10,17 @@ use Rattle.ir_types.specs.declared.name.Name.{Name}
 use Rattle.ir_types.specs.declared.inst.Ty.{Ty}
 use Rattle.ir_types.specs.declared.inst.Ty.TheVariants.{Int, Ptr, Vector, Void}
 use Rattle.ir_shape.specs.Shape.{IsName, IsOneOf, widths, IsType, IsReturnType}
-use Rattle.type_printer.specs.Pieces.{token, comma, blank, line_feed, indent, equal, local_token, width_word, type_pieces}
+use Rattle.type_printer.specs.Pieces.{token, comma, blank, line_feed, equal, local_token, width_word, type_pieces}
 use Rattle.type_printer.proofs.Names.{local_kind}
 use Rattle.type_printer.proofs.Widths.{width_within}
 use Rattle.type_printer.proofs.Spelled.{few_lanes}
-use Rattle.type_printer.proofs.Laid.{IsLaid, IsBehind, loose, nothing_behind, blank_laid, feed_laid, indent_laid, mark_laid, token_laid, laid-append, Separates}
+use Rattle.type_printer.proofs.Laid.{IsLaid, IsBehind, loose, nothing_behind, blank_laid, feed_laid, mark_laid, token_laid, Separates}
 
 -- ---- marks and words
+
+pub comma_kind : kind_of (codes ",") ≡ Some kinds.Comma
+unfolding table
+comma_kind = refl
 
 pub comma_laid : {ps : List Piece} → IsLaid ps → IsBehind (comma ∷ ps)
 unfolding table
@@ -31,6 +35,11 @@ pub bracket_kinds : (kind_of (codes "(") ≡ Some kinds.LeftParen) × (kind_of (
 unfolding table
 bracket_kinds = (refl, refl, refl, refl, refl, refl)
 
+-- and those of angles
+pub angle_kinds : (kind_of (codes "<") ≡ Some kinds.Less) × (kind_of (codes ">") ≡ Some kinds.Greater)
+unfolding table
+angle_kinds = (refl, refl)
+
 pub width_kind : (w : ℕ) → IsOneOf widths w → kind_of (width_word w) ≡ Some kinds.Word
 unfolding width_word
 width_kind w h = let le = (width_within w h).1 in integer_word (decimal w) (decimal_digits w (omega arith))
@@ -42,9 +51,6 @@ commas_part = record { apart = λ ps h. comma_laid (loose (blank_laid h)) }
 
 pub feeds_part : Separates (line_feed ∷ [])
 feeds_part = record { apart = λ ps h. feed_laid h }
-
-pub indents_part : Separates (indent ∷ [])
-indents_part = record { apart = λ ps h. indent_laid h }
 
 -- ---- names and types
 
@@ -68,7 +74,3 @@ type_returned (Int w) h = h
 type_returned Ptr h = h
 type_returned (Vector n w) h = h
 type_returned Void h = absurd h
-
--- a type, and a space behind it
-pub spaced_laid : {ps : List Piece} (t : Ty) → IsReturnType t → IsLaid ps → IsLaid (type_pieces t ++ (blank ∷ ps))
-spaced_laid t i h = laid-append (type_pieces t) _ (type_laid t i) (blank_laid h)

@@ -6,4 +6,4 @@ use Rattle.ir_limits.proofs.Firsts.{first_of}
 use Rattle.ir_limits.proofs.names.long_blocks.Given as goal
 
 abbrev pub invariant-loop-block : goal.invariant-loop-block
-invariant-loop-block l = first_of (λ b. first_long (in_block (block_in l.names b))) (drop l.block-index l.blocks) ≡ first_of (λ b. first_long (in_block (block_in l.names b))) l.blocks
+invariant-loop-block l = first_of (λ b. first_long (in_block (block_in l.tables l.names b))) (drop l.block-index l.blocks) ≡ first_of (λ b. first_long (in_block (block_in l.tables l.names b))) l.blocks

@@ -6,4 +6,4 @@ use Rattle.ir_limits.proofs.Firsts.{first_of}
 use Rattle.ir_limits.proofs.names.long_insts.Given as goal
 
 abbrev pub invariant-loop-inst : goal.invariant-loop-inst
-invariant-loop-inst l = first_of (λ i. first_long (in_inst (inst_in l.names i))) (drop l.inst-index l.insts) ≡ first_of (λ i. first_long (in_inst (inst_in l.names i))) l.insts
+invariant-loop-inst l = first_of (λ i. first_long (in_inst (inst_in l.tables l.names i))) (drop l.inst-index l.insts) ≡ first_of (λ i. first_long (in_inst (inst_in l.tables l.names i))) l.insts
