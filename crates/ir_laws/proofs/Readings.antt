@@ -1,5 +1,5 @@
 -- A text reads as at most one module, up to the positions of names and types.
-use Rattle.std.proofs.Common.{◌≡◌, ℕ, length, List, Some, None, sym, ap, ◌∙◌, subst}
+use Rattle.std.proofs.Common.{◌≡◌, ℕ, List, Some, None, sym, ap, ◌∙◌, subst}
 use Rattle.forms.specs.Form.{Lexeme}
 use Rattle.forms.specs.Lexical.{StopsAt, Lexes}
 use Rattle.forms.proofs.Exact.{some_is}
