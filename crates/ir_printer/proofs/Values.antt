@@ -4,6 +4,7 @@ use Rattle.std.specs.Prelude.{codes}
 use Rattle.std.specs.List.{AllByRecursion, AllZip, list_all}
 use Rattle.std.proofs.lemmas.Bool.{eqb-true, eq-eqb}
 use Rattle.forms.specs.declared.TokenKind.TheVariants as kinds
+use Rattle.forms.specs.Bind.{◌>>=◌}
 use Rattle.forms.specs.Form.{one}
 use Rattle.forms.specs.Lexical.{kind_of, table}
 use Rattle.forms.proofs.Begins.{test}
@@ -122,7 +123,7 @@ symbol_written defs t n bytes i h lt = elim (test (eqb bytes 0)) [
   | inr other ↦ record {
       typed = i;
       as_value = stepped (written_steps n bytes);
-      is = rw (bytes_behind defs bytes lt) refl;
+      is = ap (λ (o : Option ℕ). o >>= λ k. Some (global n k)) (bytes_behind defs bytes lt);
       writes = rw other (right_writes (right_writes (right_writes (right_writes (right_writes (right_writes (mapped_writes _ _ refl (steps_write n bytes h lt))))))));
     }
 ]

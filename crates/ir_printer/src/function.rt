@@ -200,16 +200,21 @@ fn part_from(out: &mut Vec<u8>) -> Result<(), AllocError>
     Ok(())
 }
 
-/// Appends the functions, each behind an empty line, but for the first where nothing is printed before it.
-pub(crate) fn put_functions(alloc: Global, out: &mut Vec<u8>, m: &Module) -> Result<(), AllocError>
+/// Appends functions of a module, each behind an empty line, but for the first where nothing is printed before it.
+pub(crate) fn put_functions(
+    alloc: Global,
+    out: &mut Vec<u8>,
+    m: &Module,
+    functions: &[Function],
+) -> Result<(), AllocError>
     requires types { AreTypes (type_names_of m.now) 0 m.now.types }
     requires known { AllByRecursion IsFunction
-        (map (function_in (tables_of m.now)) m.now.functions) }
+        (map (function_in (tables_of m.now)) functions.now) }
     ensures { OnOk result (out.new.items ≡ out.old.items
         ++ text_of (functions_behind out.old.items
-        (map (function_pieces (tables_of m.now)) m.now.functions))) }
+        (map (function_pieces (tables_of m.now)) functions.now))) }
 {
-    let [first, rest @ ..] = m.functions.as_slice() else {
+    let [first, rest @ ..] = functions else {
         return Ok(());
     };
     part_from(out)?;

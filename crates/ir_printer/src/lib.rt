@@ -50,7 +50,7 @@ pub fn print_module(alloc: Global, m: &Module, out: &mut Vec<u8>) -> Result<(), 
 {
     let mut text = Vec::new(alloc);
     put_front(alloc, m, &mut text)?;
-    put_functions(alloc, &mut text, m)?;
+    put_functions(alloc, &mut text, m, m.functions.as_slice())?;
     put_lines(&mut text, m.tail.as_slice())?;
     out.extend_from_slice(&text)
 }

@@ -74,7 +74,6 @@ fn put_flags(out: &mut Vec<u8>, flags: Flags) -> Result<(), AllocError>
     put_flag(out, flags.disjoint, b"disjoint")
 }
 
-#[tactic(auto, using(type_printer::proofs::Appended::text_of_both, std::proofs::lemmas::Grind::common_steps))]
 fn put_offset_flags(
     out: &mut Vec<u8>,
     inbounds: bool,
@@ -86,7 +85,8 @@ fn put_offset_flags(
 {
     put_flag(out, inbounds, b"inbounds")?;
     put_flag(out, nusw, b"nusw")?;
-    put_flag(out, nuw, b"nuw")
+    put_flag(out, nuw, b"nuw")?;
+    Ok(())
 }
 
 // Appends `call`, and the word before it.
