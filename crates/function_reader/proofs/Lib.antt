@@ -1,8 +1,3 @@
-pub mod Modulo
-pub mod Chains
-pub mod Operands
-pub mod Split
-pub mod Conditions
 pub mod Lines
 pub mod Parts
 pub mod Functions
