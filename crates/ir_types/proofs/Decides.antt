@@ -3,7 +3,7 @@ use Rattle.std.proofs.Common.{◌≡◌, ℕ, zero, suc, true, false, List, [], 
 use Rattle.forms.specs.declared.TokenKind.TheVariants.{Word}
 use Rattle.forms.specs.Form.{Form, by_word, either, mapped, many}
 use Rattle.forms.specs.Reading.{Terminal, this, all_apart, decides, nullable, first, after}
-use Rattle.forms.specs.Nested.{PartsDecide, memory}
+use Rattle.forms.specs.Nested.{PartsDecide}
 use Rattle.forms.specs.Kept.{kept_piece, kept_run, metadata_node, attachment, attachments}
 use Rattle.forms.specs.LeftOut.{left_out_words}
 use Rattle.forms.proofs.NestedDecides.{memory_decides, memory_takes, memory_after}

@@ -3,5 +3,7 @@ pub mod NameAt
 pub mod Decides
 pub mod Balanced
 pub mod InstMemory
+pub mod Later
+pub mod Skimming
 mod Examples
 pub mod Copying

@@ -18,14 +18,13 @@ use Rattle.ir_types.specs.declared.module.SymbolKind.TheVariants as symbols
 use Rattle.ir_types.specs.declared.module.Module.{Module}
 use Rattle.ir_types.specs.declared.memory_type.TypeId.{TypeId}
 use Rattle.ir_types.specs.declared.memory_type.TypeName.{TypeName}
-use Rattle.ir_types.specs.declared.memory_type.NamedType.{NamedType}
 use Rattle.ir_types.specs.declared.memory_type.NamedType.TheVariants.{Defined, Opaque, Missing}
 use Rattle.ir_types.specs.Types.{AreTypes}
 use Rattle.ir_types.specs.TypeNodes.{TypeNode, type_nodes}
 use Rattle.ir_types.specs.Sizes.{AreExtents}
 use Rattle.ir_types.specs.Names.{name_at, IsTable}
 use Rattle.ir_types.specs.Kinds.{Kind, Binary, Compare, Select, Freeze, Trunc, Zext, Sext, PtrToInt, Phi, Offset, Load, Store, Call, Extract, Insert, Shuffle, Jump, Branch, Switch, ReturnVoid, Return, Unreachable}
-use Rattle.ir_types.specs.Tree.{OperandTree, local, number, null, poison, lanes, global, InstTree, BlockTree, ParamTree, FunctionTree, NamedTree, defined, opaque, TypeNameTree, SymbolKindTree, variable, function, SymbolTree, ModuleTree}
+use Rattle.ir_types.specs.Tree.{OperandTree, local, number, null, poison, lanes, global, InstTree, BlockTree, ParamTree, FunctionTree, defined, opaque, TypeNameTree, variable, function, SymbolTree, ModuleTree}
 
 -- the name at a place
 abbrev pub name_in : List Name → ValueId → Name

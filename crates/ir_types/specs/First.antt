@@ -1,5 +1,5 @@
 -- The modules of which it is claimed by now that what is printed does what they allow: those of i1 and i32 alone.
-use Rattle.std.specs.Prelude.{◌≡◌, ◌⊎◌, false, List}
+use Rattle.std.specs.Prelude.{◌≡◌, ◌⊎◌, false}
 use Rattle.std.specs.List.{AllByRecursion}
 use Rattle.ir_types.specs.declared.inst.Ty.{Ty}
 use Rattle.ir_types.specs.declared.inst.Ty.TheVariants.{Int, Ptr, Vector, Void}

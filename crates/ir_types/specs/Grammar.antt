@@ -1,5 +1,5 @@
 -- The grammar of modules.
-use Rattle.std.specs.Prelude.{ℕ, ◌%◌, Bool, true, false, not, ◌&&◌, nat_le, count_by, is_some, length, List, [], ◌∷◌, ◌++◌, map, replicate, codes, find, nat_lt, ◌^◌, ◌==◌, Option, Some, None, if◌then◌else◌}
+use Rattle.std.specs.Prelude.{ℕ, ◌%◌, Bool, true, false, ◌&&◌, nat_le, count_by, is_some, length, List, [], ◌∷◌, ◌++◌, map, replicate, codes, find, nat_lt, ◌^◌, ◌==◌, Option, Some, None, if◌then◌else◌}
 use Rattle.std.specs.List.{list_all}
 use Rattle.forms.specs.declared.TokenKind.TheVariants.{Quoted, Local, Global, Comdat, Label, Word, Number, Metadata, AttributeGroup, Dots, Bang, Equal, Comma, LeftParen, RightParen, LeftBracket, RightBracket, LeftBrace, RightBrace, Less, Greater}
 use Rattle.forms.specs.Form.{Lexeme, Form, Stops, Spells, is_one_of, exactly, one, one_such, enclosed, ahead, up_to, pair, either, mapped, made, optional, many, by_word}
@@ -40,7 +40,7 @@ use Rattle.forms.specs.LeftOut.{left_out_words}
 use Rattle.ir_types.specs.Sizes.{value_size}
 use Rattle.ir_types.specs.Offsets.{Definitions, definitions_in, offset_of}
 use Rattle.ir_types.specs.TypeNodes.{TypeNode, scalar, called, array, opening, closing}
-use Rattle.ir_types.specs.Tree.{KeptTexts, OperandTree, local, number, null, poison, lanes, global, InstTree, WrittenParam, WrittenBlock, WrittenFunction, VariableTree, Item, head_line, comdat_line, type_item, variable_item, function_item, attribute_line, metadata_line}
+use Rattle.ir_types.specs.Tree.{KeptTexts, OperandTree, local, number, null, poison, lanes, global, InstTree, WrittenParam, WrittenBlock, WrittenFunction, Item, head_line, comdat_line, type_item, variable_item, function_item, attribute_line, metadata_line}
 
 -- ---- names, types and values
 

@@ -7,6 +7,7 @@ pub mod Tree
 pub mod Written
 pub mod Grammar
 pub mod Offsets
+pub mod Skimmed
 pub mod Numbered
 pub mod Collected
 pub mod Denotes

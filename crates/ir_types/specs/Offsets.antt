@@ -1,12 +1,12 @@
 -- How many bytes behind a symbol a constant `getelementptr` stands. (LLVM's Language Reference, "'getelementptr' Instruction".)
-use Rattle.std.specs.Prelude.{ℕ, zero, suc, ◌+◌, ◌-◌, ◌*◌, ◌%◌, ◌^◌, Bool, true, false, nat_lt, ◌==◌, List, [], ◌∷◌, ◌++◌, length, map, take, find, slice_get, sum_by, Option, Some, None, if◌then◌else◌}
+use Rattle.std.specs.Prelude.{ℕ, zero, suc, ◌+◌, ◌-◌, ◌*◌, ◌%◌, ◌^◌, Bool, true, false, nat_lt, List, [], ◌∷◌, ◌++◌, length, map, take, find, slice_get, sum_by, Option, Some, None, if◌then◌else◌}
 use Rattle.std.specs.List.{filter_map}
 use Rattle.forms.specs.Bind.{◌>>=◌}
 use Rattle.forms.specs.Nested.{concat}
 use Rattle.ir_types.specs.declared.name.Name.{Name}
 use Rattle.ir_types.specs.Names.{same_name}
 use Rattle.ir_types.specs.TypeNodes.{TypeNode, scalar, called, array, opening, closing}
-use Rattle.ir_types.specs.Tree.{WrittenFunction, Item, type_item}
+use Rattle.ir_types.specs.Tree.{Item, type_item}
 use Rattle.ir_types.specs.Sizes.{Layout, value_size, aligned, end_behind, struct_layout, SIZE_CAP}
 
 -- the definitions of names of types, none of an opaque one; of several of one name the first counts
@@ -14,12 +14,12 @@ abbrev pub Definitions : Type 0
 Definitions = List (Name × Option (List TypeNode))
 
 -- the definition of a name of a type
-abbrev pub as_definition : Item WrittenFunction → Option (Name × Option (List TypeNode))
+abbrev pub as_definition : {F : Type 0} → Item F → Option (Name × Option (List TypeNode))
 as_definition (type_item n t) = Some (n, t)
 as_definition i = None
 
 -- the definitions among a module's items
-abbrev pub definitions_in : List (Item WrittenFunction) → Definitions
+abbrev pub definitions_in : {F : Type 0} → List (Item F) → Definitions
 definitions_in items = filter_map as_definition items
 
 -- the nodes of a name

@@ -2,7 +2,7 @@
 use Rattle.std.specs.Prelude.{ℕ, ◌+◌, ◌-◌, ◌%◌, ◌^◌, Bool, true, false, not, ◌&&◌, ◌||◌, if◌then◌else◌, nat_eq, nat_lt, nat_le, IsTrue, length, Option, Some, None}
 use Rattle.std.specs.List.{list_all}
 use Rattle.ir_types.specs.declared.inst.Ty.{Ty}
-use Rattle.ir_types.specs.declared.inst.Ty.TheVariants.{Int as IntTy, Ptr as PtrTy, Vector, Void}
+use Rattle.ir_types.specs.declared.inst.Ty.TheVariants.{Int as IntTy, Ptr as PtrTy, Vector}
 use Rattle.ir_types.specs.declared.inst.BinOp.{BinOp}
 use Rattle.ir_types.specs.declared.inst.BinOp.TheVariants.{Add}
 use Rattle.ir_types.specs.declared.inst.Flags.{Flags}

@@ -1,8 +1,8 @@
 -- What the bytes of names and numbers stand for.
-use Rattle.std.specs.Prelude.{ℕ, zero, suc, ◌+◌, ◌*◌, ◌-◌, ◌%◌, ◌^◌, ◌&&◌, ◌==◌, nat_lt, List, [], ◌∷◌, Option, Some, None, if◌then◌else◌}
+use Rattle.std.specs.Prelude.{ℕ, ◌-◌, ◌%◌, ◌^◌, ◌==◌, nat_lt, List, [], ◌∷◌, Option, Some, None, if◌then◌else◌}
 use Rattle.ir_types.specs.declared.name.Name.{Name}
 use Rattle.ir_types.specs.declared.name.Name.TheVariants.{Text, Number}
-use Rattle.forms.specs.Lexical.{is_digit, is_hex}
+use Rattle.forms.specs.Lexical.{is_digit}
 pub use Rattle.forms.specs.Numbers.{number_from, number_of}
 pub use Rattle.forms.specs.Strings.{hex_value, escape, byte_at, unescaped_behind, unescaped, without_last}
 
