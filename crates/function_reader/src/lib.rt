@@ -11,4 +11,5 @@ mod passing;
 mod tests;
 
 pub use function::{declared, defined};
+pub use ir_reader_ops::{excluded_words, kept};
 pub use passing::pass_defined;

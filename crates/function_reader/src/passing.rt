@@ -5,8 +5,9 @@ ghost use Rattle.forms.specs.declared.TokenKind.TheVariants.{Comma, LeftParen, R
 ghost use Rattle.forms.specs.Reading.{read, opens};
 ghost use Rattle.forms.specs.Gives.{Gives, left};
 ghost use Rattle.ir_types.specs.Grammar.{local_name, parameter, between, marked, commas, list};
+ghost use Rattle.ir_types.specs.Skimmed.{skimmed_definition};
 ghost use Rattle.kept_runs.specs.Passed.{passed};
-ghost use Rattle.function_reader.specs.Passing.{passed_definition};
+ghost use Rattle.function_reader.specs.Passing.{skimmed_name};
 
 use crate::param::{another, begins_param};
 use forms::{Cursor, SyntaxFault, TokenKind};
@@ -80,7 +81,7 @@ pub fn pass_defined<'t>(
     alloc: Global,
     tokens: Cursor<'t>,
 ) -> Result<(Name, Cursor<'t>), SyntaxFault>
-    ensures { Gives (λ x. (x.0, left x.1)) result (passed_definition (left tokens.entry)) }
+    ensures { Gives (λ x. (x.0, left x.1)) result (skimmed_name (read skimmed_definition (left tokens.entry))) }
 {
     let (_, rest) = kept(alloc, tokens)?;
     let (_, rest) = return_type(rest)?;

@@ -1,15 +1,15 @@
 -- Reading `getelementptr` part after part is reading it whole.
-use Rattle.std.proofs.Common.{◌≡◌, ℕ, Bool, List, [], ◌∷◌, ◌++◌, map, Option, Some, None, refl, sym, ap, ◌∙◌}
+use Rattle.std.proofs.Common.{◌≡◌, ℕ, Bool, false, List, [], ◌∷◌, map, Option, Some, None, refl, sym, ap, ◌∙◌}
 use Rattle.forms.specs.declared.TokenKind.TheVariants.{Comma}
 use Rattle.forms.specs.Form.{Lexeme, Form, pair, many}
-use Rattle.forms.specs.Reading.{◌>>=◌, read}
+use Rattle.forms.specs.Reading.{◌>>=◌, nullable, read}
 use Rattle.forms.specs.Walk.{completed}
 use Rattle.ir_types.specs.declared.inst.Ty.TheVariants.{Ptr}
 use Rattle.ir_types.specs.Kinds.{Offset}
 use Rattle.ir_types.specs.Offsets.{Definitions}
 use Rattle.ir_types.specs.TypeNodes.{TypeNode}
 use Rattle.ir_types.specs.Tree.{OperandTree, InstTree}
-use Rattle.ir_types.specs.Grammar.{bare_inst, three_flags, inst_memory, pointer_value, after_mark, some, offset_tree, getelementptr}
+use Rattle.ir_types.specs.Grammar.{bare_inst, three_flags, inst_memory, pointer_value, index_value, width, after_mark, some, offset_tree, getelementptr}
 use Rattle.ir_reader_ops.specs.Split.{split_each, behind_both}
 use Rattle.ir_reader_ops.specs.Offsets.{as_two, next_index, indexes_read, getelementptr_read}
 use Rattle.ir_reader_ops.proofs.Chains.{alike, first_apart}
@@ -55,3 +55,8 @@ getelementptr_is defs ts =
     first_apart (λ x. Some (offset_tree (f.0, (m.0, x)))) pointer (some (next_index defs)) m.1
     ∙ alike (read pointer m.1) _ _ (λ p. behind_pointer defs f.0 m.0 p.0 p.1)
     ∙ sym (assoc (read pointer m.1) (λ p. indexes_read defs (p.0 ∷ []) p.1) (λ s. Some (offset_of_steps f.0 m.0 s.0, s.1)))))
+
+-- an index takes a token
+pub next_takes : (defs : Definitions) → nullable (next_index defs) ≡ false
+unfolding index_value width
+next_takes defs = refl

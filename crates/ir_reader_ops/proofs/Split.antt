@@ -1,12 +1,13 @@
 -- Entries of a phi and cases of a switch, read into two lists.
 use Rattle.std.proofs.Common.{◌≡◌, ℕ, Bool, true, false, cond, ◌&&◌, eqb, List, [], ◌∷◌, ◌++◌, map, Option, Some, None, refl, sym, ap, ◌∙◌, append_assoc}
 use Rattle.std.specs.List.{list_all}
+use Rattle.std.proofs.lemmas.List.{append-nil}
 use Rattle.forms.specs.declared.TokenKind.TheVariants.{Comma, LeftBracket, RightBracket}
-use Rattle.forms.specs.Form.{Lexeme, Form, pair, many}
+use Rattle.forms.specs.Form.{Lexeme, Form, mapped, pair, many}
 use Rattle.forms.specs.Reading.{◌>>=◌, nullable, opens, read}
 use Rattle.forms.specs.Walk.{completed}
 use Rattle.forms.specs.Gives.{mark}
-use Rattle.forms.proofs.Many.{many_step}
+use Rattle.forms.proofs.Many.{many_step, many_done}
 use Rattle.forms.proofs.Walks.{completed_some}
 use Rattle.ir_types.specs.declared.name.Name.{Name}
 use Rattle.ir_types.specs.declared.inst.Ty.{Ty}
@@ -16,6 +17,7 @@ use Rattle.ir_types.specs.Offsets.{Definitions}
 use Rattle.ir_types.specs.Tree.{OperandTree, InstTree}
 use Rattle.ir_types.specs.Written.{number_at}
 use Rattle.ir_types.specs.Grammar.{WrittenValue, operand_at, entries_at, cases_at, bare_inst, width, value_type, value, index_value, after_mark, between, target, commas, local_name, entry_of_phi, phi_tree, phi, case_of_switch, switch_tree, switch}
+use Rattle.ir_reader_ops.specs.Offsets.{as_two}
 use Rattle.ir_reader_ops.specs.Split.{split_each, behind_both, entry_at, entry_read, phi_read, case_at, cases_read, switch_read}
 use Rattle.ir_reader_ops.proofs.Chains.{alike, first_apart, chained, then_made, completed_alike, between_is}
 
@@ -45,6 +47,59 @@ pub goes_split : {A B C : Type 0} (f : Form A) (step : A → Option (B × C)) (b
 goes_split f step bs cs b c ts us whole n o e before =
     let x = completed_some step (read f ts) ((b, c), us) e in
     sym (ap (λ (r : Option _). behind_both bs cs (completed (split_each step) r)) (many_step f ts n o ∙ ap (then_more f) x.1) ∙ regroup step bs cs x.0 b c (read (many f) us) x.2) ∙ before
+
+-- no element stands there
+pub split_ends : {A B C : Type 0} (f : Form A) (step : A → Option (B × C)) (bs : List B) (cs : List C) (ts : List Lexeme) (whole : Both B C) → opens f ts ≡ false
+    → behind_both bs cs (completed (split_each step) (read (many f) ts)) ≡ whole → whole ≡ Some ((bs, cs), ts)
+split_ends {A} {B} {C} f step bs cs ts whole o before =
+    sym before
+    ∙ ap (λ (r : Option _). behind_both bs cs (completed (split_each step) r)) (many_done f ts o)
+    ∙ ap (λ (l : List B). Some ((l, cs ++ []), ts)) (append-nil bs)
+    ∙ ap (λ (l : List C). Some ((bs, l), ts)) (append-nil cs)
+
+refused : {A B C : Type 0} (step : A → Option (B × C)) (bs : List B) (cs : List C) (a : A) (r : Option (List A × List Lexeme)) → step a ≡ None → behind_both bs cs (completed (split_each step) (first_before a r)) ≡ None
+refused step bs cs a None e = refl
+refused step bs cs a (Some x) e = ap (λ (o : Option _). behind_both bs cs ((o >>= λ p. split_each step x.0 >>= λ q. Some (p.0 ∷ q.0, p.1 ∷ q.1)) >>= λ v. Some (v, x.1))) e
+
+nothing_made : {B C : Type 0} (o : Option (B × C)) (us : List Lexeme) → (o >>= λ b. Some (b, us)) ≡ None → o ≡ None
+nothing_made None us e = refl
+nothing_made (Some b) us e = absurd cc
+
+-- an element is not read
+pub split_fails : {A B C : Type 0} (f : Form A) (step : A → Option (B × C)) (bs : List B) (cs : List C) (ts : List Lexeme) (whole : Both B C) → nullable f ≡ false → opens f ts ≡ true → completed step (read f ts) ≡ None
+    → behind_both bs cs (completed (split_each step) (read (many f) ts)) ≡ whole → whole ≡ None
+split_fails {A} {B} {C} f step bs cs ts whole n o e before = by (read f ts) refl e
+  where
+    by : (r : Option (A × List Lexeme)) → read f ts ≡ r → completed step r ≡ None → whole ≡ None
+    by None d e = sym before ∙ ap (λ (r : Option _). behind_both bs cs (completed (split_each step) r)) (many_step f ts n o ∙ ap (then_more f) d)
+    by (Some x) d e = sym before ∙ ap (λ (r : Option _). behind_both bs cs (completed (split_each step) r)) (many_step f ts n o ∙ ap (then_more f) d) ∙ refused step bs cs x.0 (read (many f) x.1) (nothing_made (step x.0) x.1 e)
+
+-- ---- pairs
+
+-- one pair more
+pub goes_two : {B C : Type 0} (f : Form (B × C)) (bs : List B) (cs : List C) (b : B) (c : C) (ts us : List Lexeme) (whole : Both B C) → nullable f ≡ false → opens f ts ≡ true → read f ts ≡ Some ((b, c), us)
+    → behind_both bs cs (completed (split_each as_two) (read (many f) ts)) ≡ whole → behind_both (bs ++ b ∷ []) (cs ++ c ∷ []) (completed (split_each as_two) (read (many f) us)) ≡ whole
+goes_two f bs cs b c ts us whole n o e before = goes_split f as_two bs cs b c ts us whole n o (ap (completed as_two) e) before
+
+-- a pair is not read
+pub fails_two : {B C : Type 0} (f : Form (B × C)) (bs : List B) (cs : List C) (ts : List Lexeme) (whole : Both B C) → nullable f ≡ false → opens f ts ≡ true → read f ts ≡ None
+    → behind_both bs cs (completed (split_each as_two) (read (many f) ts)) ≡ whole → whole ≡ None
+fails_two f bs cs ts whole n o e before = split_fails f as_two bs cs ts whole n o (ap (completed as_two) e) before
+
+abbrev consed : {A : Type 0} → A → Option (List A × List Lexeme) → Option (List A × List Lexeme)
+consed a r = (r >>= λ y. Some ((a, y.0), y.1)) >>= λ z. Some (z.0.0 ∷ z.0.1, z.1)
+
+consed_is : {A : Type 0} (a : A) (r : Option (List A × List Lexeme)) → consed a r ≡ first_before a r
+consed_is a None = refl
+consed_is a (Some x) = refl
+
+-- the first pair
+pub first_two : {B C : Type 0} (f g : Form (B × C)) (bs : List B) (cs : List C) (b : B) (c : C) (ts us : List Lexeme) → read f ts ≡ Some ((b, c), us)
+    → behind_both (bs ++ b ∷ []) (cs ++ c ∷ []) (completed (split_each as_two) (read (many g) us)) ≡ behind_both bs cs (completed (split_each as_two) (read (mapped (λ x. x.0 ∷ x.1) (pair f (many g))) ts))
+first_two {B} {C} f g bs cs b c ts us e =
+    sym (ap (λ (r : Option ((B × C) × List Lexeme)). behind_both bs cs (completed (split_each as_two) ((r >>= λ x. read (many g) x.1 >>= λ y. Some ((x.0, y.0), y.1)) >>= λ z. Some (z.0.0 ∷ z.0.1, z.1)))) e
+    ∙ ap (λ (r : Option _). behind_both bs cs (completed (split_each as_two) r)) (consed_is (b, c) (read (many g) us))
+    ∙ regroup as_two bs cs (b, c) b c (read (many g) us) refl)
 
 -- one element, and what the others become
 abbrev more_split : {B C : Type 0} → Option (B × C) → Option (List B × List C) → Option (List B × List C)

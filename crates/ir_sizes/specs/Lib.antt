@@ -1,5 +1,3 @@
 pub mod Known
-pub mod Put
 pub mod Small
-pub mod Definitions
 pub mod Stepping

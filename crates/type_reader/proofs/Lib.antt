@@ -8,5 +8,4 @@ pub mod Holding
 pub mod Openings
 pub mod LookUps
 pub mod Growth
-pub mod Defining
 pub mod Looking
