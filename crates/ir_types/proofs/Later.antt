@@ -1,5 +1,5 @@
--- What one form reads is what another reads, completed then.
-use Rattle.std.proofs.Common.{◌≡◌, ℕ, zero, suc, ◌==◌, Bool, true, false, cond, List, [], ◌∷◌, length, Option, Some, None, refl, sym, ap, ◌∙◌}
+-- What one form reads at once, another reads in two steps: first something that is known less, and then the rest of it.
+use Rattle.std.proofs.Common.{◌≡◌, ℕ, zero, suc, ◌==◌, Bool, true, false, cond, List, [], ◌∷◌, length, Option, Some, None, refl, ap, ◌∙◌}
 use Rattle.forms.specs.declared.TokenKind.TheVariants.{Word}
 use Rattle.forms.specs.Form.{kind_code, Lexeme, Form, entry, pair, mapped, by_word}
 use Rattle.forms.specs.Reading.{◌>>=◌, read, read_each, read_whole}
@@ -7,125 +7,144 @@ use Rattle.forms.specs.Walk.{completed}
 
 -- What the one form reads is what the other reads, completed.
 abbrev pub Later : {A B : Type 0} → Form A → Form B → (B → Option A) → Type 0
-Later f g k = (ts : List Lexeme) → read f ts ≡ completed k (read g ts)
+Later f g complete = (ts : List Lexeme) → read f ts ≡ completed complete (read g ts)
 
-pub same_completed : {A B R : Type 0} (k l : A → Option B) (r : Option (A × R)) → ((a : A) → k a ≡ l a) → completed k r ≡ completed l r
-same_completed k l None h = refl
-same_completed k l (Some x) h = ap (λ (o : Option _). o >>= λ b. Some (b, x.1)) (h x.0)
-
--- a value, and the tokens that are left
-abbrev pub leaving : {A R : Type 0} → R → A → Option (A × R)
+-- a value, with the tokens that are left
+abbrev leaving : {A R : Type 0} → R → A → Option (A × R)
 leaving us a = Some (a, us)
 
+-- ---- a form behind another
+
 -- a value behind another
-abbrev pub beside : {A C : Type 0} → C → A → Option (C × A)
+abbrev beside : {A C : Type 0} → C → A → Option (C × A)
 beside c a = Some (c, a)
 
 -- the same, with the tokens that are left
-abbrev pub beside_left : {A C : Type 0} → C → A × List Lexeme → Option ((C × A) × List Lexeme)
+abbrev beside_left : {A C : Type 0} → C → A × List Lexeme → Option ((C × A) × List Lexeme)
 beside_left c y = Some ((c, y.0), y.1)
 
--- the second of two is completed
+-- of two values the second is completed
 abbrev pub second : {A B C : Type 0} → (B → Option A) → C × B → Option (C × A)
-second k x = k x.1 >>= beside x.0
+second complete x = complete x.1 >>= beside x.0
 
--- behind another form
-pub pair_later : {A B C : Type 0} (f : Form C) (g : Form A) (h : Form B) (k : B → Option A) → Later g h k → Later (pair f g) (pair f h) (second k)
-pair_later {A} {B} {C} f g h k l ts = by (read f ts)
+pub pair_later : {A B C : Type 0} (f : Form C) (g : Form A) (h : Form B) (complete : B → Option A) → Later g h complete → Later (pair f g) (pair f h) (second complete)
+pair_later {A} {B} {C} f g h complete later ts = by (read f ts)
   where
-    last : (c : C) (o : Option A) (us : List Lexeme) → ((o >>= leaving us) >>= beside_left c) ≡ ((o >>= beside c) >>= leaving us)
-    last c None us = refl
-    last c (Some a) us = refl
+    left_last : (c : C) (o : Option A) (us : List Lexeme) → ((o >>= leaving us) >>= beside_left c) ≡ ((o >>= beside c) >>= leaving us)
+    left_last c None us = refl
+    left_last c (Some a) us = refl
 
-    then : (c : C) (r : Option (B × List Lexeme)) → (completed k r >>= beside_left c) ≡ completed (second k) (r >>= beside_left c)
+    then : (c : C) (r : Option (B × List Lexeme)) → (completed complete r >>= beside_left c) ≡ completed (second complete) (r >>= beside_left c)
     then c None = refl
-    then c (Some y) = last c (k y.0) y.1
+    then c (Some y) = left_last c (complete y.0) y.1
 
-    by : (r : Option (C × List Lexeme)) → (r >>= λ x. read g x.1 >>= beside_left x.0) ≡ completed (second k) (r >>= λ x. read h x.1 >>= beside_left x.0)
+    by : (r : Option (C × List Lexeme)) → (r >>= λ x. read g x.1 >>= beside_left x.0) ≡ completed (second complete) (r >>= λ x. read h x.1 >>= beside_left x.0)
     by None = refl
-    by (Some x) = ap (λ (q : Option (A × List Lexeme)). q >>= beside_left x.0) (l x.1) ∙ then x.0 (read h x.1)
+    by (Some x) = ap (λ (q : Option (A × List Lexeme)). q >>= beside_left x.0) (later x.1) ∙ then x.0 (read h x.1)
+
+-- ---- what functions make of it
 
 -- what a function makes of a value
 abbrev pub into : {A C : Type 0} → (A → C) → A → Option C
-into m a = Some (m a)
+into make a = Some (make a)
 
 -- the same, with the tokens that are left
-abbrev pub into_left : {A C : Type 0} → (A → C) → A × List Lexeme → Option (C × List Lexeme)
-into_left m x = Some (m x.0, x.1)
+abbrev into_left : {A C : Type 0} → (A → C) → A × List Lexeme → Option (C × List Lexeme)
+into_left make x = Some (make x.0, x.1)
 
-pub mapped_later : {A B C D : Type 0} (f : Form A) (g : Form B) (k : B → Option A) (m : A → C) (n : B → D) (l : D → Option C) → Later f g k → ((b : B) → l (n b) ≡ (k b >>= into m)) → Later (mapped m f) (mapped n g) l
-mapped_later {A} {B} {C} {D} f g k m n l h e ts = ap (λ (q : Option (A × List Lexeme)). q >>= into_left m) (h ts) ∙ by (read g ts)
+pub mapped_later : {A B C D : Type 0} (f : Form A) (g : Form B) (complete : B → Option A) (make : A → C) (make_less : B → D) (complete_made : D → Option C)
+    → Later f g complete → ((b : B) → complete_made (make_less b) ≡ (complete b >>= into make)) → Later (mapped make f) (mapped make_less g) complete_made
+mapped_later {A} {B} {C} {D} f g complete make make_less complete_made later same ts = ap (λ (q : Option (A × List Lexeme)). q >>= into_left make) (later ts) ∙ by (read g ts)
   where
-    last : (o : Option A) (us : List Lexeme) → ((o >>= leaving us) >>= into_left m) ≡ ((o >>= into m) >>= leaving us)
-    last None us = refl
-    last (Some a) us = refl
+    left_last : (o : Option A) (us : List Lexeme) → ((o >>= leaving us) >>= into_left make) ≡ ((o >>= into make) >>= leaving us)
+    left_last None us = refl
+    left_last (Some a) us = refl
 
-    by : (r : Option (B × List Lexeme)) → (completed k r >>= into_left m) ≡ completed l (r >>= into_left n)
+    by : (r : Option (B × List Lexeme)) → (completed complete r >>= into_left make) ≡ completed complete_made (r >>= into_left make_less)
     by None = refl
-    by (Some y) = last (k y.0) y.1 ∙ ap (λ (o : Option C). o >>= leaving y.1) (sym (e y.0))
+    by (Some y) = rw (same y.0) (left_last (complete y.0) y.1)
 
--- behind a word
-pub word_later : {K A B : Type 0} (table : List (List ℕ × K)) (f : K → Form A) (g : K → Form B) (k : B → Option A) → ((w : K) → Later (f w) (g w) k) → Later (by_word table f) (by_word table g) k
-word_later {K} {A} {B} table f g k l [] = refl
-word_later {K} {A} {B} table f g k l (t ∷ ts) = by (kind_code t.kind == kind_code Word) (entry table t.text)
+-- where nothing is left to be completed
+pub at_once : {A B : Type 0} (f : Form A) (make_less : A → B) (complete : B → Option A) → ((a : A) → complete (make_less a) ≡ Some a) → Later f (mapped make_less f) complete
+at_once {A} {B} f make_less complete same ts = by (read f ts)
   where
-    by : (b : Bool) (o : Option K) → cond b (o >>= λ w. read (f w) ts) None ≡ completed k (cond b (o >>= λ w. read (g w) ts) None)
+    by : (r : Option (A × List Lexeme)) → r ≡ completed complete (r >>= into_left make_less)
+    by None = refl
+    by (Some x) = rw (same x.0) refl
+
+-- ---- behind a word
+
+pub word_later : {K A B : Type 0} (table : List (List ℕ × K)) (f : K → Form A) (g : K → Form B) (complete : B → Option A) → ((k : K) → Later (f k) (g k) complete) → Later (by_word table f) (by_word table g) complete
+word_later table f g complete later [] = refl
+word_later {K} {A} {B} table f g complete later (t ∷ ts) = by (kind_code t.kind == kind_code Word) (entry table t.text)
+  where
+    by : (b : Bool) (o : Option K) → cond b (o >>= λ k. read (f k) ts) None ≡ completed complete (cond b (o >>= λ k. read (g k) ts) None)
     by false o = refl
     by true None = refl
-    by true (Some w) = l w ts
+    by true (Some k) = later k ts
 
--- value after value
-abbrev pub before : {A : Type 0} → A → List A → Option (List A)
-before a more = Some (a ∷ more)
-
-abbrev pub before_left : {A : Type 0} → A → List A × List Lexeme → Option (List A × List Lexeme)
-before_left a y = Some (a ∷ y.0, y.1)
+-- ---- value after value
 
 -- each of a list is completed
 abbrev pub each : {A B : Type 0} → (B → Option A) → List B → Option (List A)
-each k [] = Some []
-each k (b ∷ bs) = k b >>= λ a. each k bs >>= before a
+each complete [] = Some []
+each complete (b ∷ bs) = complete b >>= λ a. each complete bs >>= λ more. Some (a ∷ more)
 
-pub each_later : {A B : Type 0} (p : List Lexeme → Bool) (f : Form A) (g : Form B) (k : B → Option A) → Later f g k → (n : ℕ) (ts : List Lexeme) → read_each p (read f) n ts ≡ completed (each k) (read_each p (read g) n ts)
-each_later p f g k l zero ts = refl
-each_later {A} {B} p f g k l (suc n) ts = by (p ts) (read g ts) (l ts) (each_later p f g k l n)
+-- a value before others, with the tokens that are left
+abbrev before_left : {A : Type 0} → A → List A × List Lexeme → Option (List A × List Lexeme)
+before_left a y = Some (a ∷ y.0, y.1)
+
+abbrev then_more : {A : Type 0} → (List Lexeme → Option (List A × List Lexeme)) → A × List Lexeme → Option (List A × List Lexeme)
+then_more more x = more x.1 >>= before_left x.0
+
+abbrev no_list : {A : Type 0} → Option (List A × List Lexeme)
+no_list = None
+
+-- one is completed, and those behind it are
+one_before : {A B : Type 0} (complete : B → Option A) (b : B) (r : Option (List B × List Lexeme)) → (complete b >>= λ a. completed (each complete) r >>= before_left a) ≡ completed (each complete) (r >>= before_left b)
+one_before {A} {B} complete b None = by (complete b)
   where
-    last : (a : A) (o : Option (List A)) (us : List Lexeme) → ((o >>= leaving us) >>= before_left a) ≡ ((o >>= before a) >>= leaving us)
-    last a None us = refl
-    last a (Some more) us = refl
+    by : (o : Option A) → (o >>= λ a. no_list {A = A}) ≡ no_list
+    by None = refl
+    by (Some a) = refl
+one_before {A} {B} complete b (Some y) = by (complete b)
+  where
+    left_last : (a : A) (o : Option (List A)) → ((o >>= leaving y.1) >>= before_left a) ≡ ((o >>= λ more. Some (a ∷ more)) >>= leaving y.1)
+    left_last a None = refl
+    left_last a (Some more) = refl
 
-    then : (b : B) (o : Option A) (r : Option (List B × List Lexeme)) → k b ≡ o → (o >>= λ a. completed (each k) r >>= before_left a) ≡ completed (each k) (r >>= before_left b)
-    then b None None e = refl
-    then b (Some a) None e = refl
-    then b None (Some y) e = rw e refl
-    then b (Some a) (Some y) e = rw e (last a (each k y.0) y.1)
+    by : (o : Option A) → (o >>= λ a. (each complete y.0 >>= leaving y.1) >>= before_left a) ≡ ((o >>= λ a. each complete y.0 >>= λ more. Some (a ∷ more)) >>= leaving y.1)
+    by None = refl
+    by (Some a) = left_last a (each complete y.0)
 
-    regroup : (o : Option A) (us : List Lexeme) → ((o >>= leaving us) >>= λ x. read_each p (read f) n x.1 >>= before_left x.0) ≡ (o >>= λ a. read_each p (read f) n us >>= before_left a)
-    regroup None us = refl
-    regroup (Some a) us = refl
+pub each_later : {A B : Type 0} (p : List Lexeme → Bool) (f : Form A) (g : Form B) (complete : B → Option A) → Later f g complete → (n : ℕ) (ts : List Lexeme) → read_each p (read f) n ts ≡ completed (each complete) (read_each p (read g) n ts)
+each_later p f g complete later zero ts = refl
+each_later {A} {B} p f g complete later (suc n) ts = by (p ts) (read g ts) (later ts) (each_later p f g complete later n)
+  where
+    through : (o : Option A) (us : List Lexeme) → ((o >>= leaving us) >>= then_more (read_each p (read f) n)) ≡ (o >>= λ a. read_each p (read f) n us >>= before_left a)
+    through None us = refl
+    through (Some a) us = refl
 
-    by : (c : Bool) (r : Option (B × List Lexeme)) → read f ts ≡ completed k r → ((us : List Lexeme) → read_each p (read f) n us ≡ completed (each k) (read_each p (read g) n us))
-        → cond c (read f ts >>= λ x. read_each p (read f) n x.1 >>= before_left x.0) (Some ([], ts)) ≡ completed (each k) (cond c (r >>= λ x. read_each p (read g) n x.1 >>= before_left x.0) (Some ([], ts)))
-    by false r e h = refl
-    by true None e h = rw e refl
-    by true (Some x) e h = rw e (regroup (k x.0) x.1 ∙ rw (h x.1) (then x.0 (k x.0) (read_each p (read g) n x.1) refl))
+    by : (c : Bool) (r : Option (B × List Lexeme)) → read f ts ≡ completed complete r → ((us : List Lexeme) → read_each p (read f) n us ≡ completed (each complete) (read_each p (read g) n us))
+        → cond c (read f ts >>= then_more (read_each p (read f) n)) (Some ([], ts)) ≡ completed (each complete) (cond c (r >>= then_more (read_each p (read g) n)) (Some ([], ts)))
+    by false r e behind = refl
+    by true None e behind = rw e refl
+    by true (Some x) e behind = rw e (through (complete x.0) x.1 ∙ rw (behind x.1) (one_before complete x.0 (read_each p (read g) n x.1)))
 
--- all of the tokens
+-- ---- all of the tokens
+
 abbrev if_none_left : {A : Type 0} → A × List Lexeme → Option A
 if_none_left x = cond (length x.1 == 0) (Some x.0) None
 
-pub whole_later : {A B : Type 0} (f : Form A) (g : Form B) (k : B → Option A) → Later f g k → (ts : List Lexeme) → read_whole f ts ≡ (read_whole g ts >>= k)
-whole_later {A} {B} f g k l ts = ap (λ (q : Option (A × List Lexeme)). q >>= if_none_left) (l ts) ∙ by (read g ts)
+pub whole_later : {A B : Type 0} (f : Form A) (g : Form B) (complete : B → Option A) → Later f g complete → (ts : List Lexeme) → read_whole f ts ≡ (read_whole g ts >>= complete)
+whole_later {A} {B} f g complete later ts = ap (λ (q : Option (A × List Lexeme)). q >>= if_none_left) (later ts) ∙ by (read g ts)
   where
-    regroup : (o : Option A) (us : List Lexeme) (b : Bool) → length us == 0 ≡ b → ((o >>= leaving us) >>= if_none_left) ≡ cond b o None
-    regroup None us true e = refl
-    regroup None us false e = refl
-    regroup (Some a) us b e = rw e refl
+    chosen : (b : B) (o : Option A) (us : List Lexeme) (c : Bool) → complete b ≡ o → (length us == 0) ≡ c → ((o >>= leaving us) >>= if_none_left) ≡ (cond c (Some b) None >>= complete)
+    chosen b None us true d e = rw d refl
+    chosen b None us false d e = refl
+    chosen b (Some a) us true d e = rw (d, e) refl
+    chosen b (Some a) us false d e = rw e refl
 
-    chosen : (y : B) (b : Bool) → cond b (k y) None ≡ (cond b (Some y) None >>= k)
-    chosen y true = refl
-    chosen y false = refl
-
-    by : (r : Option (B × List Lexeme)) → (completed k r >>= if_none_left) ≡ ((r >>= if_none_left) >>= k)
+    by : (r : Option (B × List Lexeme)) → (completed complete r >>= if_none_left) ≡ ((r >>= if_none_left) >>= complete)
     by None = refl
-    by (Some y) = regroup (k y.0) y.1 (length y.1 == 0) refl ∙ chosen y.0 (length y.1 == 0)
+    by (Some y) = chosen y.0 (complete y.0) y.1 (length y.1 == 0) refl refl
