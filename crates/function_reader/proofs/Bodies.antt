@@ -11,8 +11,10 @@ use Rattle.ir_types.specs.declared.inst.Ty.{Ty}
 use Rattle.ir_types.specs.Tree.{KeptTexts, ParamTree, BlockTree, FunctionTree, WrittenParam, WrittenBlock}
 use Rattle.ir_types.specs.Grammar.{return_type, global_name, kept, parameter, dotted_parameters, list, some, block, between, declared_tree, declared_function, defined_tree, defined_function}
 use Rattle.ir_types.specs.Numbered.{numbered_param, numbered_block, numbered_function}
-use Rattle.function_reader.specs.Functions.{between_read, numbered_dotted, declared_read, defined_read}
-use Rattle.function_reader.proofs.Chains.{alike, first_apart, chained, then_made, between_is, completed_mapped, completed_alike}
+use Rattle.ir_types.specs.Offsets.{Definitions}
+use Rattle.ir_reader_ops.specs.Between.{between_read}
+use Rattle.function_reader.specs.Functions.{numbered_dotted, declared_read, defined_read}
+use Rattle.ir_reader_ops.proofs.Chains.{alike, first_apart, chained, then_made, between_is, completed_mapped, completed_alike}
 
 -- ---- declared functions
 
@@ -58,8 +60,8 @@ declared_is ts =
 abbrev in_parens : Form (List WrittenParam)
 in_parens = between LeftParen RightParen (list parameter)
 
-abbrev in_braces : Form (List WrittenBlock)
-in_braces = between LeftBrace RightBrace (some block)
+abbrev in_braces : Definitions → Form (List WrittenBlock)
+in_braces defs = between LeftBrace RightBrace (some (block defs))
 
 abbrev defined_of : KeptTexts → Ty → Name → List ParamTree → KeptTexts → List BlockTree × ℕ → FunctionTree
 defined_of b t n ps a k = record { name = n; before = b; ret = t; params = ps; varargs = false; after = a; body = k.0 }
@@ -67,33 +69,33 @@ defined_of b t n ps a k = record { name = n; before = b; ret = t; params = ps; v
 abbrev with_blocks : KeptTexts → Ty → Name → List ParamTree × ℕ → KeptTexts × List WrittenBlock → Option FunctionTree
 with_blocks b t n p x = walk numbered_block p.1 x.1 >>= λ k. Some (defined_of b t n p.0 x.0 k)
 
-behind_params : (b : KeptTexts) (t : Ty) (n : Name) (p : List ParamTree × ℕ) (ts : List Lexeme)
-    → (read (joined kept attachments) ts >>= λ a. between_read LeftBrace RightBrace (walk numbered_block p.1) (read (some block)) a.1 >>= λ k. Some (defined_of b t n p.0 a.0 k.0, k.1))
-    ≡ completed (with_blocks b t n p) (read (pair (joined kept attachments) in_braces) ts)
-behind_params b t n p ts =
+behind_params : (defs : Definitions) (b : KeptTexts) (t : Ty) (n : Name) (p : List ParamTree × ℕ) (ts : List Lexeme)
+    → (read (joined kept attachments) ts >>= λ a. between_read LeftBrace RightBrace (walk numbered_block p.1) (read (some (block defs))) a.1 >>= λ k. Some (defined_of b t n p.0 a.0 k.0, k.1))
+    ≡ completed (with_blocks b t n p) (read (pair (joined kept attachments) (in_braces defs)) ts)
+behind_params defs b t n p ts =
     alike (read (joined kept attachments) ts) _ _ (λ a.
-    ap (λ (o : Option _). o >>= λ k. Some (defined_of b t n p.0 a.0 k.0, k.1)) (between_is LeftBrace RightBrace (walk numbered_block p.1) (some block) a.1)
-    ∙ sym (then_made (walk numbered_block p.1) (defined_of b t n p.0 a.0) (read in_braces a.1)))
-    ∙ sym (first_apart (with_blocks b t n p) (joined kept attachments) in_braces ts)
+    ap (λ (o : Option _). o >>= λ k. Some (defined_of b t n p.0 a.0 k.0, k.1)) (between_is LeftBrace RightBrace (walk numbered_block p.1) (some (block defs)) a.1)
+    ∙ sym (then_made (walk numbered_block p.1) (defined_of b t n p.0 a.0) (read (in_braces defs) a.1)))
+    ∙ sym (first_apart (with_blocks b t n p) (joined kept attachments) (in_braces defs) ts)
 
-behind_defined : (b : KeptTexts) (t : Ty) (n : Name) (ts : List Lexeme)
-    → (between_read LeftParen RightParen (walk numbered_param 0) (read (list parameter)) ts >>= λ p. completed (with_blocks b t n p.0) (read (pair (joined kept attachments) in_braces) p.1))
-    ≡ completed (λ x. numbered_function (defined_tree (b, (t, (n, x))))) (read (pair in_parens (pair (joined kept attachments) in_braces)) ts)
-behind_defined b t n ts =
-    ap (λ (o : Option _). o >>= λ p. completed (with_blocks b t n p.0) (read (pair (joined kept attachments) in_braces) p.1)) (between_is LeftParen RightParen (walk numbered_param 0) (list parameter) ts)
-    ∙ sym (chained (walk numbered_param 0) (with_blocks b t n) in_parens (pair (joined kept attachments) in_braces) ts)
+behind_defined : (defs : Definitions) (b : KeptTexts) (t : Ty) (n : Name) (ts : List Lexeme)
+    → (between_read LeftParen RightParen (walk numbered_param 0) (read (list parameter)) ts >>= λ p. completed (with_blocks b t n p.0) (read (pair (joined kept attachments) (in_braces defs)) p.1))
+    ≡ completed (λ x. numbered_function (defined_tree (b, (t, (n, x))))) (read (pair in_parens (pair (joined kept attachments) (in_braces defs))) ts)
+behind_defined defs b t n ts =
+    ap (λ (o : Option _). o >>= λ p. completed (with_blocks b t n p.0) (read (pair (joined kept attachments) (in_braces defs)) p.1)) (between_is LeftParen RightParen (walk numbered_param 0) (list parameter) ts)
+    ∙ sym (chained (walk numbered_param 0) (with_blocks b t n) in_parens (pair (joined kept attachments) (in_braces defs)) ts)
 
-pub defined_is : (ts : List Lexeme) → defined_read ts ≡ completed numbered_function (read defined_function ts)
+pub defined_is : (defs : Definitions) (ts : List Lexeme) → defined_read defs ts ≡ completed numbered_function (read (defined_function defs) ts)
 unfolding defined_function
-defined_is ts =
-    let inner = pair in_parens (pair (joined kept attachments) in_braces) in
+defined_is defs ts =
+    let inner = pair in_parens (pair (joined kept attachments) (in_braces defs)) in
     let named = pair global_name inner in
     let typed = pair return_type named in
     alike (read kept ts) _ _ (λ b.
     alike (read return_type b.1) _ _ (λ t.
     alike (read global_name t.1) _ _ (λ n.
-    alike (between_read LeftParen RightParen (walk numbered_param 0) (read (list parameter)) n.1) _ _ (λ p. behind_params b.0 t.0 n.0 p.0 p.1)
-    ∙ behind_defined b.0 t.0 n.0 n.1)
+    alike (between_read LeftParen RightParen (walk numbered_param 0) (read (list parameter)) n.1) _ _ (λ p. behind_params defs b.0 t.0 n.0 p.0 p.1)
+    ∙ behind_defined defs b.0 t.0 n.0 n.1)
     ∙ sym (first_apart (λ x. numbered_function (defined_tree (b.0, (t.0, x)))) global_name inner t.1))
     ∙ sym (first_apart (λ x. numbered_function (defined_tree (b.0, x))) return_type named b.1))
     ∙ sym (completed_mapped numbered_function defined_tree (pair kept typed) ts ∙ first_apart (λ x. numbered_function (defined_tree x)) kept typed ts)

@@ -7,11 +7,11 @@ use Rattle.forms.specs.Reading.{◌>>=◌, opens, read, any_of, next_in, fits}
 use Rattle.forms.specs.Gives.{mark}
 use Rattle.forms.specs.Walk.{walk, completed}
 use Rattle.ir_types.specs.Tree.{ParamTree, WrittenParam}
-use Rattle.ir_types.specs.Grammar.{parameter, value_type, vector_type, width, commas, marked, dotted, or_no_params, dotted_parameters}
+use Rattle.ir_types.specs.Grammar.{parameter, value_type, vector_type, width, commas, marked, dotted, or_else, dotted_parameters}
 use Rattle.ir_types.specs.Numbered.{numbered_param}
 use Rattle.function_reader.specs.Functions.{numbered_dotted, some_dotted_read}
 use Rattle.function_reader.proofs.Lines.{or_nothing}
-use Rattle.function_reader.proofs.Chains.{alike, chained, completed_mapped}
+use Rattle.ir_reader_ops.proofs.Chains.{alike, chained, completed_mapped}
 
 abbrev Params : Type 0
 Params = List WrittenParam × Bool
@@ -31,7 +31,7 @@ abbrev some_of : Found → Option (Option Params × List Lexeme)
 some_of r = r >>= λ x. Some (Some x.0, x.1)
 
 abbrev all_of : Option (Option Params × List Lexeme) → Found
-all_of r = r >>= λ x. Some (or_no_params x.0, x.1)
+all_of r = r >>= λ x. Some (or_else ([], false) x.0, x.1)
 
 same : (r : Found) → all_of (some_of r) ≡ r
 same None = refl

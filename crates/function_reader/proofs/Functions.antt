@@ -4,7 +4,9 @@ use Rattle.forms.specs.Form.{Lexeme}
 use Rattle.forms.specs.declared.TokenKind.TheVariants.{Label}
 use Rattle.forms.specs.Reading.{◌>>=◌, opens, read, any_of, next_in, fits, first}
 use Rattle.ir_types.specs.Tree.{WrittenParam}
-use Rattle.function_reader.proofs.Lines.{fits_append, or_nothing}
+use Rattle.ir_types.specs.Offsets.{Definitions}
+use Rattle.ir_reader_ops.proofs.Beginnings.{fits_append}
+use Rattle.function_reader.proofs.Lines.{or_nothing}
 use Rattle.ir_types.specs.Grammar.{parameter, value_type, vector_type, width, commas, list, or_none, block, label, line, operation, terminator}
 
 abbrev Params : Type 0
@@ -31,9 +33,9 @@ unfolding parameter value_type vector_type width
 list_none ts e = ap (λ (b : Bool). all_of (cond b (some_of (read (commas parameter) ts)) (Some (None, ts)))) e
 
 -- with which tokens a block begins
-pub block_begins : (ts : List Lexeme) → opens block ts ≡ (next_in (any_of Label ∷ []) ts || (opens (line operation) ts || opens (line terminator) ts))
+pub block_begins : (defs : Definitions) (ts : List Lexeme) → opens (block defs) ts ≡ (next_in (any_of Label ∷ []) ts || (opens (line (operation defs)) ts || opens (line (terminator defs)) ts))
 unfolding block label
-block_begins [] = refl
-block_begins (t ∷ ts) =
-    ap (λ (b : Bool). fits (t ∷ ts) (any_of Label) || b) (fits_append (t ∷ ts) (first (line operation)) (first (line terminator)))
-    ∙ ap (λ (b : Bool). b || (opens (line operation) (t ∷ ts) || opens (line terminator) (t ∷ ts))) (sym (or_nothing (fits (t ∷ ts) (any_of Label))))
+block_begins defs [] = refl
+block_begins defs (t ∷ ts) =
+    ap (λ (b : Bool). fits (t ∷ ts) (any_of Label) || b) (fits_append (t ∷ ts) (first (line (operation defs))) (first (line (terminator defs))))
+    ∙ ap (λ (b : Bool). b || (opens (line (operation defs)) (t ∷ ts) || opens (line (terminator defs)) (t ∷ ts))) (sym (or_nothing (fits (t ∷ ts) (any_of Label))))

@@ -1,10 +1,6 @@
-pub mod Modulo
-pub mod Chains
-pub mod Operands
-pub mod Split
-pub mod Conditions
 pub mod Lines
 pub mod Parts
 pub mod Functions
 pub mod Dotted
 pub mod Bodies
+pub mod Passing

@@ -1,23 +1,23 @@
 -- A line: an instruction, and the name of its result before it where one is written.
-use Rattle.std.proofs.Common.{◌≡◌, ℕ, Bool, true, false, cond, ◌&&◌, ◌||◌, eqb, List, [], ◌∷◌, ◌++◌, codes, Option, Some, None, refl, sym, ap, ◌∙◌, true≢false}
-use Rattle.std.proofs.lemmas.List.{append-nil}
-use Rattle.std.specs.Option.{is_some}
+use Rattle.std.proofs.Common.{◌≡◌, ℕ, Bool, true, false, cond, ◌&&◌, ◌||◌, eqb, List, [], ◌∷◌, ◌++◌, Option, Some, None, refl, sym, ap, ◌∙◌, true≢false}
 use Rattle.forms.specs.declared.TokenKind.{TokenKind}
-use Rattle.forms.specs.declared.TokenKind.TheVariants.{Local, Equal, Word}
-use Rattle.forms.specs.Form.{Lexeme, Form, by_word, kind_code, entry}
-use Rattle.forms.specs.Reading.{◌>>=◌, Terminal, this, any_of, fits, fits_one, next_in, marks_then, nullable, first, all_apart, read, opens}
+use Rattle.forms.specs.declared.TokenKind.TheVariants.{Local, Equal}
+use Rattle.forms.specs.Form.{Lexeme, Form, kind_code}
+use Rattle.forms.specs.Reading.{◌>>=◌, Terminal, any_of, fits, fits_one, next_in, marks_then, nullable, first, all_apart, read, opens}
 use Rattle.forms.proofs.Begins.{opened, all_apart_none}
 use Rattle.forms.proofs.Fronts.{front}
-use Rattle.forms.proofs.Tables.{word_next}
 use Rattle.ir_types.specs.declared.name.Name.{Name}
 use Rattle.ir_types.specs.declared.inst.Ty.{Ty}
 use Rattle.ir_types.specs.declared.inst.Ty.TheVariants.{Int, Ptr, Vector, Void}
 use Rattle.ir_types.specs.Tree.{InstTree}
-use Rattle.ir_types.specs.Grammar.{line, named_by, with_result, operation, operation_words, operation_behind, terminator, terminator_words, terminator_behind}
+use Rattle.ir_types.specs.Grammar.{line, named_by, with_result, operation, operation_words, terminator, terminator_words}
 use Rattle.ir_types.specs.Numbered.{numbered_inst, named_result, next_after}
-use Rattle.function_reader.specs.Lines.{tok, result_next, Found, named_so, plainly, form_at}
-use Rattle.function_reader.specs.declared.inst.Place.{Place}
-use Rattle.function_reader.specs.declared.inst.Place.TheVariants.{Inside, Last}
+use Rattle.ir_types.specs.Offsets.{Definitions}
+use Rattle.ir_reader_ops.specs.declared.inst.Place.{Place}
+use Rattle.ir_reader_ops.specs.declared.inst.Place.TheVariants.{Inside, Last}
+use Rattle.ir_reader_ops.specs.Words.{form_at}
+use Rattle.ir_reader_ops.proofs.Beginnings.{fits_append}
+use Rattle.function_reader.specs.Lines.{tok, result_next, Found, named_so, plainly}
 
 -- where a form doesn't begin that takes a token, nothing is read
 pub not_begun : {A : Type 0} (f : Form A) (ts : List Lexeme) → nullable f ≡ false → opens f ts ≡ false → read f ts ≡ None
@@ -51,14 +51,6 @@ marks_fit k t ts (s ∷ ss) = ap (λ (b : Bool). (eqb (kind_code t.kind) (kind_c
 fits_is_next : (ts : List Lexeme) (ss : List Terminal) → fits_one ts ss ≡ next_in ss ts
 fits_is_next [] ss = nothing_fits ss
 fits_is_next (t ∷ ts) ss = refl
-
-pub fits_append : (ts : List Lexeme) (a b : List Terminal) → fits_one ts (a ++ b) ≡ (fits_one ts a || fits_one ts b)
-fits_append ts [] b = refl
-fits_append ts (s ∷ a) b = ap (λ (x : Bool). fits ts s || x) (fits_append ts a b) ∙ assoc (fits ts s) (fits_one ts a) (fits_one ts b)
-  where
-    assoc : (x y z : Bool) → (x || (y || z)) ≡ ((x || y) || z)
-    assoc true y z = refl
-    assoc false y z = refl
 
 pub or_nothing : (x : Bool) → (x || false) ≡ x
 or_nothing true = refl
@@ -149,50 +141,28 @@ begins_plain f (t ∷ ts) n e = fits_append (t ∷ ts) (behind_name f) (first f)
 
 -- ---- at each place of a block
 
-place_takes : (place : Place) → takes (form_at place)
+place_takes : (defs : Definitions) (place : Place) → takes (form_at defs place)
 unfolding operation terminator
-place_takes Inside = refl
-place_takes Last = refl
+place_takes defs Inside = refl
+place_takes defs Last = refl
 
-place_apart : (place : Place) → begins_apart (form_at place)
+place_apart : (defs : Definitions) (place : Place) → begins_apart (form_at defs place)
 unfolding operation operation_words terminator terminator_words
-place_apart Inside = refl
-place_apart Last = refl
+place_apart defs Inside = refl
+place_apart defs Last = refl
 
-pub named_at : (place : Place) (w v : List ℕ) (us : List Lexeme) → read (line (form_at place)) (tok Local w ∷ tok Equal v ∷ us) ≡ named_so w v (read (form_at place) us)
-named_at place w v us = read_named (form_at place) w v us (place_takes place) (place_apart place)
+module _ (defs : Definitions) (place : Place) where
+  pub named_at : (w v : List ℕ) (us : List Lexeme) → read (line (form_at defs place)) (tok Local w ∷ tok Equal v ∷ us) ≡ named_so w v (read (form_at defs place) us)
+  named_at w v us = read_named (form_at defs place) w v us (place_takes defs place) (place_apart defs place)
 
-pub plain_at : (place : Place) (ts : List Lexeme) → result_next ts ≡ false → read (line (form_at place)) ts ≡ plainly (read (form_at place) ts)
-plain_at place ts e = read_plain (form_at place) ts (place_takes place) e
+  pub plain_at : (ts : List Lexeme) → result_next ts ≡ false → read (line (form_at defs place)) ts ≡ plainly (read (form_at defs place) ts)
+  plain_at ts e = read_plain (form_at defs place) ts (place_takes defs place) e
 
-pub line_begins_named : (place : Place) (w v : List ℕ) (us : List Lexeme) → opens (line (form_at place)) (tok Local w ∷ tok Equal v ∷ us) ≡ opens (form_at place) us
-line_begins_named place w v us = begins_named (form_at place) w v us (place_takes place) (place_apart place)
+  pub line_begins_named : (w v : List ℕ) (us : List Lexeme) → opens (line (form_at defs place)) (tok Local w ∷ tok Equal v ∷ us) ≡ opens (form_at defs place) us
+  line_begins_named w v us = begins_named (form_at defs place) w v us (place_takes defs place) (place_apart defs place)
 
-pub line_begins_plain : (place : Place) (ts : List Lexeme) → result_next ts ≡ false → opens (line (form_at place)) ts ≡ opens (form_at place) ts
-line_begins_plain place ts e = begins_plain (form_at place) ts (place_takes place) e
-
--- a word of an instruction stands next
-
-pub operation_next : (t : Lexeme) (ts : List Lexeme) → opens (by_word operation_words operation_behind) (t ∷ ts) ≡ (eqb (kind_code t.kind) (kind_code Word) && is_some (entry operation_words t.text))
-operation_next t ts = word_next operation_words t ts
-
-pub longer_next : (t : Lexeme) (ts : List Lexeme) → opens (by_word terminator_words terminator_behind) (t ∷ ts) ≡ (eqb (kind_code t.kind) (kind_code Word) && is_some (entry terminator_words t.text))
-longer_next t ts = word_next terminator_words t ts
-
-next_append : (ss rs : List Terminal) (ts : List Lexeme) → next_in (ss ++ rs) ts ≡ (next_in ss ts || next_in rs ts)
-next_append ss rs [] = refl
-next_append ss rs (t ∷ ts) = fits_append (t ∷ ts) ss rs
-
-pub inside_begins : (ts : List Lexeme) → opens (form_at Inside) ts ≡ opens (by_word operation_words operation_behind) ts
-unfolding operation
-inside_begins ts = ap (λ (ss : List Terminal). next_in ss ts) (append-nil (first (by_word operation_words operation_behind)))
-
-pub last_begins : (ts : List Lexeme) → opens (form_at Last) ts ≡ (opens (by_word terminator_words terminator_behind) ts || next_in (this Word (codes "unreachable") ∷ []) ts)
-unfolding terminator
-last_begins ts =
-    let longer = first (by_word terminator_words terminator_behind) in
-    let other : List Terminal = this Word (codes "unreachable") ∷ [] in
-    ap (λ (ss : List Terminal). next_in ss ts) (append-nil (longer ++ other)) ∙ next_append longer other ts
+  pub line_begins_plain : (ts : List Lexeme) → result_next ts ≡ false → opens (line (form_at defs place)) ts ≡ opens (form_at defs place) ts
+  line_begins_plain ts e = begins_plain (form_at defs place) ts (place_takes defs place) e
 
 -- ---- results
 

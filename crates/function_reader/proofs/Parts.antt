@@ -4,11 +4,12 @@ use Rattle.forms.specs.Form.{Lexeme, pair, optional, many}
 use Rattle.forms.specs.Reading.{◌>>=◌, read}
 use Rattle.forms.specs.Walk.{walk, completed}
 use Rattle.ir_types.specs.declared.name.Name.{Name}
+use Rattle.ir_types.specs.Offsets.{Definitions}
 use Rattle.ir_types.specs.Tree.{InstTree, BlockTree}
 use Rattle.ir_types.specs.Grammar.{label, line, operation, terminator, block, block_tree}
 use Rattle.ir_types.specs.Numbered.{named, numbered_inst, numbered_block}
 use Rattle.function_reader.specs.Blocks.{block_read}
-use Rattle.function_reader.proofs.Chains.{alike, chained, then_made, completed_mapped, completed_alike}
+use Rattle.ir_reader_ops.proofs.Chains.{alike, chained, then_made, completed_mapped, completed_alike}
 
 abbrev last_one : {S A B : Type 0} → (S → A → Option (B × S)) → A → Option (List B × S) → Option (List B × S)
 last_one step x o = o >>= λ p. step p.1 x >>= λ q. Some (p.0 ++ q.0 ∷ [], q.1)
@@ -60,18 +61,18 @@ last_numbers n c = ap (named_block n.0) (walk-push numbered_inst n.1 c.0 c.1) �
     by None = refl
     by (Some i) = each i.0 (numbered_inst i.1 c.1)
 
-pub block_is : (next : ℕ) (ts : List Lexeme) → block_read next ts ≡ completed (numbered_block next) (read block ts)
+pub block_is : (defs : Definitions) (next : ℕ) (ts : List Lexeme) → block_read defs next ts ≡ completed (numbered_block next) (read (block defs) ts)
 unfolding block
-block_is next ts =
-    let insts = many (line operation) in
-    let last = line terminator in
+block_is defs next ts =
+    let insts = many (line (operation defs)) in
+    let last = line (terminator defs) in
     alike (completed (named next) (read (optional label) ts)) _ _ (λ n.
     alike (completed (walk numbered_inst n.0.1) (read insts n.1)) _ _ (λ i. sym (then_made (numbered_inst i.0.1) (block_of n.0.0 i.0.0) (read last i.1)))
     ∙ sym (completed_alike (behind_name n.0) _ (read (pair insts last) n.1) (last_numbers n.0) ∙ chained (walk numbered_inst n.0.1) (with_last n.0.0) insts last n.1))
     ∙ sym (completed_mapped (numbered_block next) block_tree (pair (optional label) (pair insts last)) ts ∙ chained (named next) behind_name (optional label) (pair insts last) ts)
 
 -- the parts, where each is read
-pub block_found : (next : ℕ) (n : Name × ℕ) (i : List InstTree × ℕ) (l : InstTree × ℕ) (ts us vs ws : List Lexeme)
-    → completed (named next) (read (optional label) ts) ≡ Some (n, us) → completed (walk numbered_inst n.1) (read (many (line operation)) us) ≡ Some (i, vs) → completed (numbered_inst i.1) (read (line terminator) vs) ≡ Some (l, ws)
-    → block_read next ts ≡ Some (block_of n.0 i.0 l, ws)
-block_found next n i l ts us vs ws first others last = rw (first, others, last) refl
+pub block_found : (defs : Definitions) (next : ℕ) (n : Name × ℕ) (i : List InstTree × ℕ) (l : InstTree × ℕ) (ts us vs ws : List Lexeme)
+    → completed (named next) (read (optional label) ts) ≡ Some (n, us) → completed (walk numbered_inst n.1) (read (many (line (operation defs))) us) ≡ Some (i, vs) → completed (numbered_inst i.1) (read (line (terminator defs)) vs) ≡ Some (l, ws)
+    → block_read defs next ts ≡ Some (block_of n.0 i.0 l, ws)
+block_found defs next n i l ts us vs ws first others last = rw (first, others, last) refl

@@ -6,30 +6,33 @@ ghost use Rattle.forms.specs.declared.TokenKind.TheVariants.{LeftParen, RightPar
 ghost use Rattle.forms.specs.Reading.{read, opens};
 ghost use Rattle.forms.specs.Walk.{walk, completed};
 ghost use Rattle.forms.specs.Gives.{Gives, left};
-ghost use Rattle.ir_types.specs.declared.name.Name.{Name};
 ghost use Rattle.ir_types.specs.Names.{IsTable};
-ghost use Rattle.ir_types.specs.Denotes.{block_in, tree_of_function};
+ghost use Rattle.ir_types.specs.Offsets.{Definitions};
+ghost use Rattle.ir_types.specs.Denotes.{Tables as TablesIn, function_in};
 ghost use Rattle.ir_types.specs.Grammar.{parameter, dotted_parameters, list, some, block, declared_function, defined_function};
 ghost use Rattle.ir_types.specs.Numbered.{numbered_param, numbered_block, numbered_function};
-ghost use Rattle.function_reader.specs.View.{Stays};
-ghost use Rattle.function_reader.specs.Functions.{between_read, params_in, blocks_in, dotted_in, numbered_dotted, declared_read, defined_read};
+ghost use Rattle.type_reader.specs.Tables.{TableLists, tables_in, definitions_of, Grows};
+ghost use Rattle.ir_reader_ops.specs.Seen.{definitions, Widens, Stays};
+ghost use Rattle.ir_reader_ops.specs.Between.{between_read};
+ghost use Rattle.function_reader.specs.View.{StaysNamed};
+ghost use Rattle.function_reader.specs.Functions.{params_in, blocks_in, function_seen, dotted_in, numbered_dotted, declared_read, defined_read};
 
 use crate::block::block;
-use crate::inst::Place;
-use crate::keeping::{kept, kept_before, kept_behind};
 use crate::line::begins_line;
 use crate::numbering::Numbering;
 use crate::param::{dotted_params, params};
 use forms::{Cursor, SyntaxFault, TokenKind};
+use ir_reader_ops::{Place, Scope, kept, kept_before, kept_behind};
 use ir_types::{Block, Function, Names, Param};
 use lists::Items;
-use std::alloc::Global;
-use type_reader::{global, return_type};
+use std::alloc::{AllocError, Global};
+use std::mem;
+use type_reader::{SymbolNames, Tables, TypeNames, global, return_type};
 
 /// Whether a block stands next.
 #[tactic(auto, using(crate::proofs::Functions::block_begins))]
 fn begins_block(tokens: Cursor<'_>) -> bool
-    ensures { result ≡ opens block (left tokens.entry) }
+    ensures { (defs : Definitions) → result ≡ opens (block defs) (left tokens.entry) }
 {
     tokens.is_next(TokenKind::Label)
         || begins_line(Place::Inside, tokens)
@@ -40,18 +43,18 @@ fn begins_block(tokens: Cursor<'_>) -> bool
 fn blocks<'t>(
     alloc: Global,
     tokens: Cursor<'t>,
-    names: &mut Names,
+    scope: &mut Scope,
     numbering: &mut Numbering,
 ) -> Result<(Vec<Block>, Cursor<'t>), SyntaxFault>
-    ensures grows { Extends names.old names.new }
-    ensures reads { Gives (λ x. ((blocks_in names.new x.0.items, numbering.new.next), left x.1)) result (completed (walk numbered_block numbering.old.next) (read (some block) (left tokens.entry))) }
-    ensures stays { Stays (λ ns x. blocks_in ns x.items) names.new result }
+    ensures grows { Widens scope.old scope.new }
+    ensures reads { Gives (λ x. ((blocks_in scope.new x.0.items, numbering.new.next), left x.1)) result (completed (walk numbered_block numbering.old.next) (read (some (block (definitions scope.old))) (left tokens.entry))) }
+    ensures stays { Stays (λ s x. blocks_in s x.items) scope.new result }
 {
-    let (first, mut rest) = block(alloc, tokens, names, numbering)?;
+    let (first, mut rest) = block(alloc, tokens, scope, numbering)?;
     let mut body = Vec::new(alloc);
     body.push(first)?;
     'more: while begins_block(rest) {
-        let (next, after) = block(alloc, rest, names, numbering)?;
+        let (next, after) = block(alloc, rest, scope, numbering)?;
         body.push(next)?;
         rest = after;
     }
@@ -67,7 +70,7 @@ fn enclosed_params<'t>(
 ) -> Result<(Vec<Param>, Cursor<'t>), SyntaxFault>
     ensures grows { Extends names.old names.new }
     ensures reads { Gives (λ x. ((params_in names.new x.0.items, numbering.new.next), left x.1)) result (between_read LeftParen RightParen (walk numbered_param numbering.old.next) (read (list parameter)) (left tokens.entry)) }
-    ensures stays { Stays (λ ns x. params_in ns x.items) names.new result }
+    ensures stays { StaysNamed (λ ns x. params_in ns x.items) names.new result }
 {
     let rest = tokens.mark(TokenKind::LeftParen)?;
     let (params, rest) = params(alloc, rest, names, numbering)?;
@@ -79,15 +82,15 @@ fn enclosed_params<'t>(
 fn enclosed_blocks<'t>(
     alloc: Global,
     tokens: Cursor<'t>,
-    names: &mut Names,
+    scope: &mut Scope,
     numbering: &mut Numbering,
 ) -> Result<(Vec<Block>, Cursor<'t>), SyntaxFault>
-    ensures grows { Extends names.old names.new }
-    ensures reads { Gives (λ x. ((blocks_in names.new x.0.items, numbering.new.next), left x.1)) result (between_read LeftBrace RightBrace (walk numbered_block numbering.old.next) (read (some block)) (left tokens.entry)) }
-    ensures stays { Stays (λ ns x. blocks_in ns x.items) names.new result }
+    ensures grows { Widens scope.old scope.new }
+    ensures reads { Gives (λ x. ((blocks_in scope.new x.0.items, numbering.new.next), left x.1)) result (between_read LeftBrace RightBrace (walk numbered_block numbering.old.next) (read (some (block (definitions scope.old)))) (left tokens.entry)) }
+    ensures stays { Stays (λ s x. blocks_in s x.items) scope.new result }
 {
     let rest = tokens.mark(TokenKind::LeftBrace)?;
-    let (blocks, rest) = blocks(alloc, rest, names, numbering)?;
+    let (blocks, rest) = blocks(alloc, rest, scope, numbering)?;
     let rest = rest.mark(TokenKind::RightBrace)?;
     Ok((blocks, rest))
 }
@@ -101,7 +104,7 @@ fn enclosed_dotted<'t>(
 ) -> Result<((Vec<Param>, bool), Cursor<'t>), SyntaxFault>
     ensures grows { Extends names.old names.new }
     ensures reads { Gives (λ x. ((dotted_in names.new x.0, numbering.new.next), left x.1)) result (between_read LeftParen RightParen (numbered_dotted numbering.old.next) (read dotted_parameters) (left tokens.entry)) }
-    ensures stays { Stays dotted_in names.new result }
+    ensures stays { StaysNamed dotted_in names.new result }
 {
     let rest = tokens.mark(TokenKind::LeftParen)?;
     let (params, rest) = dotted_params(alloc, rest, names, numbering)?;
@@ -109,12 +112,27 @@ fn enclosed_dotted<'t>(
     Ok((params, rest))
 }
 
+/// The parameters in their parentheses, whose names are those of a scope.
+#[tactic(auto, using(ir_reader_ops::proofs::Widening::names_widen))]
+fn scoped_params<'t>(
+    alloc: Global,
+    tokens: Cursor<'t>,
+    scope: &mut Scope,
+    numbering: &mut Numbering,
+) -> Result<(Vec<Param>, Cursor<'t>), SyntaxFault>
+    ensures grows { Widens scope.old scope.new }
+    ensures reads { Gives (λ x. ((params_in scope.new.names x.0.items, numbering.new.next), left x.1)) result (between_read LeftParen RightParen (walk numbered_param numbering.old.next) (read (list parameter)) (left tokens.entry)) }
+    ensures stays { Stays (λ s x. params_in s.names x.items) scope.new result }
+{
+    enclosed_params(alloc, tokens, &mut scope.names, numbering)
+}
+
 /// The parts of a declared function.
 fn declared_parts<'t>(
     alloc: Global,
     tokens: Cursor<'t>,
 ) -> Result<(Function, Cursor<'t>), SyntaxFault>
-    ensures reads { Gives (λ x. (tree_of_function x.0, left x.1)) result (declared_read (left tokens.entry)) }
+    ensures reads { (t : TablesIn) → Gives (λ x. (function_in t x.0, left x.1)) result (declared_read (left tokens.entry)) }
     ensures table { IfOk result (λ x. IsTable x.0.names) }
 {
     let (before, rest) = kept_before(alloc, tokens)?;
@@ -140,23 +158,23 @@ fn declared_parts<'t>(
     ))
 }
 
-/// The parts of a defined function.
+/// The parts of a defined function, but for its names, which are left in the scope.
 fn defined_parts<'t>(
     alloc: Global,
     tokens: Cursor<'t>,
+    scope: &mut Scope,
 ) -> Result<(Function, Cursor<'t>), SyntaxFault>
-    ensures reads { Gives (λ x. (tree_of_function x.0, left x.1)) result (defined_read (left tokens.entry)) }
-    ensures table { IfOk result (λ x. IsTable x.0.names) }
+    ensures grows { Widens scope.old scope.new }
+    ensures reads { Gives (λ x. (function_seen scope.new x.0, left x.1)) result (defined_read (definitions scope.old) (left tokens.entry)) }
+    ensures stays { Stays function_seen scope.new result }
 {
     let (before, rest) = kept(alloc, tokens)?;
     let (ret, rest) = return_type(rest)?;
     let (name, rest) = global(alloc, rest)?;
-    let mut names = Names::new(alloc);
     let mut numbering = Numbering::new();
-    let (params, rest) = enclosed_params(alloc, rest, &mut names, &mut numbering)?;
+    let (params, rest) = scoped_params(alloc, rest, scope, &mut numbering)?;
     let (after, rest) = kept_behind(alloc, rest)?;
-    let (body, rest) = enclosed_blocks(alloc, rest, &mut names, &mut numbering)?;
-    let _ = names.len();
+    let (body, rest) = enclosed_blocks(alloc, rest, scope, &mut numbering)?;
     Ok((
         Function {
             name,
@@ -166,7 +184,7 @@ fn defined_parts<'t>(
             varargs: false,
             after,
             body: Items::from_vec(body),
-            names,
+            names: Names::new(alloc),
         },
         rest,
     ))
@@ -181,20 +199,55 @@ pub fn declared<'t>(
     alloc: Global,
     tokens: Cursor<'t>,
 ) -> Result<(Function, Cursor<'t>), SyntaxFault>
-    ensures reads { Gives (λ x. (tree_of_function x.0, left x.1)) result (completed numbered_function (read declared_function (left tokens.entry))) }
+    ensures reads { (t : TablesIn) → Gives (λ x. (function_in t x.0, left x.1)) result (completed numbered_function (read declared_function (left tokens.entry))) }
     ensures table { IfOk result (λ x. IsTable x.0.names) }
 {
     declared_parts(alloc, tokens)
 }
 
-/// What is behind the word `define`: a function with its blocks.
+/// Tables of nothing.
+fn no_tables(alloc: Global) -> Result<Tables, AllocError> {
+    let names = TypeNames::new(alloc);
+    let symbols = SymbolNames::new(alloc);
+    Tables::new(alloc, Vec::new(alloc), names, symbols)
+}
+
+/// The function, whose names are these.
+fn with_names(function: Function, names: Names) -> Function
+    ensures function { result ≡ record function { names = names } }
+    ensures table { IsTable result.names }
+{
+    let _ = names.len();
+    Function { names, ..function }
+}
+
+/// What is behind the word `define`: a function with its blocks. Names of symbols and of types that the tables lack are added to them, and so
+/// are memory types, whether or not a function is read.
 ///
 /// # Errors
 ///
 /// Where no such function stands, with the place at which reading from left to right stops, or there is no room.
-pub fn defined<'t>(alloc: Global, tokens: Cursor<'t>) -> Result<(Function, Cursor<'t>), SyntaxFault>
-    ensures reads { Gives (λ x. (tree_of_function x.0, left x.1)) result (completed numbered_function (read defined_function (left tokens.entry))) }
+pub fn defined<'t>(
+    alloc: Global,
+    tokens: Cursor<'t>,
+    tables: &mut Tables,
+) -> Result<(Function, Cursor<'t>), SyntaxFault>
+    ensures grows { Grows tables.old tables.new }
+    ensures reads { Gives (λ x. (function_in (tables_in tables.new) x.0, left x.1)) result (completed numbered_function (read (defined_function (definitions_of tables.old)) (left tokens.entry))) }
+    ensures stays { IfOk result (λ x. (later : TableLists) → Grows tables.new later → function_in (tables_in later) x.0 ≡ function_in (tables_in tables.new) x.0) }
     ensures table { IfOk result (λ x. IsTable x.0.names) }
 {
-    defined_parts(alloc, tokens)
+    let none = no_tables(alloc)?;
+    let mut scope = Scope {
+        names: Names::new(alloc),
+        tables: mem::replace(tables, none),
+    };
+    let read = defined_parts(alloc, tokens, &mut scope);
+    let Scope {
+        names,
+        tables: grown,
+    } = scope;
+    *tables = grown;
+    let (function, rest) = read?;
+    Ok((with_names(function, names), rest))
 }

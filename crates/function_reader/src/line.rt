@@ -1,23 +1,22 @@
 // Lines: an instruction, and the name of its result before it where one is written.
 
 ghost use Rattle.std.specs.Prelude.{◌≡◌, ◌∷◌, ℕ, List, Some, None, false, MatchOption, IfOk};
-ghost use Rattle.forms.specs.View.{Extends};
 ghost use Rattle.forms.specs.declared.TokenKind.TheVariants.{Local, Equal};
 ghost use Rattle.forms.specs.Reading.{read, opens};
 ghost use Rattle.forms.specs.Walk.{completed};
 ghost use Rattle.forms.specs.Gives.{Gives, left};
-ghost use Rattle.ir_types.specs.declared.name.Name.{Name};
-ghost use Rattle.ir_types.specs.Denotes.{inst_in};
+ghost use Rattle.ir_types.specs.Offsets.{Definitions};
 ghost use Rattle.ir_types.specs.Written.{name_behind as written_name_behind};
-ghost use Rattle.ir_types.specs.Grammar.{operation, line as line_form};
+ghost use Rattle.ir_types.specs.Grammar.{line as line_form};
 ghost use Rattle.ir_types.specs.Numbered.{numbered_inst};
-ghost use Rattle.function_reader.specs.View.{Stays};
-ghost use Rattle.function_reader.specs.Lines.{tok, result_next, named_so, plainly, form_at};
+ghost use Rattle.ir_reader_ops.specs.Seen.{inst_seen, definitions, Widens, Stays};
+ghost use Rattle.ir_reader_ops.specs.Words.{form_at};
+ghost use Rattle.function_reader.specs.Lines.{tok, result_next, named_so, plainly};
 
-use crate::inst::{Place, begins_instruction, instruction};
-use crate::numbering::{Numbering, named_id, result_id};
+use crate::numbering::{Numbering, result_id, scoped_id};
 use forms::{Cursor, SyntaxFault, TokenKind};
-use ir_types::{Inst, Name, Names, ValueId};
+use ir_reader_ops::{Place, Scope, begins_instruction, instruction};
+use ir_types::{Inst, Name, ValueId};
 use std::alloc::Global;
 use type_reader::name_behind;
 
@@ -39,7 +38,7 @@ fn behind_result<'t>(tokens: Cursor<'t>) -> Option<(&'t [u8], Cursor<'t>)>
 
 /// Whether a line of such an instruction stands next.
 pub fn begins_line(place: Place, tokens: Cursor<'_>) -> bool
-    ensures { result ≡ opens (line_form (form_at place)) (left tokens.entry) }
+    ensures { (defs : Definitions) → result ≡ opens (line_form (form_at defs place)) (left tokens.entry) }
 {
     match behind_result(tokens) {
         Some((_, rest)) => begins_instruction(place, rest),
@@ -75,16 +74,16 @@ fn named<'t>(
     name: &[u8],
     start: Cursor<'_>,
     tokens: Cursor<'t>,
-    names: &mut Names,
+    scope: &mut Scope,
     numbering: &mut Numbering,
 ) -> Result<(Inst, Cursor<'t>), SyntaxFault>
-    ensures grows { Extends names.old names.new }
-    ensures reads { (v : List ℕ) → Gives (λ x. ((inst_in names.new x.0, numbering.new.next), left x.1)) result (completed (numbered_inst numbering.old.next) (named_so name.now v (read (form_at place) (left tokens.entry)))) }
-    ensures stays { Stays inst_in names.new result }
+    ensures grows { Widens scope.old scope.new }
+    ensures reads { (v : List ℕ) → Gives (λ x. ((inst_seen scope.new x.0, numbering.new.next), left x.1)) result (completed (numbered_inst numbering.old.next) (named_so name.now v (read (form_at (definitions scope.old) place) (left tokens.entry)))) }
+    ensures stays { Stays inst_seen scope.new result }
 {
     let written = result_name(alloc, name, start)?;
-    let id = named_id(Some(written), names, numbering, start)?;
-    let (inst, rest) = instruction(alloc, place, tokens, names)?;
+    let id = scoped_id(Some(written), scope, numbering, start)?;
+    let (inst, rest) = instruction(alloc, place, tokens, scope)?;
     Ok((with_result(inst, Some(id)), rest))
 }
 
@@ -93,15 +92,15 @@ fn plain<'t>(
     alloc: Global,
     place: Place,
     tokens: Cursor<'t>,
-    names: &mut Names,
+    scope: &mut Scope,
     numbering: &mut Numbering,
 ) -> Result<(Inst, Cursor<'t>), SyntaxFault>
-    ensures grows { Extends names.old names.new }
-    ensures reads { Gives (λ x. ((inst_in names.new x.0, numbering.new.next), left x.1)) result (completed (numbered_inst numbering.old.next) (plainly (read (form_at place) (left tokens.entry)))) }
-    ensures stays { Stays inst_in names.new result }
+    ensures grows { Widens scope.old scope.new }
+    ensures reads { Gives (λ x. ((inst_seen scope.new x.0, numbering.new.next), left x.1)) result (completed (numbered_inst numbering.old.next) (plainly (read (form_at (definitions scope.old) place) (left tokens.entry)))) }
+    ensures stays { Stays inst_seen scope.new result }
 {
-    let (inst, rest) = instruction(alloc, place, tokens, names)?;
-    let id = result_id(inst.ty, names, numbering, tokens)?;
+    let (inst, rest) = instruction(alloc, place, tokens, scope)?;
+    let id = result_id(inst.ty, scope, numbering, tokens)?;
     Ok((with_result(inst, id), rest))
 }
 
@@ -110,15 +109,15 @@ pub fn line<'t>(
     alloc: Global,
     place: Place,
     tokens: Cursor<'t>,
-    names: &mut Names,
+    scope: &mut Scope,
     numbering: &mut Numbering,
 ) -> Result<(Inst, Cursor<'t>), SyntaxFault>
-    ensures grows { Extends names.old names.new }
-    ensures reads { Gives (λ x. ((inst_in names.new x.0, numbering.new.next), left x.1)) result (completed (numbered_inst numbering.old.next) (read (line_form (form_at place)) (left tokens.entry))) }
-    ensures stays { Stays inst_in names.new result }
+    ensures grows { Widens scope.old scope.new }
+    ensures reads { Gives (λ x. ((inst_seen scope.new x.0, numbering.new.next), left x.1)) result (completed (numbered_inst numbering.old.next) (read (line_form (form_at (definitions scope.old) place)) (left tokens.entry))) }
+    ensures stays { Stays inst_seen scope.new result }
 {
     match behind_result(tokens) {
-        Some((name, rest)) => named(alloc, place, name, tokens, rest, names, numbering),
-        None => plain(alloc, place, tokens, names, numbering),
+        Some((name, rest)) => named(alloc, place, name, tokens, rest, scope, numbering),
+        None => plain(alloc, place, tokens, scope, numbering),
     }
 }

@@ -1,15 +1,17 @@
 // The numbers that things without a name take.
 
 ghost use Rattle.std.specs.Prelude.{◌≡◌, ◌≤◌, ◌^◌, ◌+◌, ℕ, List, None, Some, MatchOption, IfOk};
-ghost use Rattle.std.specs.Option.{option_map};
 ghost use Rattle.forms.specs.View.{Extends};
 ghost use Rattle.forms.specs.Gives.{Gives};
 ghost use Rattle.ir_types.specs.declared.name.Name.{Name};
 ghost use Rattle.ir_types.specs.Denotes.{name_in};
 ghost use Rattle.ir_types.specs.Numbered.{next_after, named, named_result};
+ghost use Rattle.ir_reader_ops.specs.Seen.{name_seen, Widens, IsSteady};
 ghost use Rattle.function_reader.specs.View.{StaysAs};
+ghost use Rattle.function_reader.specs.Lines.{result_seen};
 
 use forms::{Cursor, SyntaxFault};
+use ir_reader_ops::Scope;
 use ir_types::{Name, Names, Ty, ValueId};
 
 /// How far a function's numbers are taken: the next one, 2^32 where none is left.
@@ -70,20 +72,35 @@ pub fn named_id(
     }
 }
 
+/// The same among the names of a scope.
+#[tactic(auto, using(ir_reader_ops::proofs::Widening::names_widen))]
+pub fn scoped_id(
+    written: Option<Name>,
+    scope: &mut Scope,
+    numbering: &mut Numbering,
+    tokens: Cursor<'_>,
+) -> Result<ValueId, SyntaxFault>
+    ensures grows { Widens scope.old scope.new }
+    ensures names { Gives (λ id. (name_seen scope.new id, numbering.new.next)) result (named numbering.old.next written) }
+    ensures stays { IfOk result (λ id. IsSteady name_seen scope.new id) }
+{
+    named_id(written, &mut scope.names, numbering, tokens)
+}
+
 /// The place of the name of a result for which none is written, where the type has one.
 pub fn result_id(
     ty: Ty,
-    names: &mut Names,
+    scope: &mut Scope,
     numbering: &mut Numbering,
     tokens: Cursor<'_>,
 ) -> Result<Option<ValueId>, SyntaxFault>
-    ensures grows { Extends names.old names.new }
-    ensures names { Gives (λ r. (option_map (name_in names.new) r, numbering.new.next)) result (named_result numbering.old.next ty None) }
-    ensures stays { IfOk result (λ r. (later : List Name) → Extends names.new later → option_map (name_in later) r ≡ option_map (name_in names.new) r) }
+    ensures grows { Widens scope.old scope.new }
+    ensures names { Gives (λ r. (result_seen scope.new r, numbering.new.next)) result (named_result numbering.old.next ty None) }
+    ensures stays { IfOk result (λ r. IsSteady result_seen scope.new r) }
 {
     match ty {
         Ty::Int(_) | Ty::Ptr | Ty::Vector(_, _) => {
-            let id = named_id(None, names, numbering, tokens)?;
+            let id = scoped_id(None, scope, numbering, tokens)?;
             Ok(Some(id))
         }
         Ty::Void => Ok(None),

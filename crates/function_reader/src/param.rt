@@ -2,21 +2,21 @@
 
 ghost use Rattle.std.specs.Prelude.{◌≡◌, [], ℕ, List, map, IfOk};
 ghost use Rattle.forms.specs.View.{Extends};
-ghost use Rattle.forms.specs.declared.TokenKind.TheVariants.{Comma, Dots};
+ghost use Rattle.forms.specs.declared.TokenKind.TheVariants.{Comma};
 ghost use Rattle.forms.specs.Form.{many, optional};
 ghost use Rattle.forms.specs.Reading.{read, opens};
 ghost use Rattle.forms.specs.Walk.{walk, completed};
-ghost use Rattle.forms.specs.Gives.{Gives, left, mark};
+ghost use Rattle.forms.specs.Gives.{Gives, left};
 ghost use Rattle.ir_types.specs.declared.name.Name.{Name};
 ghost use Rattle.ir_types.specs.Denotes.{name_in, param_in};
 ghost use Rattle.ir_types.specs.Grammar.{local_name, parameter, dotted_parameters, commas, marked, list};
 ghost use Rattle.ir_types.specs.Numbered.{named, numbered_param};
-ghost use Rattle.function_reader.specs.View.{Stays};
-ghost use Rattle.function_reader.specs.Functions.{params_in, dotted_in, numbered_dotted, comma_dots, some_dotted_read};
+ghost use Rattle.function_reader.specs.View.{StaysNamed};
+ghost use Rattle.function_reader.specs.Functions.{params_in, dotted_in, numbered_dotted, some_dotted_read};
 
-use crate::keeping::kept;
 use crate::numbering::{Numbering, named_id};
 use forms::{Cursor, SyntaxFault, TokenKind};
+use ir_reader_ops::{comma_dots, kept};
 use ir_types::{Names, Param, ValueId};
 use std::alloc::Global;
 use type_reader::{begins_type, local, value_type};
@@ -31,7 +31,7 @@ fn param_name<'t>(
 ) -> Result<(ValueId, Cursor<'t>), SyntaxFault>
     ensures grows { Extends names.old names.new }
     ensures reads { Gives (λ x. ((name_in names.new x.0, numbering.new.next), left x.1)) result (completed (named numbering.old.next) (read (optional local_name) (left tokens.entry))) }
-    ensures stays { Stays name_in names.new result }
+    ensures stays { StaysNamed name_in names.new result }
 {
     if tokens.is_next(TokenKind::Local) {
         let (name, rest) = local(alloc, tokens)?;
@@ -52,7 +52,7 @@ fn param<'t>(
 ) -> Result<(Param, Cursor<'t>), SyntaxFault>
     ensures grows { Extends names.old names.new }
     ensures reads { Gives (λ x. ((param_in names.new x.0, numbering.new.next), left x.1)) result (completed (numbered_param numbering.old.next) (read parameter (left tokens.entry))) }
-    ensures stays { Stays param_in names.new result }
+    ensures stays { StaysNamed param_in names.new result }
 {
     let (ty, rest) = value_type(tokens)?;
     let (kept, rest) = kept(alloc, rest)?;
@@ -69,7 +69,7 @@ fn comma_param<'t>(
 ) -> Result<(Param, Cursor<'t>), SyntaxFault>
     ensures grows { Extends names.old names.new }
     ensures reads { Gives (λ x. ((param_in names.new x.0, numbering.new.next), left x.1)) result (completed (numbered_param numbering.old.next) (read (marked Comma parameter) (left tokens.entry))) }
-    ensures stays { Stays param_in names.new result }
+    ensures stays { StaysNamed param_in names.new result }
 {
     let rest = tokens.mark(TokenKind::Comma)?;
     let (found, rest) = param(alloc, rest, names, numbering)?;
@@ -78,7 +78,7 @@ fn comma_param<'t>(
 
 /// Whether a parameter stands next.
 #[tactic(auto, unfolding(ir_types::specs::Grammar::parameter, ir_types::specs::Grammar::value_type, ir_types::specs::Grammar::vector_type, ir_types::specs::Grammar::width))]
-fn begins_param(tokens: Cursor<'_>) -> bool
+pub fn begins_param(tokens: Cursor<'_>) -> bool
     ensures { result ≡ opens parameter (left tokens.entry) }
 {
     begins_type(tokens)
@@ -86,7 +86,7 @@ fn begins_param(tokens: Cursor<'_>) -> bool
 
 /// Whether a comma and a parameter stand next.
 #[tactic(auto, unfolding(ir_types::specs::Grammar::parameter, ir_types::specs::Grammar::value_type, ir_types::specs::Grammar::vector_type, ir_types::specs::Grammar::width))]
-fn another(tokens: Cursor<'_>) -> bool
+pub fn another(tokens: Cursor<'_>) -> bool
     ensures { result ≡ opens (marked Comma parameter) (left tokens.entry) }
 {
     match tokens.split_first() {
@@ -104,7 +104,7 @@ fn some_params<'t>(
 ) -> Result<(Vec<Param>, Cursor<'t>), SyntaxFault>
     ensures grows { Extends names.old names.new }
     ensures reads { Gives (λ x. ((params_in names.new x.0.items, numbering.new.next), left x.1)) result (completed (walk numbered_param numbering.old.next) (read (commas parameter) (left tokens.entry))) }
-    ensures stays { Stays (λ ns x. params_in ns x.items) names.new result }
+    ensures stays { StaysNamed (λ ns x. params_in ns x.items) names.new result }
 {
     let (first, mut rest) = param(alloc, tokens, names, numbering)?;
     let mut params = Vec::new(alloc);
@@ -126,34 +126,12 @@ pub fn params<'t>(
 ) -> Result<(Vec<Param>, Cursor<'t>), SyntaxFault>
     ensures grows { Extends names.old names.new }
     ensures reads { Gives (λ x. ((params_in names.new x.0.items, numbering.new.next), left x.1)) result (completed (walk numbered_param numbering.old.next) (read (list parameter) (left tokens.entry))) }
-    ensures stays { Stays (λ ns x. params_in ns x.items) names.new result }
+    ensures stays { StaysNamed (λ ns x. params_in ns x.items) names.new result }
 {
     if begins_param(tokens) {
         return some_params(alloc, tokens, names, numbering);
     }
     Ok((Vec::new(alloc), tokens))
-}
-
-/// Whether a comma and dots stand next.
-fn begins_dots(tokens: Cursor<'_>) -> bool
-    ensures { result ≡ opens (marked Comma (mark Dots)) (left tokens.entry) }
-{
-    match tokens.split_first() {
-        Some((TokenKind::Comma, _, rest)) => rest.is_next(TokenKind::Dots),
-        _ => false,
-    }
-}
-
-/// Whether a comma and dots stand next, and what is behind them.
-fn comma_dots<'t>(tokens: Cursor<'t>) -> Result<(bool, Cursor<'t>), SyntaxFault>
-    ensures { Gives (λ x. (x.0, left x.1)) result (read comma_dots (left tokens.entry)) }
-{
-    if !begins_dots(tokens) {
-        return Ok((false, tokens));
-    }
-    let rest = tokens.mark(TokenKind::Comma)?;
-    let rest = rest.mark(TokenKind::Dots)?;
-    Ok((true, rest))
 }
 
 /// At least one parameter, and whether dots are behind.
@@ -165,7 +143,7 @@ fn some_dotted<'t>(
 ) -> Result<((Vec<Param>, bool), Cursor<'t>), SyntaxFault>
     ensures grows { Extends names.old names.new }
     ensures reads { Gives (λ x. ((dotted_in names.new x.0, numbering.new.next), left x.1)) result (some_dotted_read numbering.old.next (left tokens.entry)) }
-    ensures stays { Stays dotted_in names.new result }
+    ensures stays { StaysNamed dotted_in names.new result }
 {
     let (params, rest) = some_params(alloc, tokens, names, numbering)?;
     let (dots, rest) = comma_dots(rest)?;
@@ -181,7 +159,7 @@ pub fn dotted_params<'t>(
 ) -> Result<((Vec<Param>, bool), Cursor<'t>), SyntaxFault>
     ensures grows { Extends names.old names.new }
     ensures reads { Gives (λ x. ((dotted_in names.new x.0, numbering.new.next), left x.1)) result (completed (numbered_dotted numbering.old.next) (read dotted_parameters (left tokens.entry))) }
-    ensures stays { Stays dotted_in names.new result }
+    ensures stays { StaysNamed dotted_in names.new result }
 {
     if tokens.is_next(TokenKind::Dots) {
         let rest = tokens.mark(TokenKind::Dots)?;

@@ -1,10 +1,12 @@
 // Each public function once, and instructions of all forms.
 
-use crate::{declared, defined, excluded_words, kept};
+use crate::{declared, defined, pass_defined};
 use forms::{Cursor, SyntaxFault, Token, TokenKind};
+use ir_reader_ops::{excluded_words, kept};
 use ir_types::{BinOp, Flags, Function, Inst, InstKind, Operand, Pred, Ty};
 use lists::Texts;
 use std::alloc::{AllocError, Global};
+use type_reader::{SymbolNames, Tables, TypeNames};
 
 type Word = (TokenKind, &'static [u8]);
 
@@ -41,6 +43,12 @@ const NODE: Word = (TokenKind::Metadata, b"!7");
 const F: Word = (TokenKind::Global, b"@f");
 
 const X: Word = (TokenKind::Local, b"%x");
+
+/// Tables of nothing.
+fn no_tables(alloc: Global) -> Result<Tables, AllocError> {
+    let names = TypeNames::new(alloc);
+    Tables::new(alloc, Vec::new(alloc), names, SymbolNames::new(alloc))
+}
 
 fn place(text: &[u8]) -> u32 {
     u32::try_from(text.len()).unwrap_or(u32::MAX)
@@ -108,7 +116,8 @@ fn defines(rt: HostRuntime) -> Result<(), SyntaxFault> {
         text: text.as_slice(),
         rest: tokens.as_slice(),
     };
-    let (function, rest) = defined(rt.alloc(), cursor)?;
+    let mut tables = no_tables(rt.alloc())?;
+    let (function, rest) = defined(rt.alloc(), cursor, &mut tables)?;
     assert!(rt; are_kept(&function.before, &words[..1]));
     assert!(rt; are_kept(&function.after, &words[9..12]));
     assert_eq!(rt; function.params.len(), 2);
@@ -229,7 +238,8 @@ fn reads_operations(rt: HostRuntime) -> Result<(), SyntaxFault> {
         text: OPERATIONS,
         rest: tokens.as_slice(),
     };
-    let (function, rest) = defined(rt.alloc(), cursor)?;
+    let mut tables = no_tables(rt.alloc())?;
+    let (function, rest) = defined(rt.alloc(), cursor, &mut tables)?;
     assert!(rt; rest.rest.is_empty());
     let insts = insts_at(&function, 0);
     assert_eq!(rt; insts.len(), 17);
@@ -307,7 +317,8 @@ fn reads_terminators(rt: HostRuntime) -> Result<(), SyntaxFault> {
         text: OPERATIONS,
         rest: tokens.as_slice(),
     };
-    let (function, _) = defined(rt.alloc(), cursor)?;
+    let mut tables = no_tables(rt.alloc())?;
+    let (function, _) = defined(rt.alloc(), cursor, &mut tables)?;
     assert_eq!(rt; function.body.len(), 3);
     match insts_at(&function, 0).last() {
         Some(
@@ -351,7 +362,8 @@ fn stops_at(alloc: Global, text: &[u8]) -> Result<Option<u32>, AllocError> {
         text,
         rest: tokens.as_slice(),
     };
-    match defined(alloc, cursor) {
+    let mut tables = no_tables(alloc)?;
+    match defined(alloc, cursor, &mut tables) {
         Ok(_) => Ok(None),
         Err(SyntaxFault::NoReading(place)) => Ok(Some(place)),
         Err(SyntaxFault::Memory) => Err(AllocError),

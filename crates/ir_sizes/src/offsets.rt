@@ -72,7 +72,7 @@ pub fn scaled(size: u64, index: Index) -> u64
     let number = if index.number < half {
         index.number
     } else {
-        (index.number - half).wrapping_sub(half)
+        (index.number - half).wrapping_add(half)
     };
     size.wrapping_mul(number)
 }

@@ -48,7 +48,7 @@ fn member_offset(packed: bool, members: &[TypeId], extents: &[Extent], place: us
 {
     let end = end_of(packed, &members[..place], extents)?;
     match extent_of_part(extents, members[place]) {
-        Extent::Size(_, natural) => Some(aligned_up(member_align(packed, natural), end.bytes)),
+        Extent::Size(_, natural) => Some(aligned_up(member_align(true, natural), end.bytes)),
         Extent::NoSize => None,
     }
 }

@@ -4,6 +4,7 @@ use Rattle.forms.specs.declared.TokenKind.{TokenKind}
 use Rattle.forms.specs.Form.{Lexeme, Stops, is_empty, step, stops_at}
 use Rattle.forms.specs.Machine.{behind}
 use Rattle.forms.specs.Reading.{◌>>=◌, ends, read_inside, read_up_to}
+use Rattle.kept_runs.specs.Passed.{passed}
 use Rattle.kept_runs.specs.Texts.{with_texts}
 use Rattle.kept_runs.proofs.Behind.{Reads}
 
@@ -37,6 +38,24 @@ inside_next c s u front k w ts us whole n e d so_far =
     let r = read_inside c u us in
     let here : behind front (with_texts (read_inside c s (lexeme k w ∷ us))) ≡ behind (front ++ w ∷ []) (with_texts r) = rw (e, d) (ap (behind front) (token_before (lexeme k w) r) ∙ one_more front w (with_texts r)) in
     sym here ∙ ap (λ (l : List Lexeme). behind front (with_texts (read_inside c s l))) (sym n) ∙ so_far
+
+-- the same, passed over
+
+pub pass_ends : (c : TokenKind) (s : List TokenKind) (k : TokenKind) (w : List ℕ) (ts us : List Lexeme) (whole : Option (List Lexeme)) → ts ≡ lexeme k w ∷ us → ends c s k ≡ true → passed (read_inside c s ts) ≡ whole → whole ≡ Some us
+pass_ends c s k w ts us whole n e so_far =
+    let here : passed (read_inside c s (lexeme k w ∷ us)) ≡ Some us = rw e refl in
+    sym so_far ∙ ap (λ (l : List Lexeme). passed (read_inside c s l)) n ∙ here
+
+passed_before : (t : Lexeme) (r : Option (List Lexeme × List Lexeme)) → passed (r >>= λ y. Some (t ∷ y.0, y.1)) ≡ passed r
+passed_before t None = refl
+passed_before t (Some y) = refl
+
+pub pass_next : (c : TokenKind) (s u : List TokenKind) (k : TokenKind) (w : List ℕ) (ts us : List Lexeme) (whole : Option (List Lexeme)) → ts ≡ lexeme k w ∷ us → ends c s k ≡ false → step s k ≡ Some u
+    → passed (read_inside c s ts) ≡ whole → passed (read_inside c u us) ≡ whole
+pass_next c s u k w ts us whole n e d so_far =
+    let r = read_inside c u us in
+    let here : passed (read_inside c s (lexeme k w ∷ us)) ≡ passed r = rw (e, d) (passed_before (lexeme k w) r) in
+    sym here ∙ ap (λ (l : List Lexeme). passed (read_inside c s l)) (sym n) ∙ so_far
 
 -- ---- up to a stop
 

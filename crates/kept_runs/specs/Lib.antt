@@ -1,3 +1,4 @@
+pub mod Passed
 pub mod Stopping
 pub mod Texts
 pub mod Verbatim

@@ -6,6 +6,7 @@
 mod attachments;
 mod awaited;
 mod enclosed;
+mod passing;
 mod pieces;
 #[cfg(test)]
 mod tests;
@@ -17,6 +18,7 @@ pub use attachments::{
     keep_comma_attachments, keep_node,
 };
 pub use enclosed::{keep_braces, keep_parens};
+pub use passing::pass_braces;
 pub use pieces::{begins_run, keep_run, keep_unsigned};
 pub use tokens::{keep, keep_word};
 pub use up_to::{Stops, keep_up_to};

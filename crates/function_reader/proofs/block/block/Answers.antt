@@ -1,10 +1,11 @@
 use Rattle.forms.specs.Gives.{left}
-use Rattle.ir_types.specs.Denotes.{block_in}
+use Rattle.ir_reader_ops.specs.Seen.{definitions}
 use Rattle.type_reader.proofs.Same.{gives_same}
+use Rattle.function_reader.specs.Blocks.{block_seen}
 use Rattle.function_reader.proofs.Parts.{block_is}
 use Rattle.function_reader.proofs.block.block.Goals as goal
 
 pub returns-clause-reads : goal.returns-clause-reads
 returns-clause-reads c =
     let f = c.parts.new in
-    gives_same (λ x. ((block_in f.names x.0, f.numbering.next), left x.1)) c.parts.result _ _ (block_is c.args.numbering.now.next (left c.args.tokens)) c.parts.ensures.reads
+    gives_same (λ x. ((block_seen f.scope x.0, f.numbering.next), left x.1)) c.parts.result _ _ (block_is (definitions c.args.scope.now) c.args.numbering.now.next (left c.args.tokens)) c.parts.ensures.reads

@@ -1,8 +1,0 @@
-use Rattle.forms.specs.Gives.{left}
-use Rattle.ir_types.specs.Denotes.{tree_of_function}
-use Rattle.type_reader.proofs.Same.{gives_same}
-use Rattle.function_reader.proofs.Bodies.{defined_is}
-use Rattle.function_reader.proofs.function.defined.Goals as goal
-
-pub returns-clause-reads : goal.returns-clause-reads
-returns-clause-reads c = gives_same (λ x. (tree_of_function x.0, left x.1)) c.defined_parts.result _ _ (defined_is (left c.args.tokens)) c.defined_parts.ensures.reads

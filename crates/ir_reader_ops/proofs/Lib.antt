@@ -1,0 +1,10 @@
+pub mod Widening
+pub mod Pushing
+pub mod Modulo
+pub mod Chains
+pub mod Operands
+pub mod Split
+pub mod Conditions
+pub mod Offsets
+pub mod Calls
+pub mod Beginnings

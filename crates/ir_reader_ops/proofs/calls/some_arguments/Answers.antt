@@ -1,0 +1,37 @@
+use Rattle.std.proofs.Common.{◌≡◌, map, refl, sym, ap, ◌∙◌, arith}
+use Rattle.forms.specs.declared.TokenKind.TheVariants.{Comma}
+use Rattle.forms.specs.Reading.{read}
+use Rattle.forms.specs.Gives.{left}
+use Rattle.forms.proofs.Many.{shorter}
+use Rattle.forms.proofs.Viewed.{count_viewed}
+use Rattle.ir_types.specs.Offsets.{Definitions}
+use Rattle.ir_types.specs.Grammar.{argument, marked}
+use Rattle.ir_reader_ops.specs.Seen.{definitions, operand_seen}
+use Rattle.ir_reader_ops.specs.Calls.{actual_in, some_arguments_read}
+use Rattle.ir_reader_ops.proofs.Widening.{widens_trans}
+use Rattle.ir_reader_ops.proofs.Pushing.{push_seen, push_steady}
+use Rattle.ir_reader_ops.proofs.Split.{goes_two}
+use Rattle.ir_reader_ops.proofs.calls.some_arguments.Goals as goal
+
+pub more-smaller : goal.more-smaller
+more-smaller c =
+    let form = marked Comma (argument (definitions c.more.scope)) in
+    let lt = shorter form (left c.more.rest) (actual_in c.comma_argument.new.scope (c.in_ok-actual-2.actual, c.in_ok-actual-2.value), left c.in_ok-actual-2.after) refl c.in_ok-actual-2.ensures.reads in
+    omega (arith, lt, count_viewed c.more.rest.text.now c.more.rest.rest.now, count_viewed c.in_ok-actual-2.after.text.now c.in_ok-actual-2.after.rest.now)
+
+pub more-preserved : goal.more-preserved
+more-preserved c =
+    let before = c.more.scope in
+    let now = c.comma_argument.new.scope in
+    let grows = c.in_ok-actual-2.ensures.grows in
+    let value = c.in_ok-actual-2.value in
+    let defs = definitions c.args.scope.now in
+    let form = marked Comma (argument defs) in
+    let same : read (marked Comma (argument defs)) (left c.more.rest) ≡ read (marked Comma (argument (definitions before))) (left c.more.rest) = ap (λ (d : Definitions). read (marked Comma (argument d)) (left c.more.rest)) (sym c.more.invariant.grows.definitions) in
+    record {
+      grows = widens_trans c.args.scope.now before now c.more.invariant.grows grows;
+      reads = rw (c.in_ok-push-2.ensures.items, push_seen operand_seen before now c.more.values c.push-in-more-2.new.self value c.in_ok-push-3.ensures.ok grows c.more.invariant.values)
+          (goes_two form c.more.actuals.items (map (operand_seen before) c.more.values) c.in_ok-actual-2.actual (operand_seen now value) (left c.more.rest) (left c.in_ok-actual-2.after)
+          (some_arguments_read defs (left c.args.tokens)) refl (sym (c.another.ensures defs) ∙ c.more-test.true) (same ∙ c.in_ok-actual-2.ensures.reads) c.more.invariant.reads);
+      values = push_steady operand_seen before now c.more.values c.push-in-more-2.new.self value c.in_ok-push-3.ensures.ok grows c.more.invariant.values (λ later e. ap (λ x. x.1) (c.in_ok-actual-2.ensures.stays later e));
+    }

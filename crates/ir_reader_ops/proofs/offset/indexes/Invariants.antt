@@ -1,0 +1,19 @@
+use Rattle.std.proofs.Common.{◌≡◌, map, length}
+use Rattle.forms.specs.Form.{many}
+use Rattle.forms.specs.Reading.{read}
+use Rattle.forms.specs.Walk.{completed}
+use Rattle.forms.specs.Gives.{left}
+use Rattle.ir_reader_ops.specs.Seen.{definitions, operand_seen, Widens, AreSteady}
+use Rattle.ir_reader_ops.specs.Split.{split_each, behind_both}
+use Rattle.ir_reader_ops.specs.Offsets.{as_two, next_index, indexes_read}
+use Rattle.ir_reader_ops.proofs.offset.indexes.Given as goal
+
+abbrev pub decreases-more : goal.decreases-more
+decreases-more l = length l.rest.rest.now
+
+abbrev pub invariant-more : goal.invariant-more
+invariant-more l = record {
+  grows : Widens l.fn.scope l.scope;
+  reads : behind_both l.widths.items (map (operand_seen l.scope) l.operands) (completed (split_each as_two) (read (many (next_index (definitions l.fn.scope))) (left l.rest))) ≡ indexes_read (definitions l.fn.scope) (map (operand_seen l.fn.scope) l.fn.before) (left l.fn.tokens);
+  operands : AreSteady operand_seen l.scope l.operands;
+}

@@ -1,0 +1,59 @@
+-- What the code keeps of what it has read, as values of the grammar.
+use Rattle.std.specs.Prelude.{List, map, All}
+use Rattle.ir_types.specs.declared.inst.Ty.{Ty}
+use Rattle.ir_types.specs.declared.inst.Operand.{Operand}
+use Rattle.ir_types.specs.Tree.{OperandTree}
+use Rattle.ir_types.specs.Grammar.{WrittenLane, lane_digits, lane_true, lane_false, lane_poison, WrittenValue, named, digits, yes, no, null_word, poison_word, zeros, splat, lane_list, symbol, stepped}
+use Rattle.ir_sizes.specs.Stepping.{index_pair, IsIndex}
+use Rattle.ir_reader_ops.specs.declared.lanes.Lane.{Lane}
+use Rattle.ir_reader_ops.specs.declared.lanes.Lane.TheVariants as lane
+use Rattle.ir_reader_ops.specs.declared.scope.Scope.{Scope}
+use Rattle.ir_reader_ops.specs.declared.value.Written.{Written}
+use Rattle.ir_reader_ops.specs.declared.value.Written.TheVariants as written
+use Rattle.ir_reader_ops.specs.Seen.{nodes_seen, symbol_seen, name_seen, operand_seen}
+
+-- a constant lane as it is written
+abbrev pub lane_in : Lane → WrittenLane
+lane_in (lane.Digits s) = lane_digits s.now
+lane_in lane.Yes = lane_true
+lane_in lane.No = lane_false
+lane_in lane.Poison = lane_poison
+
+-- a lane with its type
+abbrev pub typed_lane_in : Ty × Lane → Ty × WrittenLane
+typed_lane_in x = (x.0, lane_in x.1)
+
+-- lanes with their types
+abbrev pub lanes_in : List (Ty × Lane) → List (Ty × WrittenLane)
+lanes_in xs = map typed_lane_in xs
+
+-- a value as it is written
+abbrev pub written_in : Scope → Written → WrittenValue
+written_in s (written.Named i) = named (name_seen s i)
+written_in s (written.Digits d) = digits d.now
+written_in s written.Yes = yes
+written_in s written.No = no
+written_in s written.Null = null_word
+written_in s written.Poison = poison_word
+written_in s written.Zeros = zeros
+written_in s (written.Splat t l) = splat (t, lane_in l)
+written_in s (written.Lanes xs) = lane_list (lanes_in xs)
+written_in s (written.Symbol i) = symbol (symbol_seen s i)
+written_in s (written.Stepped id i xs) = stepped (nodes_seen s id, (symbol_seen s i, map index_pair xs))
+
+-- indexes are below 2 to their widths
+abbrev pub AreIndexed : Written → Type 0
+AreIndexed (written.Stepped id i xs) = All IsIndex xs
+AreIndexed w = Unit {0}
+
+-- an operand behind its type or its width
+abbrev pub typed_in : {T : Type 0} → Scope → T × Operand → T × OperandTree
+typed_in s x = (x.0, operand_seen s x.1)
+
+-- two operands behind their type
+abbrev pub pair_in : Scope → Ty × (Operand × Operand) → Ty × (OperandTree × OperandTree)
+pair_in s x = (x.0, (operand_seen s x.1.0, operand_seen s x.1.1))
+
+-- three operands, each behind its type
+abbrev pub three_in : Scope → (Ty × Operand) × ((Ty × Operand) × (Ty × Operand)) → (Ty × OperandTree) × ((Ty × OperandTree) × (Ty × OperandTree))
+three_in s x = (typed_in s x.0, (typed_in s x.1.0, typed_in s x.1.1))

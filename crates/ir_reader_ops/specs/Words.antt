@@ -1,0 +1,23 @@
+-- Instructions behind their words, and with their attachments.
+use Rattle.std.specs.Prelude.{codes, List, Option, Some}
+use Rattle.forms.specs.Form.{Lexeme, Form, either, by_word}
+use Rattle.forms.specs.Reading.{◌>>=◌, read}
+use Rattle.ir_types.specs.declared.inst.Inst.{Inst}
+use Rattle.ir_types.specs.Offsets.{Definitions}
+use Rattle.ir_types.specs.Tree.{InstTree}
+use Rattle.ir_types.specs.Grammar.{word, inst_attachments, operation, terminator_words, terminator_behind, unreachable_tree, terminator}
+use Rattle.ir_reader_ops.specs.declared.inst.Place.{Place}
+use Rattle.ir_reader_ops.specs.declared.inst.Place.TheVariants.{Inside, Last}
+
+-- a terminator, before its attachments
+abbrev pub bare_terminator : Definitions → Form InstTree
+bare_terminator defs = either (by_word terminator_words (terminator_behind defs)) (word (codes "unreachable") unreachable_tree)
+
+-- an instruction with the attachments that are read behind it
+abbrev pub attached_to : Inst → List Lexeme → Option (Inst × List Lexeme)
+attached_to i ts = read inst_attachments ts >>= λ k. Some (record i { kept = k.0 }, k.1)
+
+-- the instructions that may stand at a place of a block
+abbrev pub form_at : Definitions → Place → Form InstTree
+form_at defs Inside = operation defs
+form_at defs Last = terminator defs

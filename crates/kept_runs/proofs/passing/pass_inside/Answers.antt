@@ -1,0 +1,14 @@
+use Rattle.std.proofs.Common.{sym}
+use Rattle.forms.specs.Gives.{left}
+use Rattle.kept_runs.proofs.Balanced.{pass_next, pass_ends}
+use Rattle.kept_runs.proofs.Stack.{fits_here}
+use Rattle.kept_runs.proofs.passing.pass_inside.Goals as goal
+
+pub returns-then-ends : goal.returns-then-ends
+returns-then-ends c =
+    pass_ends c.args.close c.each.awaited c.in-Some.kind _ (left c.each.rest) (left c.in-Some.after) _ c.in-Some.ensures (sym c.if-ends.ensures) c.each.invariant
+
+pub each-preserved : goal.each-preserved
+each-preserved c =
+    let goes_on = fits_here _ c.step.new.self c.in_ok-step.field-0 c.in_ok-step.ensures c.if-not-branch.false in
+    pass_next c.args.close c.each.awaited c.step.new.self c.in-Some.kind _ (left c.each.rest) (left c.in-Some.after) _ c.in-Some.ensures (sym c.if-ends.ensures) goes_on c.each.invariant

@@ -1,0 +1,11 @@
+use Rattle.std.proofs.Common.{◌≡◌, [], length}
+use Rattle.forms.specs.Gives.{left}
+use Rattle.forms.specs.Reading.{read_inside}
+use Rattle.kept_runs.specs.Passed.{passed}
+use Rattle.kept_runs.proofs.passing.pass_inside.Given as goal
+
+abbrev pub decreases-each : goal.decreases-each
+decreases-each l = length l.rest.rest.now
+
+abbrev pub invariant-each : goal.invariant-each
+invariant-each l = passed (read_inside l.close l.awaited (left l.rest)) ≡ passed (read_inside l.fn.close [] (left l.fn.tokens))
