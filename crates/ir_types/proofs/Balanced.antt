@@ -1,6 +1,6 @@
 -- Blocks and memory types close all brackets that they open.
-use Rattle.std.proofs.Common.{◌≡◌, ℕ, true, List, [], ◌∷◌, Some, refl}
-use Rattle.forms.specs.declared.TokenKind.TheVariants.{RightBracket, LeftBrace, RightBrace}
+use Rattle.std.proofs.Common.{◌≡◌, ℕ, Bool, true, List, [], ◌∷◌, Some, refl}
+use Rattle.forms.specs.declared.TokenKind.TheVariants.{LeftParen, RightParen, RightBracket, LeftBrace, RightBrace}
 use Rattle.forms.specs.Form.{Lexeme, Spells, nests}
 use Rattle.forms.specs.Balanced.{stack_after}
 use Rattle.forms.specs.Reading.{decides, read}
@@ -10,8 +10,8 @@ use Rattle.forms.proofs.Balanced.{balanced, memory_stack}
 use Rattle.forms.proofs.Between.{in_two_steps, between_inside}
 use Rattle.ir_types.specs.Offsets.{Definitions}
 use Rattle.ir_types.specs.TypeNodes.{TypeNode}
-use Rattle.ir_types.specs.Tree.{WrittenBlock}
-use Rattle.ir_types.specs.Grammar.{between, some, local_name, global_name, label, width, vector_type, value_type, memory_leaf, array_begin, type_parts, memory_type, return_type, three_flags, type_words, inst_memory, lane, constant_word, typed_lane, constant_offset, value, value_words, item_words, instruction_words, excluded_words, kept, typed_value, typed_pair, pointer_value, index_value, target, alignment, overflowing, possibly_exact, plain_binary, or_operation, predicates, compared, compare, select, freeze, trunc, zext, sext, ptrtoint, entry_of_phi, phi, getelementptr, load, store, argument, signature, call, extractelement, insertelement, shufflevector, branch, case_of_switch, switch, ret, inst_attachments, operation_words, operation, terminator_words, terminator, block}
+use Rattle.ir_types.specs.Tree.{WrittenParam, WrittenBlock}
+use Rattle.ir_types.specs.Grammar.{between, some, list, parameter, dotted_parameters, local_name, global_name, label, width, vector_type, value_type, memory_leaf, array_begin, type_parts, memory_type, return_type, three_flags, type_words, inst_memory, lane, constant_word, typed_lane, constant_offset, value, value_words, item_words, instruction_words, excluded_words, kept, typed_value, typed_pair, pointer_value, index_value, target, alignment, overflowing, possibly_exact, plain_binary, or_operation, predicates, compared, compare, select, freeze, trunc, zext, sext, ptrtoint, entry_of_phi, phi, getelementptr, load, store, argument, signature, call, extractelement, insertelement, shufflevector, branch, case_of_switch, switch, ret, inst_attachments, operation_words, operation, terminator_words, terminator, block}
 
 pub blocks_balanced : (defs : Definitions) (bs : List WrittenBlock) (ts : List Lexeme) → Spells (some (block defs)) bs ts → nests [] ts ≡ true
 unfolding local_name global_name label width vector_type value_type return_type three_flags inst_memory lane constant_word typed_lane constant_offset value kept kept_run kept_piece typed_value typed_pair pointer_value index_value target alignment overflowing possibly_exact plain_binary or_operation predicates compared compare select freeze trunc zext sext ptrtoint entry_of_phi phi getelementptr load store argument signature call extractelement insertelement shufflevector branch case_of_switch switch ret inst_attachments metadata_node attachment operation_words operation terminator_words terminator block
@@ -24,6 +24,29 @@ body_decides defs = refl
 -- a body is read in two steps
 pub body_later : (defs : Definitions) (ts : List Lexeme) → read (between LeftBrace RightBrace (some (block defs))) ts ≡ in_two_steps LeftBrace RightBrace (some (block defs)) ts
 body_later defs ts = between_inside LeftBrace RightBrace (some (block defs)) (body_decides defs) refl (blocks_balanced defs) ts
+
+-- the parameters of a defined function are, and those of a declared one
+params_decide : decides (between LeftParen RightParen (list parameter)) ≡ true
+unfolding local_name width vector_type value_type kept kept_run kept_piece type_words excluded_words value_words item_words instruction_words left_out_words operation_words terminator_words parameter
+params_decide = refl
+
+params_balanced : (ps : List WrittenParam) (ts : List Lexeme) → Spells (list parameter) ps ts → nests [] ts ≡ true
+unfolding local_name width vector_type value_type kept kept_run kept_piece parameter
+params_balanced ps ts s = balanced (list parameter) refl ps ts s
+
+pub params_later : (ts : List Lexeme) → read (between LeftParen RightParen (list parameter)) ts ≡ in_two_steps LeftParen RightParen (list parameter) ts
+params_later ts = between_inside LeftParen RightParen (list parameter) params_decide refl params_balanced ts
+
+dotted_decides : decides (between LeftParen RightParen dotted_parameters) ≡ true
+unfolding local_name width vector_type value_type kept kept_run kept_piece type_words excluded_words value_words item_words instruction_words left_out_words operation_words terminator_words parameter dotted_parameters
+dotted_decides = refl
+
+dotted_balanced : (ps : List WrittenParam × Bool) (ts : List Lexeme) → Spells dotted_parameters ps ts → nests [] ts ≡ true
+unfolding local_name width vector_type value_type kept kept_run kept_piece parameter dotted_parameters
+dotted_balanced ps ts s = balanced dotted_parameters refl ps ts s
+
+pub dotted_later : (ts : List Lexeme) → read (between LeftParen RightParen dotted_parameters) ts ≡ in_two_steps LeftParen RightParen dotted_parameters ts
+dotted_later ts = between_inside LeftParen RightParen dotted_parameters dotted_decides refl dotted_balanced ts
 
 pub leaf_stack : stack_after memory_leaf [] ≡ Some []
 unfolding local_name width vector_type value_type memory_leaf

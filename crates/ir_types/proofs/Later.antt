@@ -1,5 +1,5 @@
 -- What one form reads at once, another reads in two steps: first something that is known less, and then the rest of it.
-use Rattle.std.proofs.Common.{◌≡◌, ℕ, zero, suc, ◌==◌, Bool, true, false, cond, List, [], ◌∷◌, length, Option, Some, None, refl, ap, ◌∙◌}
+use Rattle.std.proofs.Common.{◌≡◌, ℕ, zero, suc, ◌==◌, Bool, true, false, cond, List, [], ◌∷◌, length, Option, Some, None, refl, sym, ap, ◌∙◌}
 use Rattle.forms.specs.declared.TokenKind.TheVariants.{Word}
 use Rattle.forms.specs.Form.{kind_code, Lexeme, Form, entry, pair, mapped, by_word}
 use Rattle.forms.specs.Reading.{◌>>=◌, read, read_each, read_whole}
@@ -42,6 +42,66 @@ pair_later {A} {B} {C} f g h complete later ts = by (read f ts)
     by None = refl
     by (Some x) = ap (λ (q : Option (A × List Lexeme)). q >>= beside_left x.0) (later x.1) ∙ then x.0 (read h x.1)
 
+-- ---- a form before another
+
+abbrev no_value : {A : Type 0} → Option A
+no_value = None
+
+nothing_then : {A B : Type 0} (o : Option A) → (o >>= λ _. no_value {A = B}) ≡ no_value {A = B}
+nothing_then None = refl
+nothing_then (Some a) = refl
+
+-- of two values the first is completed
+abbrev pub first : {A B C : Type 0} → (B → Option A) → B × C → Option (A × C)
+first complete x = complete x.0 >>= λ a. Some (a, x.1)
+
+pub pair_sooner : {A B C : Type 0} (f : Form A) (g : Form B) (h : Form C) (complete : B → Option A) → Later f g complete → Later (pair f h) (pair g h) (first complete)
+pair_sooner {A} {B} {C} f g h complete later ts = ap (λ (q : Option (A × List Lexeme)). q >>= λ x. read h x.1 >>= beside_left x.0) (later ts) ∙ by (read g ts)
+  where
+    with_first : (o : Option A) (y : C × List Lexeme) → (o >>= λ a. Some ((a, y.0), y.1)) ≡ ((o >>= λ a. Some (a, y.0)) >>= leaving y.1)
+    with_first None y = refl
+    with_first (Some a) y = refl
+
+    then : (b : B) (o : Option A) (r : Option (C × List Lexeme)) → complete b ≡ o → (o >>= λ a. r >>= beside_left a) ≡ completed (first complete) (r >>= beside_left b)
+    then b o None e = nothing_then o
+    then b o (Some y) e = rw e (with_first o y)
+
+    through : (o : Option A) (us : List Lexeme) → ((o >>= leaving us) >>= λ x. read h x.1 >>= beside_left x.0) ≡ (o >>= λ a. read h us >>= beside_left a)
+    through None us = refl
+    through (Some a) us = refl
+
+    by : (r : Option (B × List Lexeme)) → (completed complete r >>= λ x. read h x.1 >>= beside_left x.0) ≡ completed (first complete) (r >>= λ x. read h x.1 >>= beside_left x.0)
+    by None = refl
+    by (Some x) = through (complete x.0) x.1 ∙ then x.0 (complete x.0) (read h x.1) refl
+
+-- both are completed
+abbrev pub both : {A B C D : Type 0} → (B → Option A) → (D → Option C) → B × D → Option (A × C)
+both complete_one complete_other x = complete_one x.0 >>= λ a. complete_other x.1 >>= λ c. Some (a, c)
+
+same_completed : {A B R : Type 0} (one other : B → Option A) (r : Option (B × R)) → ((b : B) → one b ≡ other b) → completed one r ≡ completed other r
+same_completed one other None h = refl
+same_completed one other (Some x) h = ap (λ (o : Option _). o >>= leaving x.1) (h x.0)
+
+-- the one completed after the other
+completed_twice : {A B C R : Type 0} (one : B → Option A) (other : C → Option B) (r : Option (C × R)) → completed one (completed other r) ≡ completed (λ c. other c >>= one) r
+completed_twice one other None = refl
+completed_twice {A} {B} {C} {R} one other (Some x) = by (other x.0)
+  where
+    by : (o : Option B) → completed one (o >>= leaving x.1) ≡ ((o >>= one) >>= leaving x.1)
+    by None = refl
+    by (Some b) = refl
+
+pub both_later : {A B C D : Type 0} (f : Form A) (g : Form B) (h : Form C) (k : Form D) (complete_one : B → Option A) (complete_other : D → Option C) → Later f g complete_one → Later h k complete_other → Later (pair f h) (pair g k) (both complete_one complete_other)
+both_later {A} {B} {C} {D} f g h k complete_one complete_other one other ts =
+    pair_sooner f g h complete_one one ts
+    ∙ ap (completed (first complete_one)) (pair_later g h k complete_other other ts)
+    ∙ completed_twice (first complete_one) (second complete_other) (read (pair g k) ts)
+    ∙ same_completed (λ x. second complete_other x >>= first complete_one) (both complete_one complete_other) (read (pair g k) ts) (λ x. by x (complete_other x.1))
+  where
+    by : (x : B × D) (p : Option C) → ((p >>= beside x.0) >>= first complete_one) ≡ (complete_one x.0 >>= λ a. p >>= λ c. Some (a, c))
+    by x None = sym (nothing_then (complete_one x.0))
+    by x (Some c) = refl
+
 -- ---- what functions make of it
 
 -- what a function makes of a value
@@ -63,6 +123,17 @@ mapped_later {A} {B} {C} {D} f g complete make make_less complete_made later sam
     by : (r : Option (B × List Lexeme)) → (completed complete r >>= into_left make) ≡ completed complete_made (r >>= into_left make_less)
     by None = refl
     by (Some y) = rw (same y.0) (left_last (complete y.0) y.1)
+
+-- what is read is all of it
+abbrev pub all_of : {A : Type 0} → A → Option A
+all_of a = Some a
+
+pub nothing_left : {A : Type 0} (f : Form A) → Later f f all_of
+nothing_left {A} f ts = by (read f ts)
+  where
+    by : (r : Option (A × List Lexeme)) → r ≡ completed all_of r
+    by None = refl
+    by (Some x) = refl
 
 -- where nothing is left to be completed
 pub at_once : {A B : Type 0} (f : Form A) (make_less : A → B) (complete : B → Option A) → ((a : A) → complete (make_less a) ≡ Some a) → Later f (mapped make_less f) complete

@@ -1,4 +1,4 @@
--- A module's items can be read in two passes: first skimmed, and then with the bodies of their functions.
+-- A module's items can be read in two passes: first skimmed, and then with the inner parts of their functions.
 use Rattle.std.proofs.Common.{◌≡◌, ℕ, Bool, true, false, cond, List, [], ◌∷◌, length, Option, Some, None, refl, sym, ap, ◌∙◌}
 use Rattle.forms.specs.declared.TokenKind.TheVariants.{LeftParen, RightParen, LeftBrace, RightBrace}
 use Rattle.forms.specs.Form.{Lexeme, Form, pair, mapped, by_word, enclosed}
@@ -15,57 +15,75 @@ use Rattle.ir_types.specs.declared.opcode.ItemWord.TheVariants as items
 use Rattle.ir_types.specs.TypeNodes.{TypeNode}
 use Rattle.ir_types.specs.Offsets.{Definitions, as_definition, definitions_in}
 use Rattle.ir_types.specs.Tree.{KeptTexts, WrittenParam, WrittenBlock, WrittenFunction, Item, head_line, comdat_line, type_item, variable_item, function_item, attribute_line, metadata_line}
-use Rattle.ir_types.specs.Grammar.{between, some, list, return_type, global_name, parameter, kept, block, defined_tree, defined_function, item_words, item_behind, item, memory_type, module_form, SpellsModule}
-use Rattle.ir_types.specs.Skimmed.{Skimmed, skimmed_tree, skimmed_definition, as_it_is, skimmed_behind, wordless_item, skimmed_item, skimmed_module, body_read, with_body, with_body_of_item, with_bodies, with_own_bodies, items_read}
-use Rattle.ir_types.proofs.Balanced.{body_later}
+use Rattle.ir_types.specs.Grammar.{between, some, list, return_type, global_name, parameter, dotted_parameters, kept, block, declared_tree, declared_function, defined_tree, defined_function, item_words, item_behind, item, memory_type, module_form, SpellsModule}
+use Rattle.ir_types.specs.Skimmed.{declared_outline, skimmed_declaration, defined_outline, skimmed_definition, Skimmed, outlined, as_it_is, skimmed_behind, wordless_item, skimmed_item, skimmed_module, dotted_read, params_read, body_read, with_dotted, with_inner, filled, with_body, with_body_of_item, with_bodies, with_own_bodies, items_read}
+use Rattle.ir_types.proofs.Balanced.{params_later, dotted_later, body_later}
 use Rattle.ir_types.proofs.Decides.{module_decides}
-use Rattle.ir_types.proofs.Later.{Later, second, into, pair_later, mapped_later, at_once, word_later, each, each_later, whole_later}
+use Rattle.ir_types.proofs.Later.{Later, second, both, into, pair_later, both_later, mapped_later, all_of, nothing_left, at_once, word_later, each, each_later, whole_later}
 
 -- ---- functions
 
--- a defined function's parts from each on, the last one its body of the form f
-abbrev from_kept : {B : Type 0} → Form B → Form (KeptTexts × B)
-from_kept f = pair (joined kept attachments) f
+-- the parts of a function, its parameters of the form f, and what is behind them of the form g
+abbrev with_params : {A B : Type 0} → Form KeptTexts → Form A → Form B → Form (KeptTexts × (Ty × (Name × (A × B))))
+with_params before f g = pair before (pair return_type (pair global_name (pair f g)))
 
-abbrev from_parameters : {B : Type 0} → Form B → Form (List WrittenParam × (KeptTexts × B))
-from_parameters f = pair (between LeftParen RightParen (list parameter)) (from_kept f)
+-- the same, where what those read less is completed
+abbrev completing : {A B C D : Type 0} → (B → Option A) → (D → Option C) → KeptTexts × (Ty × (Name × (B × D))) → Option (KeptTexts × (Ty × (Name × (A × C))))
+completing complete_one complete_other = second (second (second (both complete_one complete_other)))
 
-abbrev from_name : {B : Type 0} → Form B → Form (Name × (List WrittenParam × (KeptTexts × B)))
-from_name f = pair global_name (from_parameters f)
+parts_later : {A B C D : Type 0} (before : Form KeptTexts) (f : Form A) (g : Form B) (h : Form C) (k : Form D) (complete_one : B → Option A) (complete_other : D → Option C) → Later f g complete_one → Later h k complete_other
+    → Later (with_params before f h) (with_params before g k) (completing complete_one complete_other)
+parts_later before f g h k complete_one complete_other one other =
+    let inner = both_later f g h k complete_one complete_other one other in
+    let named = pair_later global_name (pair f h) (pair g k) (both complete_one complete_other) inner in
+    let typed = pair_later return_type (pair global_name (pair f h)) (pair global_name (pair g k)) (second (both complete_one complete_other)) named in
+    pair_later before (pair return_type (pair global_name (pair f h))) (pair return_type (pair global_name (pair g k))) (second (second (both complete_one complete_other))) typed
 
-abbrev from_type : {B : Type 0} → Form B → Form (Ty × (Name × (List WrittenParam × (KeptTexts × B))))
-from_type f = pair return_type (from_name f)
+-- parameters, and their tokens
+abbrev params : Form (List WrittenParam)
+params = between LeftParen RightParen (list parameter)
 
--- a body, and its tokens
+abbrev dotted_params : Form (List WrittenParam × Bool)
+dotted_params = between LeftParen RightParen dotted_parameters
+
+abbrev params_tokens : Form (List Lexeme)
+params_tokens = enclosed LeftParen RightParen
+
+-- what stands behind parameters, with a body of the form f
+abbrev with_behind : {B : Type 0} → Form B → Form (KeptTexts × B)
+with_behind f = pair (joined kept attachments) f
+
 abbrev body : Definitions → Form (List WrittenBlock)
 body defs = between LeftBrace RightBrace (some (block defs))
 
 abbrev body_tokens : Form (List Lexeme)
 body_tokens = enclosed LeftBrace RightBrace
 
--- all parts, where the last is completed
-abbrev with_last : {A B : Type 0} → (B → Option A) → KeptTexts × (Ty × (Name × (List WrittenParam × (KeptTexts × B)))) → Option (KeptTexts × (Ty × (Name × (List WrittenParam × (KeptTexts × A)))))
-with_last complete = second (second (second (second (second complete))))
-
-parts_later : (defs : Definitions) → Later (pair kept (from_type (body defs))) (pair kept (from_type body_tokens)) (with_last (body_read defs))
-parts_later defs =
-    let read_later = body_read defs in
-    let kept_too = pair_later (joined kept attachments) (body defs) body_tokens read_later (body_later defs) in
-    let parameters_too = pair_later (between LeftParen RightParen (list parameter)) (from_kept (body defs)) (from_kept body_tokens) (second read_later) kept_too in
-    let name_too = pair_later global_name (from_parameters (body defs)) (from_parameters body_tokens) (second (second read_later)) parameters_too in
-    let type_too = pair_later return_type (from_name (body defs)) (from_name body_tokens) (second (second (second read_later))) name_too in
-    pair_later kept (from_type (body defs)) (from_type body_tokens) (second (second (second (second read_later)))) type_too
-
--- A defined function is read as it is skimmed, and then with its body.
-pub function_later : (defs : Definitions) → Later (defined_function defs) skimmed_definition (with_body defs)
+-- A defined function is read as it is skimmed, and then with its inner parts.
+pub function_later : (defs : Definitions) → Later (defined_function defs) skimmed_definition (filled defs)
 unfolding defined_function skimmed_definition
 function_later defs =
-    mapped_later (pair kept (from_type (body defs))) (pair kept (from_type body_tokens)) (with_last (body_read defs)) defined_tree skimmed_tree (with_body defs) (parts_later defs) (λ x. same x (body_read defs x.1.1.1.1.1))
+    let behind = pair_later (joined kept attachments) (body defs) body_tokens (body_read defs) (body_later defs) in
+    let parts = parts_later kept params params_tokens (with_behind (body defs)) (with_behind body_tokens) params_read (second (body_read defs)) params_later behind in
+    mapped_later (with_params kept params (with_behind (body defs))) (with_params kept params_tokens (with_behind body_tokens)) (completing params_read (second (body_read defs))) defined_tree defined_outline (filled defs) parts
+    (λ x. same x (params_read x.1.1.1.0) (body_read defs x.1.1.1.1.1))
   where
-    same : (x : KeptTexts × (Ty × (Name × (List WrittenParam × (KeptTexts × List Lexeme))))) (o : Option (List WrittenBlock))
-        → (o >>= λ b. Some (defined_tree (x.0, (x.1.0, (x.1.1.0, (x.1.1.1.0, (x.1.1.1.1.0, b))))))) ≡ (with_last (λ (_ : List Lexeme). o) x >>= into defined_tree)
+    same : (x : KeptTexts × (Ty × (Name × (List Lexeme × (KeptTexts × List Lexeme))))) (o : Option (List WrittenParam)) (p : Option (List WrittenBlock))
+        → (o >>= λ ps. p >>= λ blocks. Some (with_inner (defined_outline x) ps blocks)) ≡ (completing (λ (_ : List Lexeme). o) (second (λ (_ : List Lexeme). p)) x >>= into defined_tree)
+    same x None p = refl
+    same x (Some ps) None = refl
+    same x (Some ps) (Some blocks) = refl
+
+-- So is a declared one.
+pub declaration_later : (defs : Definitions) → Later declared_function skimmed_declaration (filled defs)
+unfolding declared_function skimmed_declaration
+declaration_later defs =
+    let parts = parts_later (joined attachments kept) dotted_params params_tokens kept kept dotted_read all_of dotted_later (nothing_left kept) in
+    mapped_later (with_params (joined attachments kept) dotted_params kept) (with_params (joined attachments kept) params_tokens kept) (completing dotted_read all_of) declared_tree declared_outline (filled defs) parts (λ x. same x (dotted_read x.1.1.1.0))
+  where
+    same : (x : KeptTexts × (Ty × (Name × (List Lexeme × KeptTexts)))) (o : Option (List WrittenParam × Bool)) → (o >>= λ ps. Some (with_dotted (declared_outline x) ps)) ≡ (completing (λ (_ : List Lexeme). o) all_of x >>= into declared_tree)
     same x None = refl
-    same x (Some b) = refl
+    same x (Some ps) = refl
 
 -- ---- items
 
@@ -84,8 +102,8 @@ no_body defs f = at_once f as_it_is (with_body_of_item defs) (as_it_was defs)
 behind_later : (defs : Definitions) (w : ItemWord) → Later (item_behind defs w) (skimmed_behind w) (with_body_of_item defs)
 behind_later defs items.SourceFilename = no_body defs (item_behind [] items.SourceFilename)
 behind_later defs items.Target = no_body defs (item_behind [] items.Target)
-behind_later defs items.Declare = no_body defs (item_behind [] items.Declare)
-behind_later defs items.Define = mapped_later (defined_function defs) skimmed_definition (with_body defs) function_item function_item (with_body_of_item defs) (function_later defs) (λ s. refl)
+behind_later defs items.Declare = mapped_later declared_function skimmed_declaration (filled defs) function_item (λ s. function_item (outlined s)) (with_body_of_item defs) (declaration_later defs) (λ s. refl)
+behind_later defs items.Define = mapped_later (defined_function defs) skimmed_definition (filled defs) function_item (λ s. function_item (outlined s)) (with_body_of_item defs) (function_later defs) (λ s. refl)
 behind_later defs items.Attributes = no_body defs (item_behind [] items.Attributes)
 
 -- An item is read as it is skimmed, and then with its body.

@@ -1,6 +1,6 @@
--- A module's items where the bodies of functions are passed over: what stands between their braces is taken as its tokens, and read later,
--- when it is known what the names of types stand for.
-use Rattle.std.specs.Prelude.{ℕ, List, [], ◌∷◌, length, Option, Some, None}
+-- A module's items where the inner parts of functions are passed over: what stands between the parentheses of their parameters and the braces of
+-- their bodies is taken as its tokens, and read later, when it is known what the names of types stand for.
+use Rattle.std.specs.Prelude.{ℕ, Bool, List, [], ◌∷◌, length, Option, Some, None}
 use Rattle.forms.specs.declared.TokenKind.TheVariants.{LeftParen, RightParen, LeftBrace, RightBrace}
 use Rattle.forms.specs.Form.{Lexeme, Form, enclosed, pair, either, mapped, many, by_word}
 use Rattle.forms.specs.Reading.{◌>>=◌, read_whole}
@@ -14,24 +14,41 @@ use Rattle.ir_types.specs.declared.opcode.ItemWord.TheVariants as items
 use Rattle.ir_types.specs.TypeNodes.{TypeNode}
 use Rattle.ir_types.specs.Offsets.{Definitions, definitions_in}
 use Rattle.ir_types.specs.Tree.{KeptTexts, WrittenParam, WrittenBlock, WrittenFunction, Item, head_line, comdat_line, type_item, variable_item, function_item, attribute_line, metadata_line}
-use Rattle.ir_types.specs.Grammar.{between, some, list, return_type, global_name, parameter, kept, block, defined_tree, item_words, item_behind, memory_type, comdat, metadata, type_definition, variable_definition}
+use Rattle.ir_types.specs.Grammar.{between, some, list, return_type, global_name, parameter, kept, block, declared_tree, defined_tree, dotted_parameters, item_words, item_behind, memory_type, comdat, metadata, type_definition, variable_definition}
 
 -- ---- items as they are skimmed
 
--- a function that is passed over: what stands before its body, as a function of no blocks, and the tokens of the body with their braces, where it
--- has one
-pub record Skimmed : Type 0 where
-  pub head : WrittenFunction
+-- a function whose inner parts are passed over: what stands outside, the tokens of its parameters with their parentheses, and those of its body with
+-- their braces, where it has one
+pub record Outline : Type 0 where
+  pub name : Name
+  pub before : KeptTexts
+  pub ret : Ty
+  pub params : List Lexeme
+  pub after : KeptTexts
   pub body : Option (List Lexeme)
 
--- the parts of a defined function, the last one its body's tokens
-abbrev pub skimmed_tree : KeptTexts × (Ty × (Name × (List WrittenParam × (KeptTexts × List Lexeme)))) → Skimmed
-skimmed_tree x = record { head = defined_tree (x.0, (x.1.0, (x.1.1.0, (x.1.1.1.0, (x.1.1.1.1.0, []))))); body = Some x.1.1.1.1.1 }
+-- the parts of a declared function
+abbrev pub declared_outline : KeptTexts × (Ty × (Name × (List Lexeme × KeptTexts))) → Outline
+declared_outline x = record { name = x.1.1.0; before = x.0; ret = x.1.0; params = x.1.1.1.0; after = x.1.1.1.1; body = None }
+
+-- B K R @name ( .. ) K
+unfoldable pub skimmed_declaration : Form Outline
+skimmed_declaration = mapped declared_outline (pair (joined attachments kept) (pair return_type (pair global_name (pair (enclosed LeftParen RightParen) kept))))
+
+-- the parts of a defined function
+abbrev pub defined_outline : KeptTexts × (Ty × (Name × (List Lexeme × (KeptTexts × List Lexeme)))) → Outline
+defined_outline x = record { name = x.1.1.0; before = x.0; ret = x.1.0; params = x.1.1.1.0; after = x.1.1.1.1.0; body = Some x.1.1.1.1.1 }
 
 -- K R @name ( .. ) K B { .. }
-unfoldable pub skimmed_definition : Form Skimmed
+unfoldable pub skimmed_definition : Form Outline
 skimmed_definition =
-    mapped skimmed_tree (pair kept (pair return_type (pair global_name (pair (between LeftParen RightParen (list parameter)) (pair (joined kept attachments) (enclosed LeftBrace RightBrace))))))
+    mapped defined_outline (pair kept (pair return_type (pair global_name (pair (enclosed LeftParen RightParen) (pair (joined kept attachments) (enclosed LeftBrace RightBrace))))))
+
+-- a function, all of it or its outline
+pub data Skimmed : Type 0 where
+  whole : WrittenFunction → Skimmed
+  outlined : Outline → Skimmed
 
 -- an item of which nothing is passed over
 abbrev pub as_it_is : Item WrittenFunction → Item Skimmed
@@ -39,16 +56,16 @@ as_it_is (head_line xs) = head_line xs
 as_it_is (comdat_line xs) = comdat_line xs
 as_it_is (type_item n t) = type_item n t
 as_it_is (variable_item v) = variable_item v
-as_it_is (function_item f) = function_item (record { head = f; body = None })
+as_it_is (function_item f) = function_item (whole f)
 as_it_is (attribute_line xs) = attribute_line xs
 as_it_is (metadata_line xs) = metadata_line xs
 
--- what is behind the word of an item: of a defined function the body is passed over
+-- what is behind the word of an item: of a function its outline is read
 abbrev pub skimmed_behind : ItemWord → Form (Item Skimmed)
 skimmed_behind items.SourceFilename = mapped as_it_is (item_behind [] items.SourceFilename)
 skimmed_behind items.Target = mapped as_it_is (item_behind [] items.Target)
-skimmed_behind items.Declare = mapped as_it_is (item_behind [] items.Declare)
-skimmed_behind items.Define = mapped function_item skimmed_definition
+skimmed_behind items.Declare = mapped (λ s. function_item (outlined s)) skimmed_declaration
+skimmed_behind items.Define = mapped (λ s. function_item (outlined s)) skimmed_definition
 skimmed_behind items.Attributes = mapped as_it_is (item_behind [] items.Attributes)
 
 -- an item that begins with no word, where memory types are of the form m
@@ -63,21 +80,41 @@ skimmed_item m = either (by_word item_words skimmed_behind) (mapped as_it_is (wo
 unfoldable pub skimmed_module : ℕ → Form (List (Item Skimmed))
 skimmed_module depth = many (skimmed_item (memory_type depth))
 
--- ---- the same with their bodies
+-- ---- the same with their inner parts
+
+-- the parameters of a declared function
+abbrev pub dotted_read : List Lexeme → Option (List WrittenParam × Bool)
+dotted_read tokens = read_whole dotted_parameters (inside tokens)
+
+-- those of a defined function
+abbrev pub params_read : List Lexeme → Option (List WrittenParam)
+params_read tokens = read_whole (list parameter) (inside tokens)
 
 -- the blocks that stand between the braces, where names of types are defined so
 abbrev pub body_read : Definitions → List Lexeme → Option (List WrittenBlock)
 body_read defs tokens = read_whole (some (block defs)) (inside tokens)
 
--- a function of these blocks
-abbrev pub with_blocks : WrittenFunction → List WrittenBlock → WrittenFunction
-with_blocks f blocks = record f { body = blocks }
+-- a declared function with these parameters
+abbrev pub with_dotted : Outline → List WrittenParam × Bool → WrittenFunction
+with_dotted s ps = declared_tree (s.before, (s.ret, (s.name, (ps, s.after))))
 
--- the function, with the blocks that its body's tokens spell
+-- a defined function with these parameters and blocks
+abbrev pub with_inner : Outline → List WrittenParam → List WrittenBlock → WrittenFunction
+with_inner s ps blocks = defined_tree (s.before, (s.ret, (s.name, (ps, (s.after, blocks)))))
+
+-- the function that an outline is of, where its tokens spell one
+abbrev pub filled : Definitions → Outline → Option WrittenFunction
+filled defs s = elim s.body [
+  | None ↦ dotted_read s.params >>= λ ps. Some (with_dotted s ps)
+  | Some tokens ↦ params_read s.params >>= λ ps. body_read defs tokens >>= λ blocks. Some (with_inner s ps blocks)
+]
+
+-- the function with its inner parts
 abbrev pub with_body : Definitions → Skimmed → Option WrittenFunction
-with_body defs s = elim s.body [ None ↦ Some s.head | Some tokens ↦ body_read defs tokens >>= λ blocks. Some (with_blocks s.head blocks) ]
+with_body defs (whole f) = Some f
+with_body defs (outlined s) = filled defs s
 
--- the item, with its body where it is a function's
+-- the item, with its inner parts where it is a function's
 abbrev pub with_body_of_item : Definitions → Item Skimmed → Option (Item WrittenFunction)
 with_body_of_item defs (head_line xs) = Some (head_line xs)
 with_body_of_item defs (comdat_line xs) = Some (comdat_line xs)
@@ -87,15 +124,15 @@ with_body_of_item defs (function_item s) = with_body defs s >>= λ f. Some (func
 with_body_of_item defs (attribute_line xs) = Some (attribute_line xs)
 with_body_of_item defs (metadata_line xs) = Some (metadata_line xs)
 
--- the items, each with its body, in their order
+-- the items, each with its inner parts, in their order
 abbrev pub with_bodies : Definitions → List (Item Skimmed) → Option (List (Item WrittenFunction))
 with_bodies defs [] = Some []
 with_bodies defs (s ∷ more) = with_body_of_item defs s >>= λ i. with_bodies defs more >>= λ is. Some (i ∷ is)
 
--- the items with their bodies, where names of types are those that the items themselves define
+-- the items with their inner parts, where names of types are those that the items themselves define
 abbrev pub with_own_bodies : List (Item Skimmed) → Option (List (Item WrittenFunction))
 with_own_bodies skimmed = with_bodies (definitions_in skimmed) skimmed
 
--- the items that all of the tokens spell: first skimmed, and then with their bodies (proofs/Skimming: they are those of `SpellsModule`)
+-- the items that all of the tokens spell: first skimmed, and then with their inner parts (proofs/Skimming: they are those of `SpellsModule`)
 abbrev pub items_read : List Lexeme → Option (List (Item WrittenFunction))
 items_read tokens = read_whole (skimmed_module (length tokens)) tokens >>= with_own_bodies
