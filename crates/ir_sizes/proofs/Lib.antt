@@ -3,3 +3,13 @@ pub mod Layouts
 pub mod Closing
 pub mod Members
 pub mod Setting
+pub mod Cells
+pub mod Within
+pub mod PlaceNodes
+pub mod Agreed
+pub mod Behind
+pub mod Stepped
+pub mod Paths
+pub mod Pushing
+pub mod Defining
+pub mod Staying

@@ -1,5 +1,5 @@
 -- What is known of extents while they are computed.
-use Rattle.std.specs.Prelude.{◌≡◌, ℕ, ◌≤◌, min, Bool, true, false, count_by, List, [], ◌∷◌, Some, length, slice_get, slice_index_or, All}
+use Rattle.std.specs.Prelude.{◌≡◌, ℕ, ◌<◌, ◌≤◌, min, Bool, true, false, count_by, List, [], ◌∷◌, Some, length, slice_get, slice_index_or, All}
 use Rattle.ir_types.specs.declared.name.Name.{Name}
 use Rattle.ir_types.specs.declared.memory_type.TypeId.{TypeId}
 use Rattle.ir_types.specs.declared.memory_type.MemTy.{MemTy}
@@ -9,7 +9,7 @@ use Rattle.ir_types.specs.declared.memory_type.TypeName.{TypeName}
 use Rattle.ir_types.specs.declared.memory_type.Extent.{Extent}
 use Rattle.ir_types.specs.declared.memory_type.Extent.TheVariants.{NoSize, Size}
 use Rattle.ir_types.specs.Types.{IsType}
-use Rattle.ir_types.specs.Sizes.{Layout, HasLayout, IsLaid, at_place, SIZE_CAP}
+use Rattle.ir_types.specs.Sizes.{Layout, HasLayout, IsLaid, at_place, IsExtent, SIZE_CAP}
 
 -- the extent at a place, and `NoSize` where there is none
 abbrev pub extent_at : List Extent → ℕ → Extent
@@ -33,10 +33,14 @@ IsExtentOf l (Size s a) = (s ≡ min l.size SIZE_CAP) × (a ≡ l.align)
 abbrev pub IsRight : List MemTy → List TypeName → MemTy → Extent → Type 0
 IsRight types names t x = IsSized x → (l : Layout) × HasLayout types names t l × IsExtentOf l x
 
--- there is an extent for each type, and each size is that of its type
+-- each size that there is is that of its type
+abbrev pub EachIsRight : List MemTy → List TypeName → List Extent → Type 0
+EachIsRight types names extents = (id : TypeId) → IsSizedAt extents id → (l : Layout) × IsLaid types names (at_place id) (l ∷ []) × IsExtentOf l (extent_at extents id.0)
+
+-- and there is an extent for each type
 pub record AreRight (types : List MemTy) (names : List TypeName) (extents : List Extent) : Type 0 where
   pub as_many : length extents ≡ length types
-  pub each : (id : TypeId) → IsSizedAt extents id → (l : Layout) × IsLaid types names (at_place id) (l ∷ []) × IsExtentOf l (extent_at extents id.0)
+  pub each : EachIsRight types names extents
 
 -- the name at a place stands for the type
 abbrev pub IsDefined : List TypeName → ℕ → TypeId → Type 0
@@ -48,6 +52,12 @@ AreSized names extents (One t) = IsType t
 AreSized names extents (Array n element) = IsSizedAt extents element
 AreSized names extents (Struct packed members) = All (IsSizedAt extents) members
 AreSized names extents (Named k) = (id : TypeId) × IsDefined names k id × IsSizedAt extents id
+
+-- extents of the first types, among which all definitions stand
+pub record AreFirstExtents (types : List MemTy) (names : List TypeName) (extents : List Extent) : Type 0 where
+  pub within : length extents ≤ length types
+  pub defined : (k : ℕ) (id : TypeId) → IsDefined names k id → id.0 < length extents
+  pub each : (i : ℕ) (t : MemTy) (x : Extent) → slice_get types i ≡ Some t → slice_get extents i ≡ Some x → IsExtent types names t x
 
 -- the extent's size is at most 2^61, and its alignment from 1 to 4096
 abbrev pub IsSmall : Extent → Type 0

@@ -1,3 +1,5 @@
 pub mod Known
+pub mod Put
 pub mod Small
+pub mod Definitions
 pub mod Stepping

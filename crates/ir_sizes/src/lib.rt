@@ -3,15 +3,18 @@
 //! Sizes are computed up to 2^61, from which on they are not told apart. No more memory than that can be asked for.
 #![tactic(auto)]
 
+mod added;
 mod extents;
 mod offsets;
 mod order;
 mod place;
 mod single;
 mod size;
+mod steps;
 #[cfg(test)]
 mod tests;
 
+pub use added::extents_behind;
 pub use extents::extents_of;
-pub use offsets::Index;
+pub use offsets::{Index, offset};
 pub use size::size_of;

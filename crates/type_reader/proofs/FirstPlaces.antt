@@ -84,7 +84,7 @@ one_or_apart q n = by (same_name q n) refl
     by true e = inl ((same_name-Decides q n).0 e)
     by false e = inr e
 
-same_itself : (n : Name) → same_name n n ≡ true
+pub same_itself : (n : Name) → same_name n n ≡ true
 same_itself n = (same_name-Decides n n).1 refl
 
 -- a name that is there already is found where it was

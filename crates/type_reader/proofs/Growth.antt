@@ -98,7 +98,7 @@ symbol_stays symbols later i lt x = name_stays symbols later i _ (slice_get-get_
 
 -- ---- entries
 
-got_name : (entries : List TypeName) (i : ℕ) (x : TypeName) → slice_get entries i ≡ Some x → slice_get (names_of entries) i ≡ Some x.name
+pub got_name : (entries : List TypeName) (i : ℕ) (x : TypeName) → slice_get entries i ≡ Some x → slice_get (names_of entries) i ≡ Some x.name
 got_name entries i x e = slice_get-map (λ (t : TypeName). t.name) entries i ∙ ap (option_map (λ (t : TypeName). t.name)) e
 
 entries_push : (entries : List TypeName) (name : Name) → ¬ Contains (names_of entries) name → AreEntriesApart entries → AreEntriesApart (entries ++ missing_entry name ∷ [])

@@ -8,4 +8,5 @@ pub mod Holding
 pub mod Openings
 pub mod LookUps
 pub mod Growth
+pub mod Defining
 pub mod Looking

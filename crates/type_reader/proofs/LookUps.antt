@@ -9,7 +9,7 @@ use Rattle.ir_types.specs.declared.name.Name.{Name}
 use Rattle.ir_types.specs.declared.memory_type.TypeName.{TypeName}
 use Rattle.ir_types.specs.Names.{same_name, has_name, unknown}
 use Rattle.ir_types.specs.TypeNodes.{TypeNode, called, as_called, names_used}
-use Rattle.type_reader.specs.TypeTable.{names_of, missing_entry, LooksUp, LooksUpAll}
+use Rattle.type_reader.specs.TypeTable.{names_of, missing_entry, LooksUp, LooksUpSome, LooksUpAll}
 use Rattle.type_reader.proofs.FirstPlaces.{same_name-Decides}
 
 -- some names, and then others
@@ -82,3 +82,14 @@ has_none n ns h = by (has_name n ns) refl
 pub looks_up_one : (old new : List TypeName) (name : Name) → LooksUp old name new → LooksUpAll old (called name ∷ []) new
 looks_up_one old new name (inl h) = h.1 ∙ sym (rw (has_this name (names_of old) h.0.0 h.0.1 h.0.2) (append-nil old))
 looks_up_one old new name (inr h) = h.1 ∙ sym (rw (has_none name (names_of old) h.0) refl)
+
+-- ---- some names
+
+pub looks_up_nothing : (names : List TypeName) → LooksUpSome names names
+looks_up_nothing names = record { used = []; parts = sym (append-nil names) }
+
+pub looks_up_further : (old mid new : List TypeName) → LooksUpSome old mid → LooksUpSome mid new → LooksUpSome old new
+looks_up_further old mid new h k = record { used = h.used ++ k.used; parts = looked_up old mid new h.used k.used h.parts k.parts }
+
+pub looks_up_this : (old new : List TypeName) (name : Name) → LooksUp old name new → LooksUpSome old new
+looks_up_this old new name h = record { used = name ∷ []; parts = looks_up_one old new name h }

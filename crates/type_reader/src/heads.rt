@@ -12,7 +12,7 @@ ghost use Rattle.ir_types.specs.Types.{IsType};
 ghost use Rattle.ir_types.specs.declared.name.Name.{Name};
 ghost use Rattle.ir_types.specs.TypeNodes.{array, opening, closing, nodes_from, names_used};
 ghost use Rattle.ir_types.specs.Grammar.{elements_of, array_begin, memory_leaf, type_parts, memory_type};
-ghost use Rattle.type_reader.specs.TypeTable.{names_of, LooksUpAll};
+ghost use Rattle.type_reader.specs.TypeTable.{names_of, LooksUpSome, LooksUpAll};
 ghost use Rattle.type_reader.specs.Heads.{IsAlone, BeginsAlone, begun_nodes, next_nodes};
 
 use crate::names::local;
@@ -78,6 +78,7 @@ fn leaf<'t>(
     ensures grows { Extends names.old names.new }
     ensures reads { Gives (λ x. (nodes_from (names_of names.new) [] x.0, left x.1)) result (read memory_leaf (left tokens.entry)) }
     ensures alone { IfOk result (λ x. IsAlone (names_of names.new) x.0) }
+    ensures looks_up { LooksUpSome names.old names.new }
     ensures names { IfOk result (λ x. LooksUpAll names.old (nodes_from (names_of names.new) [] x.0) names.new) }
 {
     if begins_type(tokens) {
@@ -180,6 +181,7 @@ pub fn head<'t>(
     ensures grows { Extends names.old names.new }
     ensures reads { Gives (λ x. (begun_nodes (names_of names.new) x.0, left x.1)) result (read (head type_parts) (left tokens.entry)) }
     ensures alone { IfOk result (λ x. BeginsAlone (names_of names.new) x.0) }
+    ensures looks_up { LooksUpSome names.old names.new }
     ensures names { IfOk result (λ x. LooksUpAll names.old (begun_nodes (names_of names.new) x.0).0 names.new) }
 {
     if begins_leaf(tokens) {

@@ -11,7 +11,7 @@ ghost use Rattle.ir_types.specs.declared.memory_type.TypeName.{TypeName};
 ghost use Rattle.ir_types.specs.TypeNodes.{type_nodes};
 ghost use Rattle.ir_types.specs.Types.{AreTypes};
 ghost use Rattle.ir_types.specs.Grammar.{memory_type};
-ghost use Rattle.type_reader.specs.TypeTable.{names_of, LooksUpAll};
+ghost use Rattle.type_reader.specs.TypeTable.{names_of, LooksUpSome, LooksUpAll};
 ghost use Rattle.type_reader.specs.Frames.{innermost, goes_on, Holds, Looked, is_refusal, behind_type};
 
 use crate::heads::{Begun, head, next};
@@ -46,6 +46,7 @@ fn begin<'t>(
     requires { Holds (names_of names.old) types.old.items stack.old None }
     ensures types_grow { Extends types.old.items types.new.items }
     ensures names_grow { Extends names.old names.new }
+    ensures looks_up { LooksUpSome names.old names.new }
     ensures goes { (d : ℕ) → length (left tokens.entry) ≤ d → Continues is_refusal (λ x. goes_on d (names_of names.new) types.new.items stack.new x.0 (left x.1)) result (goes_on d (names_of names.old) types.old.items stack.old None (left tokens.entry)) }
     ensures holds { IfOk result (λ x. Holds (names_of names.new) types.new.items stack.new x.0) }
     ensures shorter { IfOk result (λ x. length (left x.1) < length (left tokens.entry)) }
@@ -108,6 +109,7 @@ pub fn memory_type<'t>(
     requires { AreTypes (names_of names.old) 0 types.old.items }
     ensures types_grow { Extends types.old.items types.new.items }
     ensures names_grow { Extends names.old names.new }
+    ensures looks_up { LooksUpSome names.old names.new }
     ensures are { OnOk result (AreTypes (names_of names.new) 0 types.new.items) }
     ensures reads { (d : ℕ) → length (left tokens.entry) ≤ d → Gives (λ x. (type_nodes (names_of names.new) types.new.items x.0, left x.1)) result (read (memory_type d) (left tokens.entry)) }
     ensures stays { IfOk result (λ x. (later : List Name) (others : List MemTy) → Extends (names_of names.new) later → Extends types.new.items others → type_nodes later others x.0 ≡ type_nodes (names_of names.new) types.new.items x.0) }

@@ -12,6 +12,7 @@ ghost use Rattle.ir_sizes.specs.Stepping.{index_pair, IsIndex};
 ghost use Rattle.type_reader.specs.TypeTable.{names_of};
 ghost use Rattle.type_reader.specs.Tables.{TableLists, nodes_there, definitions_of, Grows, IsDefinedBefore, AreEntriesApart, AreTables};
 
+use crate::memory::memory_type;
 use crate::symbol_names::SymbolNames;
 use crate::type_names::TypeNames;
 use forms::{Cursor, SyntaxFault};
@@ -110,16 +111,16 @@ impl Tables {
         ensures reads { Gives (λ x. (nodes_there self.new x.0, left x.1)) result (read inst_memory (left tokens.entry)) }
         ensures stays { IfOk result (λ x. (later : TableLists) → Grows self.new later → nodes_there later x.0 ≡ nodes_there self.new x.0) }
     {
-        Err(SyntaxFault::Memory)
+        memory_type(alloc, tokens, &mut self.types, &mut self.names)
     }
 
     /// How many bytes these indexes lead on, modulo 2^64, from a pointer that is stepped through as the type at a place; none where they step
     /// over a type without a size, or of 2^61 bytes or more, or into what has no parts.
-    pub fn offset(&self, id: TypeId, indexes: &[Index]) -> Result<Option<u64>, AllocError>
+    pub fn offset(&self, id: TypeId, indexes: &[Index]) -> Option<u64>
         requires { All IsIndex indexes.now }
-        ensures { IfOk result (λ o. o ≡ offset_of (definitions_of self.now) (nodes_there self.now id) (map index_pair indexes.now)) }
+        ensures { result ≡ offset_of (definitions_of self.now) (nodes_there self.now id) (map index_pair indexes.now) }
     {
-        Err(AllocError)
+        None
     }
 
     /// The parts, in the same memory.

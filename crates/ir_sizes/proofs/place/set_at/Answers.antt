@@ -11,7 +11,7 @@ found : (c : After-extent_of-extent) → slice_get c.args.types.now c.args.place
 found c = slice_get_read c.args.types.now (length c.args.types.now) c.args.place c.index-types-place.result refl c.requires.place c.index-types-place.is
 
 pub extent_of-extent-requires : goal.extent_of-extent-requires
-extent_of-extent-requires c = right_small c.args.types.now c.args.names.now c.args.extents.now c.requires.right
+extent_of-extent-requires c = right_small c.args.types.now c.args.names.now c.args.extents.now c.requires.right.each
 
 pub returns-then-not-is_sized-clause-settled : goal.returns-then-not-is_sized-clause-settled
 returns-then-not-is_sized-clause-settled c = λ _ t e parts.
@@ -25,4 +25,4 @@ returns-clause-right c =
     right_set c.args.types.now c.args.names.now c.args.extents.now c.args.place c.index-types-place.result c.extent_of-extent.result c.requires.right
     (omega (arith, c.requires.right.as_many))
     (found (goal.at.returns-clause-right c).After-extent_of-extent)
-    (c.extent_of-extent.ensures.right c.args.types.now c.requires.right)
+    (c.extent_of-extent.ensures.right c.args.types.now c.requires.right.each)

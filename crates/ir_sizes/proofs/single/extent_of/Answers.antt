@@ -10,7 +10,7 @@ returns-in-One-clause-right c = λ types h sized.
 
 pub returns-in-Array-clause-right : goal.returns-in-Array-clause-right
 returns-in-Array-clause-right c = λ types h sized.
-    let element = h.each c.in-Array.element (subst IsSized c.extent_of_part.ensures (c.of_array.ensures.sized.1 sized)) in
+    let element = h c.in-Array.element (subst IsSized c.extent_of_part.ensures (c.of_array.ensures.sized.1 sized)) in
     let is : IsExtentOf element.0 c.extent_of_part.result = rw c.extent_of_part.ensures element.2 in
     rw c.in-Array.is (_, array_laid c.in-Array.count c.in-Array.element element.0 element.1, c.of_array.ensures.right element.0 is)
 
@@ -20,7 +20,7 @@ returns-in-Struct-clause-right c = λ types h sized.
 
 pub returns-in-Some-clause-right : goal.returns-in-Some-clause-right
 returns-in-Some-clause-right c = λ types h sized.
-    let part = h.each c.in-Some.id (subst IsSized c.extent_of_part-in-Some.ensures sized) in
+    let part = h c.in-Some.id (subst IsSized c.extent_of_part-in-Some.ensures sized) in
     let defined = c.in-Some.ensures in
     rw (c.in-Named.is, c.extent_of_part-in-Some.ensures) (part.0, named_laid c.in-Named.name defined.0 c.in-Some.id part.0 defined.1 part.1, part.2)
 

@@ -10,11 +10,11 @@ right : (c : After-as_slice-2) → AreRight c.args.m.now.types c.as_slice.result
 right c = rw (c.as_slice.ensures, c.as_slice-2.ensures) (extents_right c.args.m.now.types c.args.m.now.type_names c.args.m.now.extents c.requires)
 
 pub extent_of-requires : goal.extent_of-requires
-extent_of-requires c = right_small c.args.m.now.types c.as_slice.result.now c.as_slice-2.result.now (right c)
+extent_of-requires c = right_small c.args.m.now.types c.as_slice.result.now c.as_slice-2.result.now (right c).each
 
 -- a size that is found is right
 found : (c : In-Size) → IsRight c.args.m.now.types c.args.m.now.type_names c.args.ty.now (Size c.in-Size.size c.in-Size.field-1)
-found c = rw c.as_slice.ensures at (c.in-Size.ensures.right c.args.m.now.types (right (goal.at.In-Size c).After-as_slice-2))
+found c = rw c.as_slice.ensures at (c.in-Size.ensures.right c.args.m.now.types (right (goal.at.In-Size c).After-as_slice-2).each)
 
 pub returns-in-Size : goal.returns-in-Size
 returns-in-Size c =

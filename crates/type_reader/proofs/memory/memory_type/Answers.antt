@@ -2,6 +2,7 @@ use Rattle.std.proofs.Common.{◌∙◌, sym, arith}
 use Rattle.ir_types.proofs.NameAt.{extends_trans}
 use Rattle.type_reader.specs.TypeTable.{names_of}
 use Rattle.type_reader.proofs.NodeLists.{nodes_stay}
+use Rattle.type_reader.proofs.LookUps.{looks_up_further}
 use Rattle.type_reader.proofs.Looking.{looked_whole}
 use Rattle.type_reader.proofs.memory.memory_type.Goals as goal
 use Rattle.type_reader.proofs.memory.memory_type.Goals.{in-None+in_ok-begin-in-None, in-Some+in-Some-innermost+in_ok-now-in-Some-innermost}
@@ -20,6 +21,7 @@ types-preserved c =
           rw (w.types-is, w.names-is, w.stack-is, w.now-is) (record {
             types_grow = extends_trans c.args.types.now.items c.types.types.items w.begin.new.types.items before.types_grow e.types_grow;
             names_grow = extends_trans c.args.names.now c.types.names w.begin.new.names before.names_grow e.names_grow;
+            looks_up = looks_up_further c.args.names.now c.types.names w.begin.new.names before.looks_up e.looks_up;
             holds = e.holds;
             looked = let k = rw w.in-None.is at before.looked in e.names c.args.names.now k;
             shorter = omega (arith, e.shorter, before.shorter);
@@ -31,6 +33,7 @@ types-preserved c =
           rw (w.types-is, w.names-is, w.stack-is, w.now-is) (record {
             types_grow = extends_trans c.args.types.now.items c.types.types.items w.go_on.new.types.items before.types_grow e.types_grow;
             names_grow = before.names_grow;
+            looks_up = before.looks_up;
             holds = e.holds (names_of c.types.names) h;
             looked = let k = rw w.in-Some.is at before.looked in e.names c.args.names.now c.types.names h k;
             shorter = omega (arith, e.shorter, before.shorter);
@@ -40,3 +43,6 @@ types-preserved c =
 
 pub returns-in-None-innermost-clause-names : goal.returns-in-None-innermost-clause-names
 returns-in-None-innermost-clause-names c = let k = rw c.in-Some.is at c.types.invariant.looked in looked_whole c.args.names.now c.types.names c.types.types.items c.types.stack c.in-Some.id (sym c.in-None-innermost.ensures) k
+
+pub returns-in_err-begin-in-None-clause-looks_up : goal.returns-in_err-begin-in-None-clause-looks_up
+returns-in_err-begin-in-None-clause-looks_up c = looks_up_further c.args.names.now c.types.names c.begin.new.names c.types.invariant.looks_up c.in_err-begin-in-None.ensures.looks_up

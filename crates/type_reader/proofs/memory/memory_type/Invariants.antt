@@ -3,7 +3,7 @@ use Rattle.forms.specs.View.{Extends}
 use Rattle.forms.specs.Reading.{read}
 use Rattle.forms.specs.Gives.{left}
 use Rattle.ir_types.specs.Grammar.{memory_type}
-use Rattle.type_reader.specs.TypeTable.{names_of}
+use Rattle.type_reader.specs.TypeTable.{names_of, LooksUpSome}
 use Rattle.type_reader.specs.Frames.{goes_on, Holds, Looked}
 use Rattle.type_reader.proofs.memory.memory_type.Given as goal
 
@@ -14,6 +14,7 @@ abbrev pub invariant-types : goal.invariant-types
 invariant-types l = record {
   types_grow : Extends l.fn.types.items l.types.items;
   names_grow : Extends l.fn.names l.names;
+  looks_up : LooksUpSome l.fn.names l.names;
   holds : Holds (names_of l.names) l.types.items l.stack l.done;
   looked : Looked l.fn.names l.names l.types.items l.stack l.done;
   shorter : length (left l.rest) ≤ length (left l.fn.tokens);
