@@ -1,5 +1,5 @@
 -- A text reads as at most one module, up to the positions of names and types.
-use Rattle.std.proofs.Common.{◌≡◌, ℕ, length, List, Some, None, sym, ap, ◌∙◌, subst}
+use Rattle.std.proofs.Common.{◌≡◌, ℕ, List, Some, None, sym, ap, ◌∙◌, subst}
 use Rattle.forms.specs.Form.{Lexeme}
 use Rattle.forms.specs.Lexical.{StopsAt, Lexes}
 use Rattle.forms.proofs.Exact.{some_is}
@@ -10,11 +10,8 @@ use Rattle.ir_types.specs.Grammar.{SpellsModule}
 use Rattle.ir_types.specs.Numbered.{numbered_module}
 use Rattle.ir_types.specs.Collected.{collected}
 use Rattle.ir_types.specs.Reads.{Reads, SameModule}
-use Rattle.ir_types.specs.Tree.{FunctionTree, WrittenFunction, Item, ModuleTree}
-
--- what is to come from ir_types/proofs/Skimming
-one_spelling : (tokens : List Lexeme) (w v : List (Item WrittenFunction)) → SpellsModule w tokens → SpellsModule v tokens → w ≡ v
-one_spelling tokens w v p q = ?
+use Rattle.ir_types.specs.Tree.{FunctionTree, WrittenFunction, Item}
+use Rattle.ir_types.proofs.Skimming.{one_spelling}
 
 same_numbered : (w v : List (Item WrittenFunction)) (a b : List (Item FunctionTree)) → w ≡ v → numbered_module w ≡ Some a → numbered_module v ≡ Some b → a ≡ b
 same_numbered w v a b e p q = some_is a b (sym p ∙ ap numbered_module e ∙ q)
@@ -24,7 +21,7 @@ pub one_numbering : (text : List ℕ) (m n : Module) (a : Reads text m) (b : Rea
 one_numbering text m n a b =
     let ts = lexes_unique text a.tokens b.tokens a.lexes b.lexes in
     let spelled : SpellsModule b.written a.tokens = subst (λ (us : List Lexeme). SpellsModule b.written us) (sym ts) b.spelled in
-    let written = one_spelling a.tokens a.written b.written a.spelled spelled in
+    let written = one_spelling a.written b.written a.tokens a.spelled spelled in
     same_numbered a.written b.written a.numbered b.numbered written a.numbers b.numbers
 
 pub one_reading : (text : List ℕ) (m n : Module) → Reads text m → Reads text n → SameModule m n
@@ -39,7 +36,7 @@ unspelled text tokens m x none r = none r.written (spelled_by text tokens m x r)
 
 pub unnumbered : (text : List ℕ) (tokens : List Lexeme) (written : List (Item WrittenFunction)) (m : Module) → Lexes text tokens → SpellsModule written tokens → numbered_module written ≡ None → Reads text m → ⊥
 unnumbered text tokens written m x s e r =
-    let w = one_spelling tokens written r.written s (spelled_by text tokens m x r) in
+    let w = one_spelling written r.written tokens s (spelled_by text tokens m x r) in
     let n = sym e ∙ ap numbered_module w ∙ r.numbers in
     cc
 

@@ -13,6 +13,7 @@ use std::alloc::{AllocError, Global};
 use std::marker::Model;
 
 /// The names of symbols and types that functions mention by their places, and of each type the first name in it that has too many bytes.
+/// (Names of types and types are held as contracts speak of them; what is looked up in them stands in `longs`.)
 #[derive(Drop, Debug)]
 pub struct LongNames<'m> {
     symbols: &'m [Name],

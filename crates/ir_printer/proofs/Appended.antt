@@ -2,39 +2,49 @@
 use Rattle.std.proofs.Common.{◌≡◌, ◌+◌, ◌<◌, ◌≤◌, ℕ, zero, suc, false, eqb, List, [], ◌∷◌, ◌++◌, length, get_or, drop, sym, ap, ◌∙◌, subst, arith, append_assoc, add-one, drop-cons}
 use Rattle.std.specs.Prelude.{codes, map, flat_map}
 use Rattle.std.specs.List.{AllByRecursion}
+use Rattle.std.specs.Option.{option_map}
 use Rattle.std.proofs.lemmas.List.{append-nil, drop_all}
 use Rattle.text_lex.specs.Layout.{Piece, text_of}
 use Rattle.text_lex.specs.KeptText.{kept_behind}
 use Rattle.text_lex.proofs.Layouts.{text_of-append}
 use Rattle.ir_types.specs.declared.name.Name.{Name}
+use Rattle.ir_types.specs.declared.call.Callee.{Callee}
+use Rattle.ir_types.specs.declared.inst.Inst.{Inst}
+use Rattle.ir_types.specs.declared.inst.Ty.{Ty}
+use Rattle.ir_types.specs.declared.module.Block.{Block}
 use Rattle.ir_types.specs.declared.module.Function.{Function}
-use Rattle.ir_types.specs.Denotes.{tree_of_function}
-use Rattle.ir_types.specs.Tree.{InstTree, BlockTree, FunctionTree}
-use Rattle.type_printer.specs.Pieces.{local_token, global_token, line_feed, separated, type_pieces}
-use Rattle.ir_printer.specs.Print.{opening_pieces, operands_pieces, ending_pieces, result_pieces, inst_pieces, block_pieces, kept_then_blank, blank_then_kept, params_pieces, function_word, head_pieces, body_pieces, function_pieces, parting, functions_behind, definition_pieces}
+use Rattle.ir_types.specs.Denotes.{Tables, name_in, operand_in, param_in}
+use Rattle.ir_types.specs.Tree.{OperandTree}
+use Rattle.type_printer.specs.Pieces.{local_token, global_token, line_feed, separated, with_commas, type_pieces}
+use Rattle.ir_printer.specs.Print.{signature_pieces, arguments_of, call_pieces, opening_pieces, operands_pieces, ending_pieces, result_pieces, inst_pieces, block_pieces, kept_then_blank, blank_then_kept, params_pieces, function_word, head_pieces, body_pieces, function_pieces, parting, functions_behind, definition_pieces}
 
-pub inst_text : (i : InstTree) → text_of (inst_pieces i)
-    ≡ text_of (result_pieces i.result) ++ (text_of (opening_pieces i.kind) ++ (text_of (operands_pieces i.kind i.ty i.args i.labels) ++ (text_of (ending_pieces i.kind i.ty i.labels) ++ (text_of (kept_behind [] i.kept) ++ 10 ∷ []))))
+pub inst_text : (t : Tables) (ns : List Name) (i : Inst) → text_of (inst_pieces t ns i)
+    ≡ text_of (result_pieces (option_map (name_in ns) i.result)) ++ (text_of (opening_pieces i.kind) ++ (text_of (operands_pieces t i.kind i.ty (map (operand_in t ns) i.args) (map (name_in ns) i.labels)) ++ (text_of (ending_pieces i.kind i.ty (map (name_in ns) i.labels)) ++ (text_of (kept_behind [] i.kept) ++ 10 ∷ []))))
 unfolding inst_pieces
-inst_text i = simp (text_of-append, append_assoc)
+inst_text t ns i = simp (text_of-append, append_assoc)
+
+pub call_text : (c : Callee) (t : Ty) (args : List OperandTree) → text_of (call_pieces c t args)
+    ≡ 32 ∷ (text_of (kept_then_blank c.before) ++ (text_of (type_pieces t) ++ (text_of (signature_pieces c.signature) ++ (32 ∷ ((global_token c.name).text ++ (40 ∷ (text_of (with_commas (arguments_of c.actuals args)) ++ 41 ∷ [])))))))
+unfolding call_pieces
+call_text c t args = simp (text_of-append, append_assoc)
 
 pub definition_text : (n : Name) (ps : List Piece) → text_of (definition_pieces n ps) ≡ ((local_token n).text ++ codes " = type ") ++ (text_of ps ++ 10 ∷ [])
 definition_text n ps = simp (text_of-append, append_assoc)
 
-pub head_text : (f : FunctionTree) → text_of (head_pieces f)
-    ≡ function_word f.body ++ (32 ∷ (text_of (kept_then_blank f.before) ++ (text_of (type_pieces f.ret) ++ (32 ∷ ((global_token f.name).text ++ (40 ∷ (text_of (params_pieces f) ++ (41 ∷ text_of (blank_then_kept f.after)))))))))
+pub head_text : (f : Function) → text_of (head_pieces f)
+    ≡ function_word f.body ++ (32 ∷ (text_of (kept_then_blank f.before) ++ (text_of (type_pieces f.ret) ++ (32 ∷ ((global_token f.name).text ++ (40 ∷ (text_of (params_pieces (map (param_in f.names) f.params) f.varargs) ++ (41 ∷ text_of (blank_then_kept f.after)))))))))
 unfolding head_pieces
 head_text f = simp (text_of-append, append_assoc)
 
-pub body_text : (bs : List BlockTree) → eqb (length bs) 0 ≡ false → text_of (body_pieces bs) ≡ codes " {\n" ++ (text_of (separated (line_feed ∷ []) (map block_pieces bs)) ++ codes "}\n")
-body_text [] e = absurd cc
-body_text (b ∷ bs) e = simp (text_of-append, append_assoc)
+pub body_text : (t : Tables) (ns : List Name) (bs : List Block) → eqb (length bs) 0 ≡ false → text_of (body_pieces t ns bs) ≡ codes " {\n" ++ (text_of (separated (line_feed ∷ []) (map (block_pieces t ns) bs)) ++ codes "}\n")
+body_text t ns [] e = absurd cc
+body_text t ns (b ∷ bs) e = simp (text_of-append, append_assoc)
 
 -- behind what parts them from a text stand the functions
-pub functions_text : (text out1 out2 : List ℕ) (fs : List Function) → 0 < length fs → out1 ≡ text ++ text_of (parting text) → out2 ≡ out1 ++ text_of (separated (line_feed ∷ []) (map function_pieces (map tree_of_function fs)))
-    → out2 ≡ text ++ text_of (functions_behind text (map function_pieces (map tree_of_function fs)))
-functions_text text out1 out2 [] lt e1 e2 = absurd (omega arith)
-functions_text text out1 out2 (f ∷ fs) lt e1 e2 = rw (e2, e1, text_of-append (parting text)) (append_assoc text (text_of (parting text)) _)
+pub functions_text : (t : Tables) (text out1 out2 : List ℕ) (fs : List Function) → 0 < length fs → out1 ≡ text ++ text_of (parting text) → out2 ≡ out1 ++ text_of (separated (line_feed ∷ []) (map (function_pieces t) fs))
+    → out2 ≡ text ++ text_of (functions_behind text (map (function_pieces t) fs))
+functions_text t text out1 out2 [] lt e1 e2 = absurd (omega arith)
+functions_text t text out1 out2 (f ∷ fs) lt e1 e2 = rw (e2, e1, text_of-append (parting text)) (append_assoc text (text_of (parting text)) _)
 
 -- ---- items one at a time
 

@@ -4,21 +4,26 @@ use Rattle.std.specs.Prelude.{map, codes}
 use Rattle.std.specs.List.{AllByRecursion}
 use Rattle.std.proofs.lemmas.List.{append-nil}
 use Rattle.forms.specs.declared.TokenKind.TheVariants as kinds
-use Rattle.forms.specs.Form.{Form, pair, many}
+use Rattle.forms.specs.Form.{Form, pair, many, by_word}
 use Rattle.forms.specs.Lexical.{kind_of, table}
 use Rattle.text_lex.specs.Layout.{Piece, lexeme, closed, open_}
 use Rattle.ir_types.specs.declared.name.Name.{Name}
 use Rattle.ir_types.specs.declared.inst.Ty.{Ty}
 use Rattle.ir_types.specs.declared.inst.Ty.TheVariants.{Int, Ptr, Vector, Void}
+use Rattle.ir_types.specs.declared.inst.Inst.{Inst}
+use Rattle.ir_types.specs.Denotes.{Tables, name_in, kind_in, inst_in, block_in}
+use Rattle.ir_types.specs.Offsets.{Definitions}
+use Rattle.ir_types.specs.Types.{AreTypes}
+use Rattle.text_lex.specs.KeptText.{kept_behind}
 use Rattle.ir_types.specs.Tree.{InstTree}
-use Rattle.ir_types.specs.Grammar.{bare_inst, with_kept, attached, label, operation, terminator, named_by, line, block}
+use Rattle.ir_types.specs.Grammar.{bare_inst, with_kept, attached, label, operation_words, operation_behind, operation, terminator, named_by, line, block}
 use Rattle.ir_shape.specs.Shape.{IsName, IsBody, IsInst, IsResult, IsTerminator, EndsOnce, IsBlock}
-use Rattle.type_printer.specs.Pieces.{indent, label_token, each_behind}
+use Rattle.type_printer.specs.Pieces.{line_feed, indent, label_token, each_behind}
 use Rattle.type_printer.proofs.Laid.{nothing_behind, token_laid}
 use Rattle.type_printer.proofs.Names.{local_again, local_kind, label_kind}
 use Rattle.type_printer.proofs.Spelled.{label_says}
 use Rattle.type_printer.proofs.Writes.{Writes, laid_writes, both, spaced, on_next_line, indented, with_feed, anywhere, left_writes, right_writes, mapped_writes, made_writes, ahead_writes, there_writes, more_writes, no_more, EachWrites}
-use Rattle.ir_printer.specs.Print.{kind_pieces, result_pieces, inst_pieces, block_pieces}
+use Rattle.ir_printer.specs.Print.{result_pieces, inst_pieces, block_pieces}
 use Rattle.ir_printer.proofs.KeptWritten.{behind_kept}
 use Rattle.ir_printer.proofs.Instructions.{operation_writes, terminator_writes}
 use Rattle.ir_printer.proofs.Numbering.{written_block}
@@ -50,48 +55,53 @@ stripped_body i h = record { args = h.args; labels = h.labels; count = h.count; 
 same_again : (i : InstTree) → i.wide ≡ false → named_by (with_kept (stripped i) i.kept) i.result ≡ i
 same_again i e = ap (λ (b : Bool). record i { wide = b }) (sym e)
 
-line_writes : (f : Form InstTree) (i : InstTree) → IsInst i → Writes closed f (stripped i) (kind_pieces i.kind i.ty i.args i.labels) → Writes closed (line (attached f)) i (inst_pieces i)
-unfolding inst_pieces
-line_writes f i h w =
-    subst (λ (j : InstTree). Writes closed (line (attached f)) j (inst_pieces i)) (same_again i h.body.narrow)
+line_writes : (f : Form InstTree) (i : InstTree) (ps : List Piece) → IsInst i → Writes closed f (stripped i) ps → Writes closed (line (attached f)) i (result_pieces i.result ++ (ps ++ (kept_behind [] i.kept ++ (line_feed ∷ []))))
+line_writes f i ps h w =
+    subst (λ (j : InstTree). Writes closed (line (attached f)) j (result_pieces i.result ++ (ps ++ (kept_behind [] i.kept ++ (line_feed ∷ []))))) (same_again i h.body.narrow)
     (with_result (attached f) (with_kept (stripped i) i.kept) i.ty i.result _ h.result (mapped_writes (stripped i, i.kept) _ refl (both w (with_feed (behind_kept h.attachments)))))
 
-operation_line : (i : InstTree) → IsInst i → ¬ IsTerminator i.kind → Writes closed (line operation) i (inst_pieces i)
-unfolding operation
-operation_line i h g = line_writes _ i h (operation_writes i.kind i.ty i.args i.labels (stripped_body i h.body) g)
+-- the form of an instruction that goes on, or that ends a block
+operation_line : (defs : Definitions) (t : Tables) (ns : List Name) (i : Inst) → AreTypes t.type_names 0 t.types → IsInst (inst_in t ns i) → ¬ IsTerminator (kind_in t i.kind) → Writes closed (line (operation defs)) (inst_in t ns i) (inst_pieces t ns i)
+unfolding operation inst_pieces
+operation_line defs t ns i listed h g =
+    let j = inst_in t ns i in
+    line_writes (by_word operation_words (operation_behind defs)) j _ h (operation_writes defs t i.kind i.ty j.args j.labels listed (stripped_body j h.body) g)
 
-terminator_line : (i : InstTree) → IsInst i → IsTerminator i.kind → Writes closed (line terminator) i (inst_pieces i)
-unfolding terminator
-terminator_line i h g = line_writes _ i h (terminator_writes i.kind i.ty i.args i.labels (stripped_body i h.body) g)
+terminator_line : (defs : Definitions) (t : Tables) (ns : List Name) (i : Inst) → IsInst (inst_in t ns i) → IsTerminator (kind_in t i.kind) → Writes closed (line (terminator defs)) (inst_in t ns i) (inst_pieces t ns i)
+unfolding terminator inst_pieces
+terminator_line defs t ns i h g =
+    let j = inst_in t ns i in
+    line_writes _ j _ h (terminator_writes defs t i.kind i.ty j.args j.labels (stripped_body j h.body) g)
 
 -- ---- blocks
-
--- the lines of a block, and the last of them
-record Lines (insts : List InstTree) : Type 0 where
-  front : List InstTree
-  last : InstTree
-  parts : front ++ last ∷ [] ≡ insts
-  writes : Writes open_ (pair (many (line operation)) (line terminator)) (front, last) (each_behind (indent ∷ []) (map inst_pieces insts))
-
-lines_write : (insts : List InstTree) → AllByRecursion IsInst insts → EndsOnce (map (λ i. i.kind) insts) → Lines insts
-lines_write [] h e = absurd e
-lines_write (i ∷ []) h e = record { front = []; last = i; parts = refl; writes = rw (append-nil (inst_pieces i)) (indented (no_more (terminator_line i h.0 e))) }
-lines_write (i ∷ j ∷ insts) h e =
-    let rest = lines_write (j ∷ insts) h.1 e.1 in
-    record {
-      front = i ∷ rest.front;
-      last = rest.last;
-      parts = ap (λ (is : List InstTree). i ∷ is) rest.parts;
-      writes = indented (more_writes (operation_line i h.0 e.0) rest.writes);
-    }
 
 label_writes : (n : Name) → IsName n → Writes closed label n (lexeme (label_token n) ∷ [])
 label_writes n h = laid_writes (label_says n h) (token_laid (label_token n) (label_kind n h) nothing_behind)
 
-pub block_writes : EachWrites block written_block block_pieces IsBlock
-unfolding block block_pieces
-block_writes = record {
-  one = λ b h.
-      let lines = lines_write b.insts h.insts h.ending in
-      mapped_writes (Some b.name, (lines.front, lines.last)) _ (rw (lines.parts) refl) (both (there_writes (label_writes b.name h.name)) (on_next_line (anywhere lines.writes)));
-}
+module _ (defs : Definitions) (t : Tables) (listed : AreTypes t.type_names 0 t.types) (ns : List Name) where
+  -- the lines of a block, and the last of them
+  record Lines (insts : List Inst) : Type 0 where
+    front : List InstTree
+    last : InstTree
+    parts : front ++ last ∷ [] ≡ map (inst_in t ns) insts
+    writes : Writes open_ (pair (many (line (operation defs))) (line (terminator defs))) (front, last) (each_behind (indent ∷ []) (map (inst_pieces t ns) insts))
+
+  lines_write : (insts : List Inst) → AllByRecursion IsInst (map (inst_in t ns) insts) → EndsOnce (map (λ i. i.kind) (map (inst_in t ns) insts)) → Lines insts
+  lines_write [] h e = absurd e
+  lines_write (i ∷ []) h e = record { front = []; last = inst_in t ns i; parts = refl; writes = rw (append-nil (inst_pieces t ns i)) (indented (no_more (terminator_line defs t ns i h.0 e))) }
+  lines_write (i ∷ j ∷ insts) h e =
+      let rest = lines_write (j ∷ insts) h.1 e.1 in
+      record {
+        front = inst_in t ns i ∷ rest.front;
+        last = rest.last;
+        parts = ap (λ (is : List InstTree). inst_in t ns i ∷ is) rest.parts;
+        writes = indented (more_writes (operation_line defs t ns i listed h.0 e.0) rest.writes);
+      }
+
+  pub block_writes : EachWrites (block defs) (λ b. written_block (block_in t ns b)) (block_pieces t ns) (λ b. IsBlock (block_in t ns b))
+  unfolding block block_pieces
+  block_writes = record {
+    one = λ b h.
+        let lines = lines_write b.insts h.insts h.ending in
+        mapped_writes (Some (name_in ns b.name), (lines.front, lines.last)) _ (rw (lines.parts) refl) (both (there_writes (label_writes (name_in ns b.name) h.name)) (on_next_line (anywhere lines.writes)));
+  }

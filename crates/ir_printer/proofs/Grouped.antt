@@ -10,8 +10,8 @@ use Rattle.std.proofs.lemmas.List.Folds.{flat_map-map}
 use Rattle.forms.proofs.Begins.{test}
 use Rattle.text_lex.proofs.Lexed.{each_split, each_append}
 use Rattle.ir_types.specs.declared.name.Name.{Name}
-use Rattle.ir_types.specs.Collected.{as_head, as_comdat, as_type, as_variable, as_function, as_attributes, as_metadata, all_used, unknown, missing_name, symbol_of, symbols_from, with_missing, collected}
-use Rattle.ir_types.specs.Tree.{KeptTexts, FunctionTree, NamedTree, defined, opaque, missing, TypeNameTree, SymbolKindTree, variable, function, missing_symbol, SymbolTree, ModuleTree, Item, head_line, comdat_line, type_item, variable_item, function_item, attribute_line, metadata_line}
+use Rattle.ir_types.specs.Collected.{as_head, as_comdat, as_type, as_variable, as_function, as_attributes, as_metadata, symbol_of, symbols_from, collected}
+use Rattle.ir_types.specs.Tree.{KeptTexts, FunctionTree, NamedTree, defined, opaque, TypeNameTree, SymbolKindTree, variable, function, SymbolTree, ModuleTree, Item, head_line, comdat_line, type_item, variable_item, function_item, attribute_line, metadata_line}
 use Rattle.ir_shape.specs.Shape.{IsFunction, IsItem, IsModule}
 use Rattle.ir_printer.specs.Print.{is_comdat}
 use Rattle.ir_printer.proofs.Lines.{head_no_comdat, comdat_is, begins_group, group_is, metadata_is}
@@ -27,7 +27,6 @@ comdat_items xs = cond (is_comdat xs) (comdat_line xs ∷ []) []
 abbrev pub named_items : Name → NamedTree → List (Item FunctionTree)
 named_items n (defined nodes) = type_item n (Some nodes) ∷ []
 named_items n opaque = type_item n None ∷ []
-named_items n missing = []
 
 abbrev pub type_items : TypeNameTree → List (Item FunctionTree)
 type_items t = named_items t.name t.ty
@@ -35,7 +34,6 @@ type_items t = named_items t.name t.ty
 abbrev pub kind_items : SymbolTree → SymbolKindTree → List (Item FunctionTree)
 kind_items s (variable nodes writable) = variable_item (record { name = s.name; before = s.before; writable = writable; ty = nodes; after = s.after }) ∷ []
 kind_items s (function i) = []
-kind_items s missing_symbol = []
 
 abbrev pub symbol_items : SymbolTree → List (Item FunctionTree)
 symbol_items s = kind_items s s.kind
@@ -168,13 +166,18 @@ collected_grouped items = rw (
 -- ---- the printed items are these groups
 
 -- what is printed for what there may be
-abbrev for_one : {A : Type 0} → (A → List (Item FunctionTree)) → Option A → List (Item FunctionTree)
+abbrev pub for_one : {A : Type 0} → (A → List (Item FunctionTree)) → Option A → List (Item FunctionTree)
 for_one r None = []
 for_one r (Some a) = r a
 
 for_cons : {A : Type 0} (r : A → List (Item FunctionTree)) (o : Option A) (xs : List A) → flat_map r (cons_option o xs) ≡ for_one r o ++ flat_map r xs
 for_cons r None xs = refl
 for_cons r (Some a) xs = refl
+
+-- of what some elements give
+pub for_each : {A B : Type 0} (r : B → List (Item FunctionTree)) (f : A → Option B) (xs : List A) → flat_map r (filter_map f xs) ≡ flat_map (λ x. for_one r (f x)) xs
+for_each r f [] = refl
+for_each r f (x ∷ xs) = for_cons r (f x) (filter_map f xs) ∙ ap (λ (is : List (Item FunctionTree)). for_one r (f x) ++ is) (for_each r f xs)
 
 -- of each item of the group it is that item
 group_is_printed : {A : Type 0} (f : Item FunctionTree → Option A) (r : A → List (Item FunctionTree)) (k : ℕ) → ((i : Item FunctionTree) → IsItem i → for_one r (f i) ≡ cond (eqb (group i) k) (i ∷ []) []) → (items : List (Item FunctionTree)) → AllByRecursion IsItem items → flat_map r (filter_map f items) ≡ of_group k items
@@ -225,10 +228,6 @@ metadata_fit : (i : Item FunctionTree) → IsItem i → for_one tail_items (as_m
 metadata_fit (metadata_line xs) h = rw (metadata_is xs h) refl
 metadata_fit i h = refl
 
-missing_not_printed : (names : List Name) → flat_map type_items (map missing_name names) ≡ []
-missing_not_printed [] = refl
-missing_not_printed (n ∷ names) = missing_not_printed names
-
 functions_no_symbols : (i : ℕ) (fs : List FunctionTree) → flat_map symbol_items (symbols_from i fs) ≡ []
 functions_no_symbols i [] = refl
 functions_no_symbols i (f ∷ fs) = functions_no_symbols (suc i) fs
@@ -238,8 +237,7 @@ unfolding printed_items grouped
 printed_are_groups items h =
     let heads : flat_map head_items (filter_map as_head items ++ filter_map as_comdat items) ≡ of_group 0 items =
     flat_map-append head_items (filter_map as_head items) _ ∙ rw (group_is_printed as_head head_items 0 heads_fit items h, none_printed as_comdat head_items heads_of_comdats items h) (append-nil _) in
-    let types : flat_map type_items (with_missing (filter_map as_type items) (filter_map as_variable items)) ≡ of_group 1 items =
-    flat_map-append type_items (filter_map as_type items) _ ∙ rw (group_is_printed as_type type_items 1 types_fit items h, missing_not_printed (unknown (map (λ t. t.name) (filter_map as_type items)) (all_used (filter_map as_type items) (filter_map as_variable items)))) (append-nil _) in
+    let types : flat_map type_items (filter_map as_type items) ≡ of_group 1 items = group_is_printed as_type type_items 1 types_fit items h in
     let comdats : flat_map comdat_items (filter_map as_head items ++ filter_map as_comdat items) ≡ of_group 2 items =
     flat_map-append comdat_items (filter_map as_head items) _ ∙ rw (none_printed as_head comdat_items comdats_of_heads items h) (group_is_printed as_comdat comdat_items 2 comdats_fit items h) in
     let variables : flat_map symbol_items (map symbol_of (filter_map as_variable items) ++ symbols_from 0 (filter_map as_function items)) ≡ of_group 3 items =

@@ -1,21 +1,21 @@
 -- The pieces that kept texts are printed as write what is kept.
-use Rattle.std.proofs.Common.{◌≡◌, List, [], ◌∷◌, ◌++◌, refl, sym, ◌∙◌, subst, append_assoc, inl, inr}
+use Rattle.std.proofs.Common.{◌≡◌, List, [], ◌∷◌, ◌++◌, refl, sym, ap, ◌∙◌, subst, append_assoc, inl, inr}
 use Rattle.std.specs.Prelude.{map}
 use Rattle.std.specs.List.{AllByRecursion}
 use Rattle.std.proofs.lemmas.List.{append-nil}
-use Rattle.forms.specs.Form.{Lexeme, Form}
+use Rattle.forms.specs.Form.{Lexeme, Form, pair}
 use Rattle.forms.specs.Lexical.{table}
 use Rattle.forms.proofs.Begins.{test}
 use Rattle.text_lex.specs.KeptText.{token_of, IsToken, touches, kept_behind, kept_pieces}
-use Rattle.text_lex.specs.Layout.{Piece, AreTokens, tokens_of, open_}
+use Rattle.text_lex.specs.Layout.{Piece, AreTokens, tokens_of, closed, open_}
 use Rattle.text_lex.proofs.KeptTexts.{kept_tokens, kept_are, kept_joins}
 use Rattle.text_lex.proofs.Layouts.{tokens_of-append}
 use Rattle.ir_types.specs.Tree.{KeptTexts}
 use Rattle.ir_shape.specs.Shape.{IsKept}
 use Rattle.type_printer.specs.Pieces.{blank}
 use Rattle.type_printer.proofs.Laid.{IsLaid, IsBehind, nothing_behind, blank_laid, laid-append}
-use Rattle.type_printer.proofs.Says.{Says}
-use Rattle.type_printer.proofs.Writes.{Writes}
+use Rattle.type_printer.proofs.Says.{Says, pair_says}
+use Rattle.type_printer.proofs.Writes.{Writes, laid_writes, is_laid}
 use Rattle.ir_printer.specs.Print.{kept_then_blank, blank_then_kept}
 
 pub kept_says : {f : Form KeptTexts} {xs : KeptTexts} → IsKept f xs → Says f xs (map token_of xs)
@@ -68,3 +68,9 @@ spaced_kept {xs = xs} h = written_behind (blank_then_kept xs) h (blank_then_toke
 -- behind other tokens
 pub behind_kept : {f : Form KeptTexts} {xs : KeptTexts} → IsKept f xs → Writes open_ f xs (kept_behind [] xs)
 behind_kept {xs = xs} h = written_behind (kept_behind [] xs) h (behind_tokens xs) (behind_laid xs h.tokens)
+
+-- before others, with a space between them
+pub kept_before : {A : Type 0} {f : Form KeptTexts} {g : Form A} {xs : KeptTexts} {a : A} {ps : List Piece} → IsKept f xs → Writes closed g a ps → Writes closed (pair f g) (xs, a) (kept_then_blank xs ++ ps)
+kept_before {f = f} {g = g} {xs = xs} {a = a} {ps = ps} h w =
+    let tokens : tokens_of (kept_then_blank xs ++ ps) ≡ map token_of xs ++ tokens_of ps = tokens_of-append (kept_then_blank xs) ps ∙ ap (λ (ts : List Lexeme). ts ++ tokens_of ps) (then_blank_tokens xs) in
+    laid_writes (subst (λ (ts : List Lexeme). Says (pair f g) (xs, a) ts) (sym tokens) (pair_says (map token_of xs) (tokens_of ps) (kept_says h) w.says)) (then_blank_laid xs ps h.tokens (is_laid w))

@@ -6,9 +6,13 @@ pub mod Lines
 pub mod Grouped
 pub mod Numbering
 pub mod Operands
+pub mod Words
+pub mod Symbols
 pub mod Values
 pub mod KeptWritten
 pub mod Parts
+pub mod Dotted
+pub mod Calls
 pub mod Instructions
 pub mod Blocks
 pub mod SpelledFunctions

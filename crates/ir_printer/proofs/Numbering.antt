@@ -50,7 +50,7 @@ same_result next (Vector m w) (Some n) h = (next_after next n, refl)
 same_inst : (next : ℕ) (i : InstTree) → IsInst i → (after : ℕ) × (numbered_inst next i ≡ Some (i, after))
 same_inst next i h = let r = same_result next i.ty i.result h.result in (r.0, rw r.1 refl)
 
-map_same : {A : Type 0} (xs : List A) → map (λ x. x) xs ≡ xs
+pub map_same : {A : Type 0} (xs : List A) → map (λ x. x) xs ≡ xs
 map_same [] = refl
 map_same (x ∷ xs) = ap (λ (l : List _). x ∷ l) (map_same xs)
 

@@ -1,13 +1,15 @@
 -- What is known of operands with their types.
-use Rattle.std.proofs.Common.{◌≡◌, List, [], ◌∷◌, length, sym, ◌∙◌}
+use Rattle.std.proofs.Common.{◌≡◌, ℕ, List, [], ◌∷◌, length, sym, ◌∙◌}
 use Rattle.std.specs.Prelude.{map, replicate}
 use Rattle.std.specs.List.{AllByRecursion, AllZip}
 use Rattle.std.proofs.lemmas.List.{length-map}
 use Rattle.std.proofs.lemmas.Slice.Zip.{AllZip-long}
 use Rattle.ir_types.specs.declared.name.Name.{Name}
+use Rattle.ir_types.specs.declared.call.Actual.{Actual}
 use Rattle.ir_types.specs.declared.inst.Ty.{Ty}
+use Rattle.ir_types.specs.declared.inst.Ty.TheVariants.{Int}
 use Rattle.ir_types.specs.declared.inst.Operand.{Operand}
-use Rattle.ir_types.specs.Denotes.{operand_in}
+use Rattle.ir_types.specs.Denotes.{Tables, operand_in}
 use Rattle.ir_types.specs.Tree.{OperandTree}
 use Rattle.ir_shape.specs.Shape.{IsType, IsTyped}
 
@@ -19,8 +21,15 @@ first_type t ts [] h = absurd h
 first_type t ts (a ∷ args) h = h.0.0
 
 -- there are as many types as operands
-pub as_many_types : (names : List Name) (ts : List Ty) (args : List Operand) → AllZip IsTyped ts (map (operand_in names) args) → length ts ≡ length args
-as_many_types names ts args h = length_zipped IsTyped ts (map (operand_in names) args) h ∙ length-map args (operand_in names)
+pub as_many_types : (tables : Tables) (names : List Name) (ts : List Ty) (args : List Operand) → AllZip IsTyped ts (map (operand_in tables names) args) → length ts ≡ length args
+as_many_types tables names ts args h = length_zipped IsTyped ts (map (operand_in tables names) args) h ∙ length-map args (operand_in tables names)
+
+-- and as many of what is written beside an argument, or of widths, as operands
+pub as_many_actuals : (tables : Tables) (names : List Name) (actuals : List Actual) (args : List Operand) → AllZip IsTyped (map (λ a. a.ty) actuals) (map (operand_in tables names) args) → length actuals ≡ length args
+as_many_actuals tables names actuals args h = sym (length-map actuals (λ (a : Actual). a.ty)) ∙ as_many_types tables names (map (λ a. a.ty) actuals) args h
+
+pub as_many_widths : (tables : Tables) (names : List Name) (widths : List ℕ) (args : List Operand) → AllZip IsTyped (map Int widths) (map (operand_in tables names) args) → length widths ≡ length args
+as_many_widths tables names widths args h = sym (length-map widths Int) ∙ as_many_types tables names (map Int widths) args h
 
 -- two of one type
 pub two_alike : (t : Ty) (args : List OperandTree) → AllZip IsTyped (t ∷ t ∷ []) args → AllByRecursion (IsTyped t) args

@@ -5,25 +5,32 @@ use Rattle.std.specs.List.{AllByRecursion}
 use Rattle.std.proofs.Math.Nat.{mod-eq_of_lt}
 use Rattle.forms.specs.declared.TokenKind.TheVariants as kinds
 use Rattle.forms.specs.Lexical.{kind_of, table}
-use Rattle.text_lex.specs.Layout.{closed, open_}
+use Rattle.forms.specs.Form.{Form}
+use Rattle.text_lex.specs.Layout.{Piece, closed, open_}
+use Rattle.type_printer.specs.Pieces.{word}
 use Rattle.text_lex.specs.Names.{is_digits}
 use Rattle.text_lex.proofs.Decimals.{decimal_digits, number_of-decimal}
 use Rattle.text_lex.proofs.Printed.{number_digits}
 use Rattle.ir_types.specs.declared.name.Name.{Name}
 use Rattle.ir_types.specs.declared.inst.Ty.{Ty}
-use Rattle.ir_types.specs.declared.opcode.FlagOrder.TheVariants.{Usual, Reversed}
+use Rattle.ir_types.specs.Offsets.{Definitions}
 use Rattle.ir_types.specs.Written.{number_of}
 use Rattle.ir_types.specs.Tree.{OperandTree}
-use Rattle.ir_types.specs.Grammar.{typed_pair, to_type, target, alignment_of, alignment, one_flag, two_flags}
+use Rattle.ir_types.specs.Grammar.{typed_pair, to_type, target, alignment_of, alignment, one_flag, two_flags, three_flags, flag_then}
 use Rattle.ir_shape.specs.Shape.{IsName, IsType, IsBelow}
 use Rattle.type_printer.proofs.Numbers.{no_sign}
-use Rattle.type_printer.proofs.Writes.{Writes, both, spaced, ended, mapped_writes, made_writes, exactly_writes, one_writes, behind_writes, by_word_writes, none_writes, there_writes, after_comma, marked_comma}
-use Rattle.ir_printer.specs.Print.{flag_pieces, wrap_pieces, typed_pieces, to_pieces, align_pieces, target_pieces}
-use Rattle.ir_printer.proofs.Values.{local_writes, type_writes, IsWritten}
+use Rattle.type_printer.proofs.Writes.{Writes, both, spaced, ended, mapped_writes, made_writes, exactly_writes, one_writes, behind_writes, left_writes, right_writes, none_writes, there_writes, after_comma, marked_comma}
+use Rattle.ir_printer.specs.Print.{flag_pieces, wrap_pieces, offset_flags, typed_pieces, to_pieces, align_pieces, target_pieces}
+use Rattle.ir_printer.proofs.Words.{local_writes, type_writes}
+use Rattle.ir_printer.proofs.Values.{IsWritten}
 
 part_kinds : (kind_of (codes "nuw") ≡ Some kinds.Word) × (kind_of (codes "nsw") ≡ Some kinds.Word) × (kind_of (codes "to") ≡ Some kinds.Word) × (kind_of (codes "label") ≡ Some kinds.Word) × (kind_of (codes "align") ≡ Some kinds.Word)
 unfolding table
 part_kinds = (refl, refl, refl, refl, refl)
+
+offset_kinds : (kind_of (codes "inbounds") ≡ Some kinds.Word) × (kind_of (codes "nusw") ≡ Some kinds.Word)
+unfolding table
+offset_kinds = (refl, refl)
 
 -- ---- flags
 
@@ -31,14 +38,34 @@ pub flag_writes : (w : List ℕ) (b : Bool) → kind_of w ≡ Some kinds.Word �
 flag_writes w false k = mapped_writes None false refl none_writes
 flag_writes w true k = mapped_writes (Some tt) true refl (there_writes (spaced (exactly_writes w k)))
 
+-- one flag, and perhaps others behind it
+then_writes : {A B : Type 0} {h : A → B} {w : List ℕ} {f : Form A} {a : A} {ps : List Piece} (b : B) → kind_of w ≡ Some kinds.Word → h a ≡ b → Writes open_ f a ps → Writes closed (flag_then h w f) b (word w ∷ ps)
+then_writes {w = w} {a = a} b k e p = mapped_writes a b e (behind_writes w k p)
+
+pub two_write : (first second : List ℕ) (b c : Bool) → kind_of first ≡ Some kinds.Word → kind_of second ≡ Some kinds.Word → Writes open_ (two_flags first second) (b, c) (flag_pieces b first ++ flag_pieces c second)
+two_write first second false false k l = mapped_writes None _ refl none_writes
+two_write first second false true k l = mapped_writes (Some (false, true)) _ refl (there_writes (spaced (right_writes (then_writes _ l refl (flag_writes first false k)))))
+two_write first second true c k l = mapped_writes (Some (true, c)) _ refl (there_writes (spaced (left_writes (then_writes _ k refl (flag_writes second c l)))))
+
 pub wrap_writes : (nuw nsw : Bool) → Writes open_ (two_flags (codes "nuw") (codes "nsw")) (nuw, nsw) (wrap_pieces nuw nsw)
-wrap_writes false false = mapped_writes None _ refl none_writes
-wrap_writes false true = mapped_writes (Some (false, true)) _ refl (there_writes (spaced (by_word_writes (codes "nsw") Reversed part_kinds.1 refl (mapped_writes false _ refl (flag_writes (codes "nuw") false part_kinds.0)))))
-wrap_writes true b = mapped_writes (Some (true, b)) _ refl (there_writes (spaced (by_word_writes (codes "nuw") Usual part_kinds.0 refl (mapped_writes b _ refl (flag_writes (codes "nsw") b part_kinds.1)))))
+wrap_writes nuw nsw = two_write (codes "nuw") (codes "nsw") nuw nsw part_kinds.0 part_kinds.1
+
+-- `nusw` stands before `nuw`
+reversed_write : (nuw nusw : Bool) → Writes open_ (two_flags (codes "nuw") (codes "nusw")) (nuw, nusw) (flag_pieces nusw (codes "nusw") ++ flag_pieces nuw (codes "nuw"))
+reversed_write false false = mapped_writes None _ refl none_writes
+reversed_write true false = mapped_writes (Some (true, false)) _ refl (there_writes (spaced (left_writes (then_writes _ part_kinds.0 refl (flag_writes (codes "nusw") false offset_kinds.1)))))
+reversed_write nuw true = mapped_writes (Some (nuw, true)) _ refl (there_writes (spaced (right_writes (then_writes _ offset_kinds.1 refl (flag_writes (codes "nuw") nuw part_kinds.0)))))
+
+pub offset_flags_write : (inbounds nuw nusw : Bool) → Writes open_ three_flags (inbounds, (nuw, nusw)) (offset_flags inbounds nuw nusw)
+unfolding three_flags
+offset_flags_write true nuw nusw = mapped_writes (Some (true, (nuw, nusw))) _ refl (there_writes (spaced (left_writes (then_writes _ offset_kinds.0 refl (reversed_write nuw nusw)))))
+offset_flags_write false nuw true = mapped_writes (Some (false, (nuw, true))) _ refl (there_writes (spaced (right_writes (right_writes (then_writes _ offset_kinds.1 refl (two_write (codes "inbounds") (codes "nuw") false nuw offset_kinds.0 part_kinds.0))))))
+offset_flags_write false true false = mapped_writes (Some (false, (true, false))) _ refl (there_writes (spaced (right_writes (left_writes (then_writes _ part_kinds.0 refl (two_write (codes "inbounds") (codes "nusw") false false offset_kinds.0 offset_kinds.1))))))
+offset_flags_write false false false = mapped_writes None _ refl none_writes
 
 -- ---- operands
 
-pub pair_writes : {t : Ty} {a b : OperandTree} → IsWritten t a → IsWritten t b → Writes open_ typed_pair (t, (a, b)) (typed_pieces t (a ∷ b ∷ []))
+pub pair_writes : {defs : Definitions} {t : Ty} {a b : OperandTree} → IsWritten defs t a → IsWritten defs t b → Writes open_ (typed_pair defs) (t, (a, b)) (typed_pieces t (a ∷ b ∷ []))
 unfolding typed_pair
 pair_writes {t = t} {a = a} {b = b} x y =
     made_writes (t, (x.as_value, y.as_value)) (t, (a, b)) (rw (x.is, y.is) refl) (spaced (both (type_writes t x.typed) (spaced (both x.writes (after_comma (ended y.writes))))))

@@ -1,11 +1,14 @@
 -- What is printed of a module that some text reads as reads as that module.
-use Rattle.std.proofs.Common.{Some, refl, ap}
+use Rattle.std.proofs.Common.{List, sym}
 use Rattle.std.specs.Prelude.{map}
 use Rattle.std.specs.List.{AllByRecursion}
 use Rattle.text_lex.specs.Layout.{text_of, tokens_of}
 use Rattle.text_lex.proofs.Layouts.{pieces_lexed}
 use Rattle.ir_types.specs.declared.module.Module.{Module}
-use Rattle.ir_types.specs.Denotes.{tree_of, tree_of_function}
+use Rattle.ir_types.specs.Denotes.{type_names_of, function_in, tables_of, tree_of}
+use Rattle.ir_types.specs.Types.{AreTypes}
+use Rattle.ir_types.specs.Offsets.{definitions_in}
+use Rattle.ir_types.specs.Tree.{WrittenFunction, Item}
 use Rattle.ir_types.specs.Grammar.{SpellsModule, module_form}
 use Rattle.ir_types.specs.Reads.{Reads, IsReadable}
 use Rattle.ir_shape.specs.Shape.{IsFunction, IsModule}
@@ -15,7 +18,11 @@ use Rattle.ir_printer.proofs.Grouped.{printed_items, printed_known, printed_coll
 use Rattle.ir_printer.proofs.Numbering.{written_item, numbered_again}
 use Rattle.ir_printer.proofs.Printing.{IsPrinted, module_printed}
 
-spells_module : (m : Module) → IsPrinted m → SpellsModule (map written_item (printed_items (tree_of m))) (tokens_of (module_pieces m))
+-- the items as they are written
+abbrev items_of : Module → List (Item WrittenFunction)
+items_of m = map written_item (printed_items (tree_of m))
+
+spells_module : (m : Module) → IsPrinted (definitions_in (items_of m)) m → SpellsModule (items_of m) (tokens_of (module_pieces m))
 unfolding module_form
 spells_module m p = p.says.spells
 
@@ -23,19 +30,22 @@ pub printed_reads : (m : Module) → IsReadable m → Reads (text_of (module_pie
 printed_reads m (text, r) =
     let shape : IsModule (tree_of m) = readable_known m (text, r) in
     let known = printed_known (tree_of m) shape in
-    let printed = module_printed m r.denotes.types known in
+    let printed = module_printed (definitions_in (items_of m)) m r.denotes.types known in
+    let d = r.denotes in
     record {
       tokens = tokens_of (module_pieces m);
-      written = map written_item (printed_items (tree_of m));
+      written = items_of m;
       numbered = printed_items (tree_of m);
-      resolved = tree_of m;
       lexes = pieces_lexed (module_pieces m) printed.laid.tokens printed.laid.joined;
       spelled = spells_module m printed;
       numbers = numbered_again (printed_items (tree_of m)) known;
-      resolves = ap Some (printed_collected (tree_of m) shape);
-      denotes = record { says = refl; tables = r.denotes.tables; types = r.denotes.types; extents = r.denotes.extents };
+      denotes = record { says = sym (printed_collected (tree_of m) shape); tables = d.tables; types = d.types; extents = d.extents; missing_types = d.missing_types; missing_symbols = d.missing_symbols };
     }
 
 -- Each of its functions has the shape of one.
-pub readable_functions : (m : Module) → IsReadable m → AllByRecursion IsFunction (map tree_of_function m.functions)
+pub readable_functions : (m : Module) → IsReadable m → AllByRecursion IsFunction (map (function_in (tables_of m)) m.functions)
 readable_functions m r = functions_known (tree_of m) (readable_known m r)
+
+-- Each of its types stands behind its parts.
+pub readable_types : (m : Module) → IsReadable m → AreTypes (type_names_of m) 0 m.types
+readable_types m r = r.1.denotes.types

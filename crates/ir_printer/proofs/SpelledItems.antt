@@ -13,6 +13,7 @@ use Rattle.ir_types.specs.declared.opcode.ItemWord.TheVariants as items
 use Rattle.ir_types.specs.declared.module.Symbol.{Symbol}
 use Rattle.ir_types.specs.declared.module.Module.{Module}
 use Rattle.ir_types.specs.declared.memory_type.TypeId.{TypeId}
+use Rattle.ir_types.specs.Offsets.{Definitions}
 use Rattle.ir_types.specs.TypeNodes.{TypeNode}
 use Rattle.ir_types.specs.Tree.{KeptTexts, head_line, comdat_line, type_item, variable_item, attribute_line, metadata_line}
 use Rattle.ir_types.specs.Grammar.{kept, comdat, metadata, type_definition, variable_word, variable_definition, behind_type, item_words, item}
@@ -31,44 +32,44 @@ use Rattle.ir_printer.proofs.KeptWritten.{kept_says, then_blank_tokens, behind_t
 whole_tokens : (xs : KeptTexts) → tokens_of (whole_line xs) ≡ map token_of xs
 whole_tokens xs = tokens_of-append (line_pieces xs) _ ∙ append-nil _ ∙ line_tokens xs
 
-pub head_says : (m : Form (List TypeNode)) (xs : KeptTexts) → IsKept head_form xs → Says (item m) (head_line xs) (tokens_of (whole_line xs))
+pub head_says : (defs : Definitions) (m : Form (List TypeNode)) (xs : KeptTexts) → IsKept head_form xs → Says (item defs m) (head_line xs) (tokens_of (whole_line xs))
 unfolding item item_words
-head_says m xs h = rw (whole_tokens xs) (elim (head_parts xs h) [
+head_says defs m xs h = rw (whole_tokens xs) (elim (head_parts xs h) [
   | inl b ↦ rw b.tokens (left_says (by_word_says (codes "source_filename") items.SourceFilename refl (mapped_says b.others _ (ap (λ (ys : KeptTexts). head_line ys) b.parts) (record { spells = b.spelled }))))
   | inr b ↦ rw b.tokens (left_says (by_word_says (codes "target") items.Target refl (mapped_says b.others _ (ap (λ (ys : KeptTexts). head_line ys) b.parts) (record { spells = b.spelled }))))
 ])
 
-pub comdat_says : (m : Form (List TypeNode)) (xs : KeptTexts) → IsKept comdat xs → Says (item m) (comdat_line xs) (tokens_of (whole_line xs))
+pub comdat_says : (defs : Definitions) (m : Form (List TypeNode)) (xs : KeptTexts) → IsKept comdat xs → Says (item defs m) (comdat_line xs) (tokens_of (whole_line xs))
 unfolding item
-comdat_says m xs h = rw (whole_tokens xs) (right_says (left_says (mapped_says xs _ refl (kept_says h))))
+comdat_says defs m xs h = rw (whole_tokens xs) (right_says (left_says (mapped_says xs _ refl (kept_says h))))
 
-pub group_says : (m : Form (List TypeNode)) (xs : KeptTexts) → IsKept attributes_form xs → Says (item m) (attribute_line xs) (tokens_of (whole_line xs))
+pub group_says : (defs : Definitions) (m : Form (List TypeNode)) (xs : KeptTexts) → IsKept attributes_form xs → Says (item defs m) (attribute_line xs) (tokens_of (whole_line xs))
 unfolding item item_words
-group_says m xs h =
+group_says defs m xs h =
     let b = group_parts xs h in
     rw (whole_tokens xs) (rw b.tokens (left_says (by_word_says (codes "attributes") items.Attributes refl (mapped_says b.others _ (ap (λ (ys : KeptTexts). attribute_line ys) b.parts) (record { spells = b.spelled })))))
 
-pub metadata_says : (m : Form (List TypeNode)) (xs : KeptTexts) → IsKept metadata xs → Says (item m) (metadata_line xs) (tokens_of (whole_line xs))
+pub metadata_says : (defs : Definitions) (m : Form (List TypeNode)) (xs : KeptTexts) → IsKept metadata xs → Says (item defs m) (metadata_line xs) (tokens_of (whole_line xs))
 unfolding item
-metadata_says m xs h = rw (whole_tokens xs) (right_says (right_says (left_says (mapped_says xs _ refl (kept_says h)))))
+metadata_says defs m xs h = rw (whole_tokens xs) (right_says (right_says (left_says (mapped_says xs _ refl (kept_says h)))))
 
 -- ---- named types
 
 definition_tokens : (n : Name) (ps : List Piece) → tokens_of (definition_pieces n ps) ≡ local_token n ∷ token kinds.Equal (codes "=") ∷ token kinds.Word (codes "type") ∷ tokens_of ps
 definition_tokens n ps = ap (λ (ts : List Lexeme). local_token n ∷ token kinds.Equal (codes "=") ∷ token kinds.Word (codes "type") ∷ ts) (tokens_of-append ps _ ∙ append-nil _)
 
-pub defined_says : (m : Form (List TypeNode)) (n : Name) (nodes : List TypeNode) (ps : List Piece) → IsName n → Says m nodes (tokens_of ps) → Says (item m) (type_item n (Some nodes)) (tokens_of (definition_pieces n ps))
+pub defined_says : (defs : Definitions) (m : Form (List TypeNode)) (n : Name) (nodes : List TypeNode) (ps : List Piece) → IsName n → Says m nodes (tokens_of ps) → Says (item defs m) (type_item n (Some nodes)) (tokens_of (definition_pieces n ps))
 unfolding item type_definition
-defined_says m n nodes ps h p =
+defined_says defs m n nodes ps h p =
     rw (definition_tokens n ps) (right_says (right_says (right_says (left_says (made_says _ _ (rw (local_again n h) refl) (ahead_says kinds.Local _ (after_mark_says kinds.Equal _ (behind_says (codes "type") (left_says (mapped_says nodes _ refl p))))))))))
 
 -- a type has no more tokens than its definition
 pub definition_within : (n : Name) (ps : List Piece) (d : ℕ) → length (tokens_of (definition_pieces n ps)) ≤ d → length (tokens_of ps) ≤ d
 definition_within n ps d le = omega (arith, ap length (definition_tokens n ps))
 
-pub opaque_says : (m : Form (List TypeNode)) (n : Name) → IsName n → Says (item m) (type_item n None) (tokens_of (definition_pieces n (word (codes "opaque") ∷ [])))
+pub opaque_says : (defs : Definitions) (m : Form (List TypeNode)) (n : Name) → IsName n → Says (item defs m) (type_item n None) (tokens_of (definition_pieces n (word (codes "opaque") ∷ [])))
 unfolding item type_definition
-opaque_says m n h =
+opaque_says defs m n h =
     right_says (right_says (right_says (left_says (made_says _ _ (rw (local_again n h) refl) (ahead_says kinds.Local _ (after_mark_says kinds.Equal _ (behind_says (codes "type") (right_says (word_says _ None)))))))))
 
 -- ---- variables
@@ -82,10 +83,10 @@ variable_tokens : (m : Module) (s : Symbol) (id : TypeId) (writable : Bool) → 
     ≡ global_token s.name ∷ token kinds.Equal (codes "=") ∷ (map token_of s.before ++ (token kinds.Word (print.variable_word writable) ∷ (tokens_of (type_at m id) ++ map token_of s.after)))
 variable_tokens m s id writable = rw (← then_blank_tokens s.before, ← behind_tokens s.after) (simp (tokens_of-append, append_assoc, append-nil))
 
-pub variable_says : (m : Module) (s : Symbol) (id : TypeId) (writable : Bool) (f : Form (List TypeNode)) (nodes : List TypeNode) → IsName s.name → IsKept kept s.before → IsKept behind_type s.after → Says f nodes (tokens_of (type_at m id))
-    → Says (item f) (variable_item (record { name = s.name; before = s.before; writable = writable; ty = nodes; after = s.after })) (tokens_of (variable_pieces m s id writable))
+pub variable_says : (defs : Definitions) (m : Module) (s : Symbol) (id : TypeId) (writable : Bool) (f : Form (List TypeNode)) (nodes : List TypeNode) → IsName s.name → IsKept kept s.before → IsKept behind_type s.after → Says f nodes (tokens_of (type_at m id))
+    → Says (item defs f) (variable_item (record { name = s.name; before = s.before; writable = writable; ty = nodes; after = s.after })) (tokens_of (variable_pieces m s id writable))
 unfolding item variable_definition
-variable_says m s id writable f nodes h before after p =
+variable_says defs m s id writable f nodes h before after p =
     rw (variable_tokens m s id writable) (right_says (right_says (right_says (right_says (made_says (64 ∷ name_text s.name, (s.before, (writable, (nodes, s.after)))) _ (rw (global_again s.name h) refl) (ahead_says kinds.Global _ (after_mark_says kinds.Equal _
     (pair_says (map token_of s.before) _ (kept_says before) (pair_says (token kinds.Word (print.variable_word writable) ∷ []) _ (word_tokens writable) (pair_says (tokens_of (type_at m id)) _ p (kept_says after)))))))))))
 

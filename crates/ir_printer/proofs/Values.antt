@@ -1,75 +1,59 @@
 -- The pieces that names, types and operands are printed as write them.
-use Rattle.std.proofs.Common.{◌≡◌, ◌<◌, ◌≤◌, ℕ, zero, suc, true, false, cond, eqb, List, [], ◌∷◌, map, Option, Some, None, refl, ap, arith, inl, inr}
+use Rattle.std.proofs.Common.{◌≡◌, ◌<◌, ◌^◌, ◌≤◌, ℕ, zero, suc, true, false, cond, eqb, List, [], ◌∷◌, length, map, Option, Some, None, refl, sym, ap, arith, inl, inr}
 use Rattle.std.specs.Prelude.{codes}
 use Rattle.std.specs.List.{AllByRecursion, AllZip, list_all}
 use Rattle.std.proofs.lemmas.Bool.{eqb-true, eq-eqb}
 use Rattle.forms.specs.declared.TokenKind.TheVariants as kinds
+use Rattle.forms.specs.Bind.{◌>>=◌}
 use Rattle.forms.specs.Form.{one}
 use Rattle.forms.specs.Lexical.{kind_of, table}
 use Rattle.forms.proofs.Begins.{test}
-use Rattle.text_lex.specs.Layout.{lexeme, closed}
+use Rattle.text_lex.specs.Layout.{Piece, lexeme, closed}
 use Rattle.ir_types.specs.declared.name.Name.{Name}
 use Rattle.ir_types.specs.declared.inst.Ty.{Ty}
-use Rattle.ir_types.specs.declared.inst.Ty.TheVariants.{Int, Ptr, Vector}
-use Rattle.ir_types.specs.Tree.{OperandTree, local, number, null, poison, lanes}
-use Rattle.ir_types.specs.Grammar.{local_name, width, value_type, WrittenLane, lane_digits, lane_true, lane_false, lane_poison, lane, typed_lane, WrittenValue, named, digits, yes, no, null_word, poison_word, lane_list, constant_word, value, width_of, lane_at, is_int, operand_at, typed_value, pointer_value, index_value}
+use Rattle.ir_types.specs.declared.inst.Ty.TheVariants.{Int, Ptr, Vector, Void}
+use Rattle.ir_types.specs.Offsets.{Definitions}
+use Rattle.ir_types.specs.Tree.{OperandTree, local, number, null, poison, lanes, global}
+use Rattle.ir_types.specs.Grammar.{local_name, width, value_type, WrittenLane, lane_digits, lane_true, lane_false, lane_poison, lane, typed_lane, WrittenValue, named, digits, yes, no, null_word, poison_word, lane_list, symbol, stepped, constant_word, value, width_of, lane_at, is_int, operand_at, typed_value, pointer_value, index_value}
 use Rattle.ir_shape.specs.Shape.{IsName, IsOneOf, widths, IsType, IsBelow, IsLane, IsOperand, IsTyped}
 use Rattle.type_printer.specs.Texts.{signed_text}
 use Rattle.type_printer.specs.Pieces.{token, word, greater, local_token, width_word, type_pieces}
-use Rattle.type_printer.proofs.Laid.{loose, nothing_behind, mark_laid}
+use Rattle.type_printer.proofs.Laid.{IsBehind, loose, nothing_behind, mark_laid, token_laid}
 use Rattle.type_printer.proofs.LaidOut.{angle_kinds, local_laid, width_kind, word_laid, type_laid, type_returned}
 use Rattle.type_printer.proofs.Spelled.{local_says, width_says, type_says}
 use Rattle.type_printer.proofs.Widths.{width_within, type_within}
 use Rattle.type_printer.proofs.Writes.{Writes, laid_writes, both, spaced, left_writes, right_writes, mapped_writes, made_writes, word_writes, behind_writes, one_writes, between_writes, EachWrites, commas_write}
-use Rattle.ir_printer.specs.Print.{number_token, lane_value, lane_pieces, operand_pieces, typed_operand}
-use Rattle.ir_printer.proofs.Numbers.{signed_again, signed_kind}
-
--- ---- names and types
-
-pub local_writes : (n : Name) → IsName n → Writes closed local_name n (lexeme (local_token n) ∷ [])
-local_writes n h = laid_writes (local_says n h) (local_laid n h nothing_behind)
-
-pub width_writes : (w : ℕ) → IsOneOf widths w → Writes closed width w (word (width_word w) ∷ [])
-width_writes w h = laid_writes (width_says w h) (word_laid (width_word w) (width_kind w h) nothing_behind)
-
-pub type_writes : (t : Ty) → IsType t → Writes closed value_type t (type_pieces t)
-type_writes t h = laid_writes (type_says t h) (type_laid t (type_returned t h))
-
--- ---- numbers
-
-value_kinds : (kind_of (codes "true") ≡ Some kinds.Word) × (kind_of (codes "false") ≡ Some kinds.Word) × (kind_of (codes "null") ≡ Some kinds.Word) × (kind_of (codes "poison") ≡ Some kinds.Word) × (kind_of (codes "ptr") ≡ Some kinds.Word)
-unfolding table
-value_kinds = (refl, refl, refl, refl, refl)
-
-pub signed_writes : (w v : ℕ) → w ≤ 64 → IsBelow w v → Writes closed (one kinds.Number) (signed_text w v) (lexeme (token kinds.Number (signed_text w v)) ∷ [])
-signed_writes w v h lt = one_writes kinds.Number (signed_text w v) (signed_kind w v h lt)
+use Rattle.ir_printer.specs.Print.{number_token, lane_value, lane_pieces, lanes_pieces, global_pieces, operand_pieces, typed_operand}
+use Rattle.ir_printer.proofs.Numbers.{signed_again}
+use Rattle.ir_printer.proofs.Words.{value_kinds, local_writes, global_writes, width_writes, type_writes, signed_writes}
+use Rattle.ir_printer.proofs.Symbols.{bytes_behind, written_steps, steps_write}
 
 -- how a value is written at a type
-pub record IsWritten (t : Ty) (a : OperandTree) : Type 0 where
+pub record IsWritten (defs : Definitions) (t : Ty) (a : OperandTree) : Type 0 where
   pub typed : IsType t
   pub as_value : WrittenValue
-  pub is : operand_at t as_value ≡ Some a
+  pub is : operand_at defs t as_value ≡ Some a
   pub writes : Writes closed value as_value (operand_pieces t a)
 
-bit_written : (t : Ty) (v : ℕ) → eqb (width_of t) 1 ≡ true → IsType t → v < 2 → IsWritten t (number v)
+bit_written : (defs : Definitions) (t : Ty) (v : ℕ) → eqb (width_of t) 1 ≡ true → IsType t → v < 2 → IsWritten defs t (number v)
 unfolding value constant_word number_token
-bit_written t zero e h lt = record { typed = h; as_value = no; is = refl; writes = rw e (right_writes (right_writes (left_writes (right_writes (left_writes (word_writes _ no value_kinds.1)))))) }
-bit_written t (suc zero) e h lt = record { typed = h; as_value = yes; is = refl; writes = rw e (right_writes (right_writes (left_writes (left_writes (word_writes _ yes value_kinds.0))))) }
-bit_written t (suc (suc v)) e h lt = absurd (omega arith)
+bit_written defs t zero e h lt = record { typed = h; as_value = no; is = refl; writes = rw e (right_writes (right_writes (left_writes (right_writes (left_writes (word_writes _ no value_kinds.1)))))) }
+bit_written defs t (suc zero) e h lt = record { typed = h; as_value = yes; is = refl; writes = rw e (right_writes (right_writes (left_writes (left_writes (word_writes _ yes value_kinds.0))))) }
+bit_written defs t (suc (suc v)) e h lt = absurd (omega arith)
 
-signed_written : (t : Ty) (v : ℕ) → eqb (width_of t) 1 ≡ false → IsType t → IsBelow (width_of t) v → IsWritten t (number v)
+signed_written : (defs : Definitions) (t : Ty) (v : ℕ) → eqb (width_of t) 1 ≡ false → IsType t → IsBelow (width_of t) v → IsWritten defs t (number v)
 unfolding value number_token
-signed_written t v e h lt = let w = type_within t h in record {
+signed_written defs t v e h lt = let w = type_within t h in record {
   typed = h;
   as_value = digits (signed_text (width_of t) v);
   is = ap (λ (n : ℕ). Some (number n)) (signed_again (width_of t) v w.0 w.1 lt);
   writes = rw e (right_writes (left_writes (mapped_writes _ _ refl (signed_writes (width_of t) v w.1 lt))));
 }
 
-number_written : (t : Ty) (v : ℕ) → IsType t → IsBelow (width_of t) v → IsWritten t (number v)
-number_written t v i h = elim (test (eqb (width_of t) 1)) [
-  | inl y ↦ let l : v < 2 = rw (eqb-true (width_of t) 1 y) at h in bit_written t v y i l
-  | inr n ↦ signed_written t v n i h
+number_written : (defs : Definitions) (t : Ty) (v : ℕ) → IsType t → IsBelow (width_of t) v → IsWritten defs t (number v)
+number_written defs t v i h = elim (test (eqb (width_of t) 1)) [
+  | inl y ↦ let l : v < 2 = rw (eqb-true (width_of t) 1 y) at h in bit_written defs t v y i l
+  | inr n ↦ signed_written defs t v n i h
 ]
 
 -- ---- lanes
@@ -121,41 +105,56 @@ unfolding typed_written
 lanes_again w h [] g = refl
 lanes_again w h (x ∷ xs) g = rw ((lane_written w h x g.0).is, lanes_again w h xs g.1) refl
 
-lanes_written : (n w : ℕ) (xs : List (Option ℕ)) → IsType (Vector n w) → IsOperand (Vector n w) (lanes xs) → IsWritten (Vector n w) (lanes xs)
+lanes_written : (defs : Definitions) (n w : ℕ) (xs : List (Option ℕ)) → IsType (Vector n w) → IsOperand (Vector n w) (lanes xs) → IsWritten defs (Vector n w) (lanes xs)
 unfolding value
-lanes_written n w xs i h = record {
+lanes_written defs n w xs i h = record {
   typed = i;
   as_value = lane_list (map (typed_written w) xs);
   is = rw (lanes_typed w xs, lanes_again w i.1 xs h.1) refl;
-  writes = right_writes (right_writes (right_writes (right_writes (mapped_writes _ _ refl (between_writes kinds.Less kinds.Greater (codes "<") (codes ">") _ (greater ∷ []) angle_kinds.0 refl (mark_laid kinds.Greater (codes ">") refl angle_kinds.1 (loose nothing_behind)) refl (commas_write (lane_writes w i.1) xs h.0 h.1))))));
+  writes = right_writes (right_writes (right_writes (right_writes (left_writes (mapped_writes _ _ refl (between_writes kinds.Less kinds.Greater (codes "<") (codes ">") _ (greater ∷ []) angle_kinds.0 refl (mark_laid kinds.Greater (codes ">") refl angle_kinds.1 (loose nothing_behind)) refl (commas_write (lane_writes w i.1) xs h.0 h.1)))))));
 }
+
+-- ---- symbols
+
+symbol_written : (defs : Definitions) (t : Ty) (n : Name) (bytes : ℕ) → IsType t → IsName n → IsBelow 64 bytes → IsWritten defs t (global n bytes)
+unfolding value global_pieces
+symbol_written defs t n bytes i h lt = elim (test (eqb bytes 0)) [
+  | inl y ↦ record { typed = i; as_value = symbol n; is = ap (λ (k : ℕ). Some (global n k)) (sym (eqb-true bytes 0 y)); writes = rw y (right_writes (right_writes (right_writes (right_writes (right_writes (left_writes (mapped_writes n _ refl (global_writes n h)))))))) }
+  | inr other ↦ record {
+      typed = i;
+      as_value = stepped (written_steps n bytes);
+      is = ap (λ (o : Option ℕ). o >>= λ k. Some (global n k)) (bytes_behind defs bytes lt);
+      writes = rw other (right_writes (right_writes (right_writes (right_writes (right_writes (right_writes (mapped_writes _ _ refl (steps_write n bytes h lt))))))));
+    }
+]
 
 -- ---- operands
 
-word_written : (t : Ty) (a : OperandTree) (v : WrittenValue) (s : List ℕ) → IsType t → operand_at t v ≡ Some a → operand_pieces t a ≡ word s ∷ [] → Writes closed constant_word v (word s ∷ []) → IsWritten t a
+word_written : (defs : Definitions) (t : Ty) (a : OperandTree) (v : WrittenValue) (s : List ℕ) → IsType t → operand_at defs t v ≡ Some a → operand_pieces t a ≡ word s ∷ [] → Writes closed constant_word v (word s ∷ []) → IsWritten defs t a
 unfolding value
-word_written t a v s i e p w = record { typed = i; as_value = v; is = e; writes = rw p (right_writes (right_writes (left_writes w))) }
+word_written defs t a v s i e p w = record { typed = i; as_value = v; is = e; writes = rw p (right_writes (right_writes (left_writes w))) }
 
-pub operand_written : (t : Ty) (a : OperandTree) → IsTyped t a → IsWritten t a
+pub operand_written : (defs : Definitions) (t : Ty) (a : OperandTree) → IsTyped t a → IsWritten defs t a
 unfolding value constant_word
-operand_written t (local n) h = record { typed = h.0; as_value = named n; is = refl; writes = left_writes (mapped_writes n _ refl (local_writes n h.1)) }
-operand_written t (number v) h = number_written t v h.0 h.1
-operand_written t null h = word_written t null null_word _ h.0 refl refl (right_writes (right_writes (left_writes (word_writes _ null_word value_kinds.2))))
-operand_written t poison h = word_written t poison poison_word _ h.0 refl refl (right_writes (right_writes (right_writes (left_writes (word_writes _ poison_word value_kinds.3)))))
-operand_written (Vector n w) (lanes xs) h = lanes_written n w xs h.0 h.1
-operand_written t (lanes xs) h = absurd h.1
+operand_written defs t (local n) h = record { typed = h.0; as_value = named n; is = refl; writes = left_writes (mapped_writes n _ refl (local_writes n h.1)) }
+operand_written defs t (number v) h = number_written defs t v h.0 h.1
+operand_written defs t null h = word_written defs t null null_word _ h.0 refl refl (right_writes (right_writes (left_writes (word_writes _ null_word value_kinds.2))))
+operand_written defs t poison h = word_written defs t poison poison_word _ h.0 refl refl (right_writes (right_writes (right_writes (left_writes (word_writes _ poison_word value_kinds.3)))))
+operand_written defs (Vector n w) (lanes xs) h = lanes_written defs n w xs h.0 h.1
+operand_written defs t (lanes xs) h = absurd h.1
+operand_written defs t (global n bytes) h = symbol_written defs t n bytes h.0 h.1.0 h.1.1
 
 -- ---- operands with their types
 
-pub typed_writes : {t : Ty} {a : OperandTree} → IsWritten t a → Writes closed typed_value (t, a) (typed_operand t a)
+pub typed_writes : {defs : Definitions} {t : Ty} {a : OperandTree} → IsWritten defs t a → Writes closed (typed_value defs) (t, a) (typed_operand t a)
 unfolding typed_value
 typed_writes {t = t} {a = a} x = made_writes (t, x.as_value) (t, a) (rw (x.is) refl) (both (type_writes t x.typed) (spaced x.writes))
 
-pub pointer_writes : {a : OperandTree} → IsWritten Ptr a → Writes closed pointer_value a (typed_operand Ptr a)
+pub pointer_writes : {defs : Definitions} {a : OperandTree} → IsWritten defs Ptr a → Writes closed (pointer_value defs) a (typed_operand Ptr a)
 unfolding pointer_value type_pieces
 pointer_writes {a = a} x = made_writes x.as_value a x.is (behind_writes (codes "ptr") value_kinds.4 (spaced x.writes))
 
-pub index_writes : {w : ℕ} {a : OperandTree} → IsWritten (Int w) a → Writes closed index_value (w, a) (typed_operand (Int w) a)
+pub index_writes : {defs : Definitions} {w : ℕ} {a : OperandTree} → IsWritten defs (Int w) a → Writes closed (index_value defs) (w, a) (typed_operand (Int w) a)
 unfolding index_value type_pieces
 index_writes {w = w} {a = a} x = made_writes (w, x.as_value) (w, a) (rw (x.is) refl) (both (width_writes w x.typed) (spaced x.writes))
 
@@ -165,20 +164,20 @@ pub by_none : (P : List OperandTree → Type 0) {args : List OperandTree} → Al
 by_none P {args = []} h p = p
 by_none P {args = a ∷ args} h p = absurd h
 
-pub by_one : (P : List OperandTree → Type 0) {t : Ty} {args : List OperandTree} → AllZip IsTyped (t ∷ []) args → ((a : OperandTree) → IsWritten t a → P (a ∷ [])) → P args
-by_one P {args = []} h p = absurd h
-by_one P {t = t} {args = a ∷ []} h p = p a (operand_written t a h.0)
-by_one P {args = a ∷ b ∷ args} h p = absurd h.1
+pub by_one : (defs : Definitions) (P : List OperandTree → Type 0) {t : Ty} {args : List OperandTree} → AllZip IsTyped (t ∷ []) args → ((a : OperandTree) → IsWritten defs t a → P (a ∷ [])) → P args
+by_one defs P {args = []} h p = absurd h
+by_one defs P {t = t} {args = a ∷ []} h p = p a (operand_written defs t a h.0)
+by_one defs P {args = a ∷ b ∷ args} h p = absurd h.1
 
-pub by_two : (P : List OperandTree → Type 0) {t u : Ty} {args : List OperandTree} → AllZip IsTyped (t ∷ u ∷ []) args → ((a b : OperandTree) → IsWritten t a → IsWritten u b → P (a ∷ b ∷ [])) → P args
-by_two P {args = []} h p = absurd h
-by_two P {args = a ∷ []} h p = absurd h.1
-by_two P {t = t} {u = u} {args = a ∷ b ∷ []} h p = p a b (operand_written t a h.0) (operand_written u b h.1.0)
-by_two P {args = a ∷ b ∷ c ∷ args} h p = absurd h.1.1
+pub by_two : (defs : Definitions) (P : List OperandTree → Type 0) {t u : Ty} {args : List OperandTree} → AllZip IsTyped (t ∷ u ∷ []) args → ((a b : OperandTree) → IsWritten defs t a → IsWritten defs u b → P (a ∷ b ∷ [])) → P args
+by_two defs P {args = []} h p = absurd h
+by_two defs P {args = a ∷ []} h p = absurd h.1
+by_two defs P {t = t} {u = u} {args = a ∷ b ∷ []} h p = p a b (operand_written defs t a h.0) (operand_written defs u b h.1.0)
+by_two defs P {args = a ∷ b ∷ c ∷ args} h p = absurd h.1.1
 
-pub by_three : (P : List OperandTree → Type 0) {t u v : Ty} {args : List OperandTree} → AllZip IsTyped (t ∷ u ∷ v ∷ []) args → ((a b c : OperandTree) → IsWritten t a → IsWritten u b → IsWritten v c → P (a ∷ b ∷ c ∷ [])) → P args
-by_three P {args = []} h p = absurd h
-by_three P {args = a ∷ []} h p = absurd h.1
-by_three P {args = a ∷ b ∷ []} h p = absurd h.1.1
-by_three P {t = t} {u = u} {v = v} {args = a ∷ b ∷ c ∷ []} h p = p a b c (operand_written t a h.0) (operand_written u b h.1.0) (operand_written v c h.1.1.0)
-by_three P {args = a ∷ b ∷ c ∷ d ∷ args} h p = absurd h.1.1.1
+pub by_three : (defs : Definitions) (P : List OperandTree → Type 0) {t u v : Ty} {args : List OperandTree} → AllZip IsTyped (t ∷ u ∷ v ∷ []) args → ((a b c : OperandTree) → IsWritten defs t a → IsWritten defs u b → IsWritten defs v c → P (a ∷ b ∷ c ∷ [])) → P args
+by_three defs P {args = []} h p = absurd h
+by_three defs P {args = a ∷ []} h p = absurd h.1
+by_three defs P {args = a ∷ b ∷ []} h p = absurd h.1.1
+by_three defs P {t = t} {u = u} {v = v} {args = a ∷ b ∷ c ∷ []} h p = p a b c (operand_written defs t a h.0) (operand_written defs u b h.1.0) (operand_written defs v c h.1.1.0)
+by_three defs P {args = a ∷ b ∷ c ∷ d ∷ args} h p = absurd h.1.1.1

@@ -1,20 +1,29 @@
 -- The text that a module is printed as, in pieces: its tokens and the white space between them.
-use Rattle.std.specs.Prelude.{ℕ, zero, suc, Bool, true, false, ◌==◌, List, [], ◌∷◌, ◌++◌, map, flat_map, codes, decimal, Option, Some, None, if◌then◌else◌}
+use Rattle.std.specs.Prelude.{ℕ, zero, suc, Bool, true, false, ◌==◌, List, [], ◌∷◌, ◌++◌, map, flat_map, codes, decimal, length, Option, Some, None, if◌then◌else◌}
 use Rattle.std.specs.List.{zip}
+use Rattle.std.specs.Option.{option_map}
 use Rattle.forms.specs.declared.TokenKind.TheVariants as kinds
 use Rattle.forms.specs.Form.{Lexeme}
 use Rattle.text_lex.specs.Layout.{Piece, gap, lexeme, text_of}
 use Rattle.text_lex.specs.KeptText.{kept_behind, kept_pieces, line_pieces}
 use Rattle.ir_types.specs.declared.name.Name.{Name}
 use Rattle.ir_types.specs.declared.inst.Ty.{Ty}
-use Rattle.ir_types.specs.declared.inst.Ty.TheVariants.{Ptr}
+use Rattle.ir_types.specs.declared.inst.Ty.TheVariants.{Int, Ptr}
 use Rattle.ir_types.specs.declared.inst.BinOp.{BinOp}
 use Rattle.ir_types.specs.declared.inst.BinOp.TheVariants.{Add, Sub, Mul, Shl, UDiv, SDiv, URem, SRem, LShr, AShr, And, Or, Xor}
 use Rattle.ir_types.specs.declared.inst.Flags.{Flags}
 use Rattle.ir_types.specs.declared.inst.Pred.{Pred}
 use Rattle.ir_types.specs.declared.inst.Pred.TheVariants.{Eq, Ne, Ugt, Uge, Ult, Ule, Sgt, Sge, Slt, Sle}
+use Rattle.ir_types.specs.declared.call.Actual.{Actual}
+use Rattle.ir_types.specs.declared.call.Callee.{Callee}
+use Rattle.ir_types.specs.declared.call.Signature.{Signature}
+use Rattle.ir_types.specs.declared.call.TailKind.{TailKind}
+use Rattle.ir_types.specs.declared.call.TailKind.TheVariants.{Unmarked, Tail, MustTail, NoTail}
+use Rattle.ir_types.specs.declared.inst.Inst.{Inst}
 use Rattle.ir_types.specs.declared.inst.InstKind.{InstKind}
-use Rattle.ir_types.specs.declared.inst.InstKind.TheVariants.{Binary, Compare, Select, Freeze, Trunc, Zext, Sext, PtrToInt, Phi, Load, Store, Extract, Insert, Shuffle, Jump, Branch, Switch, ReturnVoid, Return, Unreachable}
+use Rattle.ir_types.specs.declared.inst.InstKind.TheVariants.{Binary, Compare, Select, Freeze, Trunc, Zext, Sext, PtrToInt, Phi, Offset, Load, Store, Call, Extract, Insert, Shuffle, Jump, Branch, Switch, ReturnVoid, Return, Unreachable}
+use Rattle.ir_types.specs.declared.module.Block.{Block}
+use Rattle.ir_types.specs.declared.module.Function.{Function}
 use Rattle.ir_types.specs.declared.memory_type.TypeId.{TypeId}
 use Rattle.ir_types.specs.declared.memory_type.TypeName.{TypeName}
 use Rattle.ir_types.specs.declared.memory_type.NamedType.{NamedType}
@@ -24,10 +33,10 @@ use Rattle.ir_types.specs.declared.module.SymbolKind.{SymbolKind}
 use Rattle.ir_types.specs.declared.module.SymbolKind.TheVariants.{Variable}
 use Rattle.ir_types.specs.declared.module.SymbolKind.TheVariants as symbols
 use Rattle.ir_types.specs.declared.module.Module.{Module}
-use Rattle.ir_types.specs.Denotes.{type_names_of, tree_of_function}
+use Rattle.ir_types.specs.Denotes.{Tables, name_in, operand_in, param_in, type_names_of, tables_of}
 use Rattle.ir_types.specs.Grammar.{width_of, element_of}
 use Rattle.ir_types.specs.Meaning.{operand_types}
-use Rattle.ir_types.specs.Tree.{KeptTexts, OperandTree, local, number, null, poison, lanes, InstTree, BlockTree, ParamTree, FunctionTree}
+use Rattle.ir_types.specs.Tree.{KeptTexts, OperandTree, local, number, null, poison, lanes, global, ParamTree}
 use Rattle.type_printer.specs.Texts.{signed_text}
 use Rattle.type_printer.specs.MemoryPieces.{memory_pieces}
 use Rattle.type_printer.specs.Pieces.{token, word, comma, equal, left_paren, right_paren, left_bracket, right_bracket, left_brace, right_brace, less, greater, blank, line_feed, indent, each_behind, separated, with_commas, local_token, global_token, label_token, width_word, type_pieces}
@@ -63,6 +72,13 @@ lane_pieces t x = type_pieces t ++ (blank ∷ lane_value t x ∷ [])
 abbrev pub lanes_pieces : Ty → List (Option ℕ) → List Piece
 lanes_pieces t xs = less ∷ (with_commas (map (lane_pieces t) xs) ++ (greater ∷ []))
 
+-- @name, and where so many bytes behind it aren't 0: getelementptr (i8, ptr @name, i64 bytes)
+unfoldable pub global_pieces : Name → ℕ → List Piece
+global_pieces n bytes =
+    if bytes == 0
+    then lexeme (global_token n) ∷ []
+    else word (codes "getelementptr") ∷ blank ∷ left_paren ∷ word (codes "i8") ∷ comma ∷ blank ∷ word (codes "ptr") ∷ blank ∷ lexeme (global_token n) ∷ comma ∷ blank ∷ word (codes "i64") ∷ blank ∷ lexeme (token kinds.Number (signed_text 64 bytes)) ∷ right_paren ∷ []
+
 -- an operand at its type
 abbrev pub operand_pieces : Ty → OperandTree → List Piece
 operand_pieces t (local n) = lexeme (local_token n) ∷ []
@@ -70,6 +86,7 @@ operand_pieces t (number v) = lexeme (number_token t v) ∷ []
 operand_pieces t null = word (codes "null") ∷ []
 operand_pieces t poison = word (codes "poison") ∷ []
 operand_pieces t (lanes xs) = lanes_pieces (element_of t) xs
+operand_pieces t (global n bytes) = global_pieces n bytes
 
 -- T V
 abbrev pub typed_operand : Ty → OperandTree → List Piece
@@ -118,6 +135,17 @@ wrap_pieces nuw nsw = flag_pieces nuw (codes "nuw") ++ flag_pieces nsw (codes "n
 abbrev pub flags_pieces : Flags → List Piece
 flags_pieces f = wrap_pieces f.nuw f.nsw ++ (flag_pieces f.exact (codes "exact") ++ flag_pieces f.disjoint (codes "disjoint"))
 
+-- `inbounds`, `nusw` and `nuw`
+abbrev pub offset_flags : Bool → Bool → Bool → List Piece
+offset_flags inbounds nuw nusw = flag_pieces inbounds (codes "inbounds") ++ (flag_pieces nusw (codes "nusw") ++ flag_pieces nuw (codes "nuw"))
+
+-- the word of a call, and that before it
+abbrev pub call_words : TailKind → List Piece
+call_words Unmarked = word (codes "call") ∷ []
+call_words Tail = word (codes "tail") ∷ blank ∷ word (codes "call") ∷ []
+call_words MustTail = word (codes "musttail") ∷ blank ∷ word (codes "call") ∷ []
+call_words NoTail = word (codes "notail") ∷ blank ∷ word (codes "call") ∷ []
+
 -- the word of an instruction, with its flags or its predicate
 abbrev pub opening_pieces : InstKind → List Piece
 opening_pieces (Binary op flags) = word (operator_word op) ∷ flags_pieces flags
@@ -129,8 +157,10 @@ opening_pieces (Zext from nneg) = word (codes "zext") ∷ flag_pieces nneg (code
 opening_pieces (Sext from) = word (codes "sext") ∷ []
 opening_pieces PtrToInt = word (codes "ptrtoint") ∷ []
 opening_pieces Phi = word (codes "phi") ∷ []
+opening_pieces (Offset id indexes inbounds nuw nusw) = word (codes "getelementptr") ∷ offset_flags inbounds nuw nusw
 opening_pieces (Load align) = word (codes "load") ∷ []
 opening_pieces (Store of align) = word (codes "store") ∷ []
+opening_pieces (Call callee) = call_words callee.tail
 opening_pieces (Extract of width) = word (codes "extractelement") ∷ []
 opening_pieces (Insert element width) = word (codes "insertelement") ∷ []
 opening_pieces (Shuffle one other mask) = word (codes "shufflevector") ∷ []
@@ -140,6 +170,18 @@ opening_pieces (Switch width cases) = word (codes "switch") ∷ []
 opening_pieces ReturnVoid = word (codes "ret") ∷ []
 opening_pieces (Return of) = word (codes "ret") ∷ []
 opening_pieces Unreachable = word (codes "unreachable") ∷ []
+
+-- ---- what is kept
+
+-- K and a space, or nothing
+abbrev pub kept_then_blank : KeptTexts → List Piece
+kept_then_blank [] = []
+kept_then_blank (w ∷ ws) = kept_pieces (w ∷ ws) ++ (blank ∷ [])
+
+-- a space and K, or nothing
+abbrev pub blank_then_kept : KeptTexts → List Piece
+blank_then_kept [] = []
+blank_then_kept (w ∷ ws) = blank ∷ kept_pieces (w ∷ ws)
 
 -- ---- operands of instructions
 
@@ -167,16 +209,48 @@ entry_pieces t a l = in_brackets (operand_pieces t a ++ (comma ∷ blank ∷ lex
 abbrev pub entries_of : Ty → List OperandTree → List Name → List (List Piece)
 entries_of t args labels = map (λ x. entry_pieces t x.0 x.1) (zip args labels)
 
--- the operands of an instruction with their types
-abbrev pub operands_pieces : InstKind → Ty → List OperandTree → List Name → List Piece
-operands_pieces (Binary op flags) t args labels = typed_pieces t args
-operands_pieces (Compare p u) t args labels = typed_pieces u args
-operands_pieces Phi t args labels = blank ∷ (type_pieces t ++ (blank ∷ with_commas (entries_of t args labels)))
-operands_pieces (Load align) t args labels = blank ∷ (type_pieces t ++ (comma ∷ listed_pieces (Ptr ∷ []) args))
-operands_pieces Jump t args labels = []
-operands_pieces ReturnVoid t args labels = blank ∷ word (codes "void") ∷ []
-operands_pieces Unreachable t args labels = []
-operands_pieces kind t args labels = listed_pieces (operand_types kind t) args
+-- ---- calls
+
+-- `...`, behind a comma where so many things stand before it
+abbrev pub dots_pieces : ℕ → List Piece
+dots_pieces n = comma_before n ++ (dots ∷ [])
+
+-- T, .. [, ...]
+abbrev pub written_types : Signature → List Piece
+written_types s = with_commas (map type_pieces s.params) ++ (if s.varargs then dots_pieces (length s.params) else [])
+
+-- a space and ( T, .. [, ...] ), where the types are written
+abbrev pub signature_pieces : Option Signature → List Piece
+signature_pieces None = []
+signature_pieces (Some s) = blank ∷ left_paren ∷ (written_types s ++ (right_paren ∷ []))
+
+-- T K V
+unfoldable pub argument_pieces : Actual → OperandTree → List Piece
+argument_pieces a x = type_pieces a.ty ++ (blank_then_kept a.kept ++ (blank ∷ operand_pieces a.ty x))
+
+-- an argument for each operand
+abbrev pub arguments_of : List Actual → List OperandTree → List (List Piece)
+arguments_of actuals args = map (λ x. argument_pieces x.0 x.1) (zip actuals args)
+
+-- K R [( T, .. [, ...] )] @name ( T K V, .. )
+unfoldable pub call_pieces : Callee → Ty → List OperandTree → List Piece
+call_pieces c t args =
+    blank ∷ (kept_then_blank c.before ++ (type_pieces t ++ (signature_pieces c.signature ++ (blank ∷ lexeme (global_token c.name) ∷ left_paren ∷ (with_commas (arguments_of c.actuals args) ++ (right_paren ∷ []))))))
+
+-- ---- all operands
+
+-- the operands of an instruction with their types; a memory type has its place in the module's list
+abbrev pub operands_pieces : Tables → InstKind → Ty → List OperandTree → List Name → List Piece
+operands_pieces tables (Binary op flags) t args labels = typed_pieces t args
+operands_pieces tables (Compare p u) t args labels = typed_pieces u args
+operands_pieces tables Phi t args labels = blank ∷ (type_pieces t ++ (blank ∷ with_commas (entries_of t args labels)))
+operands_pieces tables (Offset id indexes inbounds nuw nusw) t args labels = blank ∷ (memory_pieces tables.type_names tables.types id ++ (comma ∷ listed_pieces (Ptr ∷ map Int indexes) args))
+operands_pieces tables (Load align) t args labels = blank ∷ (type_pieces t ++ (comma ∷ listed_pieces (Ptr ∷ []) args))
+operands_pieces tables (Call callee) t args labels = call_pieces callee t args
+operands_pieces tables Jump t args labels = []
+operands_pieces tables ReturnVoid t args labels = blank ∷ word (codes "void") ∷ []
+operands_pieces tables Unreachable t args labels = []
+operands_pieces tables kind t args labels = listed_pieces (operand_types kind t) args
 
 -- ---- what stands behind the operands
 
@@ -216,7 +290,7 @@ abbrev pub switch_pieces : ℕ → List ℕ → List Name → List Piece
 switch_pieces w ns [] = []
 switch_pieces w ns (l ∷ labels) = comma ∷ blank ∷ (target_pieces l ++ (blank ∷ left_bracket ∷ (each_behind (before_case ∷ []) (cases_of w ns labels) ++ (before_end ∷ right_bracket ∷ []))))
 
--- the type of a cast, an alignment, or labels
+-- the type of a cast, an alignment, what is kept behind a call, or labels
 abbrev pub ending_pieces : InstKind → Ty → List Name → List Piece
 ending_pieces (Trunc from nuw nsw) t labels = to_pieces t
 ending_pieces (Zext from nneg) t labels = to_pieces t
@@ -224,6 +298,7 @@ ending_pieces (Sext from) t labels = to_pieces t
 ending_pieces PtrToInt t labels = to_pieces t
 ending_pieces (Load align) t labels = align_pieces align
 ending_pieces (Store of align) t labels = align_pieces align
+ending_pieces (Call callee) t labels = blank_then_kept callee.after
 ending_pieces Jump t labels = blank ∷ targets_pieces labels
 ending_pieces Branch t labels = comma ∷ blank ∷ targets_pieces labels
 ending_pieces (Switch width cases) t labels = switch_pieces width cases labels
@@ -232,8 +307,8 @@ ending_pieces kind t labels = []
 -- ---- instructions
 
 -- an instruction behind its result, without attachments
-abbrev pub kind_pieces : InstKind → Ty → List OperandTree → List Name → List Piece
-kind_pieces kind t args labels = opening_pieces kind ++ (operands_pieces kind t args labels ++ ending_pieces kind t labels)
+abbrev pub kind_pieces : Tables → InstKind → Ty → List OperandTree → List Name → List Piece
+kind_pieces tables kind t args labels = opening_pieces kind ++ (operands_pieces tables kind t args labels ++ ending_pieces kind t labels)
 
 -- %name =
 abbrev pub result_pieces : Option Name → List Piece
@@ -241,26 +316,16 @@ result_pieces None = []
 result_pieces (Some n) = lexeme (local_token n) ∷ blank ∷ equal ∷ blank ∷ []
 
 -- a line, behind its indentation
-unfoldable pub inst_pieces : InstTree → List Piece
-inst_pieces i = result_pieces i.result ++ (kind_pieces i.kind i.ty i.args i.labels ++ (kept_behind [] i.kept ++ (line_feed ∷ [])))
+unfoldable pub inst_pieces : Tables → List Name → Inst → List Piece
+inst_pieces t ns i = result_pieces (option_map (name_in ns) i.result) ++ (kind_pieces t i.kind i.ty (map (operand_in t ns) i.args) (map (name_in ns) i.labels) ++ (kept_behind [] i.kept ++ (line_feed ∷ [])))
 
 -- ---- blocks
 
 -- the label on a line, and a line for each instruction
-unfoldable pub block_pieces : BlockTree → List Piece
-block_pieces b = lexeme (label_token b.name) ∷ line_feed ∷ each_behind (indent ∷ []) (map inst_pieces b.insts)
+unfoldable pub block_pieces : Tables → List Name → Block → List Piece
+block_pieces t ns b = lexeme (label_token (name_in ns b.name)) ∷ line_feed ∷ each_behind (indent ∷ []) (map (inst_pieces t ns) b.insts)
 
--- ---- what is kept
-
--- K and a space, or nothing
-abbrev pub kept_then_blank : KeptTexts → List Piece
-kept_then_blank [] = []
-kept_then_blank (w ∷ ws) = kept_pieces (w ∷ ws) ++ (blank ∷ [])
-
--- a space and K, or nothing
-abbrev pub blank_then_kept : KeptTexts → List Piece
-blank_then_kept [] = []
-blank_then_kept (w ∷ ws) = blank ∷ kept_pieces (w ∷ ws)
+-- ---- kept lines
 
 -- a kept line
 abbrev pub whole_line : KeptTexts → List Piece
@@ -272,33 +337,28 @@ whole_line xs = line_pieces xs ++ (line_feed ∷ [])
 unfoldable pub param_pieces : ParamTree → List Piece
 param_pieces p = type_pieces p.ty ++ (blank_then_kept p.kept ++ (blank ∷ lexeme (local_token p.name) ∷ []))
 
--- `...`, behind a comma where there is a parameter
-abbrev pub dots_pieces : List ParamTree → List Piece
-dots_pieces [] = dots ∷ []
-dots_pieces (p ∷ ps) = comma ∷ blank ∷ dots ∷ []
-
 -- T K %name, .. [, ...]
-abbrev pub params_pieces : FunctionTree → List Piece
-params_pieces f = with_commas (map param_pieces f.params) ++ (if f.varargs then dots_pieces f.params else [])
+abbrev pub params_pieces : List ParamTree → Bool → List Piece
+params_pieces params varargs = with_commas (map param_pieces params) ++ (if varargs then dots_pieces (length params) else [])
 
 -- the word with which a function begins, declared where it has no block
-abbrev pub function_word : List BlockTree → List ℕ
+abbrev pub function_word : {A : Type 0} → List A → List ℕ
 function_word [] = codes "declare"
 function_word (b ∷ bs) = codes "define"
 
 -- define K R @name(T K %name, ..) K
-unfoldable pub head_pieces : FunctionTree → List Piece
+unfoldable pub head_pieces : Function → List Piece
 head_pieces f =
-    word (function_word f.body) ∷ blank ∷ (kept_then_blank f.before ++ (type_pieces f.ret ++ (blank ∷ lexeme (global_token f.name) ∷ left_paren ∷ (params_pieces f ++ (right_paren ∷ blank_then_kept f.after)))))
+    word (function_word f.body) ∷ blank ∷ (kept_then_blank f.before ++ (type_pieces f.ret ++ (blank ∷ lexeme (global_token f.name) ∷ left_paren ∷ (params_pieces (map (param_in f.names) f.params) f.varargs ++ (right_paren ∷ blank_then_kept f.after)))))
 
 -- the blocks with empty lines between them in braces, the last on a line of its own; without a block nothing but the line's end
-abbrev pub body_pieces : List BlockTree → List Piece
-body_pieces [] = line_feed ∷ []
-body_pieces (b ∷ bs) = blank ∷ left_brace ∷ line_feed ∷ (separated (line_feed ∷ []) (map block_pieces (b ∷ bs)) ++ (right_brace ∷ line_feed ∷ []))
+abbrev pub body_pieces : Tables → List Name → List Block → List Piece
+body_pieces t ns [] = line_feed ∷ []
+body_pieces t ns (b ∷ bs) = blank ∷ left_brace ∷ line_feed ∷ (separated (line_feed ∷ []) (map (block_pieces t ns) (b ∷ bs)) ++ (right_brace ∷ line_feed ∷ []))
 
 -- the head, and what stands behind it
-unfoldable pub function_pieces : FunctionTree → List Piece
-function_pieces f = head_pieces f ++ body_pieces f.body
+unfoldable pub function_pieces : Tables → Function → List Piece
+function_pieces t f = head_pieces f ++ body_pieces t f.names f.body
 
 -- an empty line, behind a text that isn't empty
 abbrev pub parting : List ℕ → List Piece
@@ -377,4 +437,4 @@ front_pieces m = flat_map head_line_pieces m.head ++ (flat_map (type_name_pieces
 
 -- behind these the functions, and the lines of the tail
 unfoldable pub module_pieces : Module → List Piece
-module_pieces m = front_pieces m ++ (functions_behind (text_of (front_pieces m)) (map function_pieces (map tree_of_function m.functions)) ++ flat_map whole_line m.tail)
+module_pieces m = front_pieces m ++ (functions_behind (text_of (front_pieces m)) (map (function_pieces (tables_of m)) m.functions) ++ flat_map whole_line m.tail)

@@ -3,13 +3,13 @@
 ghost use Rattle.std.specs.Prelude.{◌≡◌, ◌<◌, ◌++◌, ◌∷◌, [], suc, map, length, OnOk};
 ghost use Rattle.std.specs.List.{AllByRecursion};
 ghost use Rattle.text_lex.specs.Layout.{text_of};
-ghost use Rattle.ir_types.specs.Denotes.{name_in, operand_in};
+ghost use Rattle.ir_types.specs.Denotes.{name_in, tables_of, operand_in};
 ghost use Rattle.ir_shape.specs.Shape.{IsOneOf, widths, IsName, IsBelow, IsTyped};
 ghost use Rattle.type_printer.specs.Pieces.{with_commas, each_behind};
 ghost use Rattle.ir_printer.specs.Print.{target_pieces, targets_pieces, entry_pieces, entries_of, before_case, case_pieces, cases_of, switch_pieces};
 
 use crate::value::{put_comma, put_operand, put_signed};
-use ir_types::{Names, Operand, Ty, ValueId};
+use ir_types::{Module, Names, Operand, Ty, ValueId};
 use std::alloc::AllocError;
 use type_printer::types::{put_local, put_width};
 
@@ -42,18 +42,19 @@ pub(crate) fn put_targets(
 #[tactic(auto, using(type_printer::proofs::Appended::text_of_both, std::proofs::lemmas::Grind::common_steps))]
 fn put_entry(
     out: &mut Vec<u8>,
+    m: &Module,
     names: &Names,
     ty: Ty,
     operand: &Operand,
     label: ValueId,
 ) -> Result<(), AllocError>
-    requires operand { IsTyped ty (operand_in names.now operand.now) }
+    requires operand { IsTyped ty (operand_in (tables_of m.now) names.now operand.now) }
     requires label { IsName (name_in names.now label) }
     ensures { OnOk result (out.new.items ≡ out.old.items
-        ++ text_of (entry_pieces ty (operand_in names.now operand.now) (name_in names.now label))) }
+        ++ text_of (entry_pieces ty (operand_in (tables_of m.now) names.now operand.now) (name_in names.now label))) }
 {
     out.extend_from_slice(b"[ ")?;
-    put_operand(out, names, ty, operand)?;
+    put_operand(out, m, names, ty, operand)?;
     out.extend_from_slice(b", ")?;
     put_local(out, names, label)?;
     out.extend_from_slice(b" ]")
@@ -62,21 +63,22 @@ fn put_entry(
 /// Appends the entries of a phi with commas between them.
 pub(crate) fn put_entries(
     out: &mut Vec<u8>,
+    m: &Module,
     names: &Names,
     ty: Ty,
     operands: &[Operand],
     labels: &[ValueId],
 ) -> Result<(), AllocError>
-    requires operands { AllByRecursion (IsTyped ty) (map (operand_in names.now) operands.now) }
+    requires operands { AllByRecursion (IsTyped ty) (map (operand_in (tables_of m.now) names.now) operands.now) }
     requires labels { AllByRecursion IsName (map (name_in names.now) labels.now) }
     requires pairs { length operands.now ≡ length labels.now }
     ensures { OnOk result (out.new.items ≡ out.old.items
         ++ text_of (with_commas (entries_of ty
-        (map (operand_in names.now) operands.now) (map (name_in names.now) labels.now)))) }
+        (map (operand_in (tables_of m.now) names.now) operands.now) (map (name_in names.now) labels.now)))) }
 {
     for (place, operand) in operands.iter().enumerate() {
         put_comma(out, place)?;
-        put_entry(out, names, ty, operand, labels[place])?;
+        put_entry(out, m, names, ty, operand, labels[place])?;
     }
     Ok(())
 }

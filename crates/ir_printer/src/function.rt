@@ -3,55 +3,78 @@
 ghost use Rattle.std.specs.Prelude.{◌≡◌, ◌++◌, ◌∷◌, [], map, codes, OnOk, if◌then◌else◌};
 ghost use Rattle.std.specs.List.{AllByRecursion};
 ghost use Rattle.text_lex.specs.Layout.{text_of};
-ghost use Rattle.ir_types.specs.Denotes.{inst_in, block_in, param_in, tree_of_function};
+ghost use Rattle.ir_types.specs.Types.{AreTypes};
+ghost use Rattle.ir_types.specs.Denotes.{type_names_of, tables_of, inst_in, block_in, param_in, function_in};
 ghost use Rattle.ir_shape.specs.Shape.{IsInst, IsBlock, IsParam, IsFunction};
 ghost use Rattle.type_printer.specs.Pieces.{line_feed, indent, each_behind, separated, with_commas};
-ghost use Rattle.ir_printer.specs.Print.{inst_pieces, block_pieces, param_pieces, dots_pieces, params_pieces, function_word, head_pieces, body_pieces, function_pieces, parting, functions_behind};
+ghost use Rattle.ir_printer.specs.Print.{inst_pieces, block_pieces, param_pieces, params_pieces, function_word, head_pieces, body_pieces, function_pieces, parting, functions_behind};
 
+use crate::call::put_dots;
 use crate::kept::{put_blank_then_kept, put_kept_then_blank};
 use crate::line::put_inst;
-use ir_types::{Block, Function, Inst, Names, Param};
-use std::alloc::AllocError;
+use ir_types::{Block, Function, Inst, Module, Names, Param};
+use std::alloc::{AllocError, Global};
 use type_printer::name::put_name;
 use type_printer::types::{put_local, put_type};
 
-fn put_insts(out: &mut Vec<u8>, names: &Names, insts: &[Inst]) -> Result<(), AllocError>
-    requires { AllByRecursion IsInst (map (inst_in names.now) insts.now) }
+fn put_insts(
+    alloc: Global,
+    out: &mut Vec<u8>,
+    m: &Module,
+    names: &Names,
+    insts: &[Inst],
+) -> Result<(), AllocError>
+    requires types { AreTypes (type_names_of m.now) 0 m.now.types }
+    requires known { AllByRecursion IsInst (map (inst_in (tables_of m.now) names.now) insts.now) }
     ensures { OnOk result (out.new.items ≡ out.old.items
         ++ text_of (each_behind (indent ∷ [])
-        (map inst_pieces (map (inst_in names.now) insts.now)))) }
+        (map (inst_pieces (tables_of m.now) names.now) insts.now))) }
 {
     for inst in insts {
         out.extend_from_slice(b"  ")?;
-        put_inst(out, names, inst)?;
+        put_inst(alloc, out, m, names, inst)?;
     }
     Ok(())
 }
 
 #[tactic(auto, unfolding(crate::specs::Print::block_pieces))]
-fn put_block(out: &mut Vec<u8>, names: &Names, block: &Block) -> Result<(), AllocError>
-    requires { IsBlock (block_in names.now block.now) }
+fn put_block(
+    alloc: Global,
+    out: &mut Vec<u8>,
+    m: &Module,
+    names: &Names,
+    block: &Block,
+) -> Result<(), AllocError>
+    requires types { AreTypes (type_names_of m.now) 0 m.now.types }
+    requires known { IsBlock (block_in (tables_of m.now) names.now block.now) }
     ensures { OnOk result (out.new.items ≡ out.old.items
-        ++ text_of (block_pieces (block_in names.now block.now))) }
+        ++ text_of (block_pieces (tables_of m.now) names.now block.now)) }
 {
     put_name(out, names.get(block.name))?;
     out.extend_from_slice(b":\n")?;
-    put_insts(out, names, block.insts.as_slice())
+    put_insts(alloc, out, m, names, block.insts.as_slice())
 }
 
-fn put_blocks(out: &mut Vec<u8>, names: &Names, blocks: &[Block]) -> Result<(), AllocError>
-    requires { AllByRecursion IsBlock (map (block_in names.now) blocks.now) }
+fn put_blocks(
+    alloc: Global,
+    out: &mut Vec<u8>,
+    m: &Module,
+    names: &Names,
+    blocks: &[Block],
+) -> Result<(), AllocError>
+    requires types { AreTypes (type_names_of m.now) 0 m.now.types }
+    requires known { AllByRecursion IsBlock (map (block_in (tables_of m.now) names.now) blocks.now) }
     ensures { OnOk result (out.new.items ≡ out.old.items
         ++ text_of (separated (line_feed ∷ [])
-        (map block_pieces (map (block_in names.now) blocks.now)))) }
+        (map (block_pieces (tables_of m.now) names.now) blocks.now))) }
 {
     let [first, rest @ ..] = blocks else {
         return Ok(());
     };
-    put_block(out, names, first)?;
+    put_block(alloc, out, m, names, first)?;
     for block in rest {
         out.push(b'\n')?;
-        put_block(out, names, block)?;
+        put_block(alloc, out, m, names, block)?;
     }
     Ok(())
 }
@@ -84,32 +107,23 @@ fn put_params(out: &mut Vec<u8>, names: &Names, params: &[Param]) -> Result<(), 
     Ok(())
 }
 
-// Appends the dots for further arguments.
-fn put_dots(out: &mut Vec<u8>, function: &Function) -> Result<(), AllocError>
-    ensures { OnOk result (out.new.items ≡ out.old.items
-        ++ text_of (dots_pieces (tree_of_function function.now).params)) }
-{
-    if !function.params.is_empty() {
-        out.extend_from_slice(b", ")?;
-    }
-    out.extend_from_slice(b"...")
-}
-
 // Appends what stands between the parentheses behind a function's name.
 fn put_all_params(out: &mut Vec<u8>, function: &Function) -> Result<(), AllocError>
-    requires { IsFunction (tree_of_function function.now) }
+    requires { AllByRecursion IsParam
+        (map (param_in function.now.names) function.now.params) }
     ensures { OnOk result (out.new.items ≡ out.old.items
-        ++ text_of (params_pieces (tree_of_function function.now))) }
+        ++ text_of (params_pieces (map (param_in function.now.names) function.now.params)
+        function.now.varargs)) }
 {
     put_params(out, &function.names, function.params.as_slice())?;
     if function.varargs {
-        put_dots(out, function)?;
+        put_dots(out, function.params.len())?;
     }
     Ok(())
 }
 
 fn word_of_function(function: &Function) -> &'static [u8]
-    ensures { result.now ≡ function_word (tree_of_function function.now).body }
+    ensures { result.now ≡ function_word function.now.body }
 {
     if function.body.is_empty() {
         b"declare"
@@ -120,9 +134,10 @@ fn word_of_function(function: &Function) -> &'static [u8]
 
 // Appends what stands before the blocks.
 fn put_head(out: &mut Vec<u8>, function: &Function) -> Result<(), AllocError>
-    requires { IsFunction (tree_of_function function.now) }
+    requires { AllByRecursion IsParam
+        (map (param_in function.now.names) function.now.params) }
     ensures { OnOk result (out.new.items ≡ out.old.items
-        ++ text_of (head_pieces (tree_of_function function.now))) }
+        ++ text_of (head_pieces function.now)) }
 {
     out.extend_from_slice(word_of_function(function))?;
     out.push(b' ')?;
@@ -138,28 +153,41 @@ fn put_head(out: &mut Vec<u8>, function: &Function) -> Result<(), AllocError>
 }
 
 // Appends the blocks in braces, or the end of a declaration's line.
-fn put_body(out: &mut Vec<u8>, names: &Names, blocks: &[Block]) -> Result<(), AllocError>
-    requires { AllByRecursion IsBlock (map (block_in names.now) blocks.now) }
+fn put_body(
+    alloc: Global,
+    out: &mut Vec<u8>,
+    m: &Module,
+    names: &Names,
+    blocks: &[Block],
+) -> Result<(), AllocError>
+    requires types { AreTypes (type_names_of m.now) 0 m.now.types }
+    requires known { AllByRecursion IsBlock (map (block_in (tables_of m.now) names.now) blocks.now) }
     ensures { OnOk result (out.new.items ≡ out.old.items
-        ++ text_of (body_pieces (map (block_in names.now) blocks.now))) }
+        ++ text_of (body_pieces (tables_of m.now) names.now blocks.now)) }
 {
     if blocks.is_empty() {
         return out.extend_from_slice(b"\n");
     }
     out.extend_from_slice(b" {\n")?;
-    put_blocks(out, names, blocks)?;
+    put_blocks(alloc, out, m, names, blocks)?;
     out.extend_from_slice(b"}\n")?;
     Ok(())
 }
 
 #[tactic(auto, unfolding(crate::specs::Print::function_pieces), using(type_printer::proofs::Appended::text_of_both, std::proofs::lemmas::Grind::common_steps))]
-fn put_function(out: &mut Vec<u8>, function: &Function) -> Result<(), AllocError>
-    requires { IsFunction (tree_of_function function.now) }
+fn put_function(
+    alloc: Global,
+    out: &mut Vec<u8>,
+    m: &Module,
+    function: &Function,
+) -> Result<(), AllocError>
+    requires types { AreTypes (type_names_of m.now) 0 m.now.types }
+    requires known { IsFunction (function_in (tables_of m.now) function.now) }
     ensures { OnOk result (out.new.items ≡ out.old.items
-        ++ text_of (function_pieces (tree_of_function function.now))) }
+        ++ text_of (function_pieces (tables_of m.now) function.now)) }
 {
     put_head(out, function)?;
-    put_body(out, &function.names, function.body.as_slice())
+    put_body(alloc, out, m, &function.names, function.body.as_slice())
 }
 
 // Appends an empty line where something is printed already.
@@ -172,21 +200,28 @@ fn part_from(out: &mut Vec<u8>) -> Result<(), AllocError>
     Ok(())
 }
 
-/// Appends functions, each behind an empty line, but for the first where nothing is printed before it.
-pub(crate) fn put_functions(out: &mut Vec<u8>, functions: &[Function]) -> Result<(), AllocError>
-    requires { AllByRecursion IsFunction (map tree_of_function functions.now) }
+/// Appends functions of a module, each behind an empty line, but for the first where nothing is printed before it.
+pub(crate) fn put_functions(
+    alloc: Global,
+    out: &mut Vec<u8>,
+    m: &Module,
+    functions: &[Function],
+) -> Result<(), AllocError>
+    requires types { AreTypes (type_names_of m.now) 0 m.now.types }
+    requires known { AllByRecursion IsFunction
+        (map (function_in (tables_of m.now)) functions.now) }
     ensures { OnOk result (out.new.items ≡ out.old.items
         ++ text_of (functions_behind out.old.items
-        (map function_pieces (map tree_of_function functions.now)))) }
+        (map (function_pieces (tables_of m.now)) functions.now))) }
 {
     let [first, rest @ ..] = functions else {
         return Ok(());
     };
     part_from(out)?;
-    put_function(out, first)?;
+    put_function(alloc, out, m, first)?;
     for function in rest {
         out.push(b'\n')?;
-        put_function(out, function)?;
+        put_function(alloc, out, m, function)?;
     }
     Ok(())
 }

@@ -77,8 +77,13 @@ pub(crate) fn put_lines(out: &mut Vec<u8>, lines: &[Kept]) -> Result<(), AllocEr
     Ok(())
 }
 
-// Appends the type at a place.
-fn put_type_at(alloc: Global, out: &mut Vec<u8>, m: &Module, id: TypeId) -> Result<(), AllocError>
+/// Appends the type at a place.
+pub(crate) fn put_type_at(
+    alloc: Global,
+    out: &mut Vec<u8>,
+    m: &Module,
+    id: TypeId,
+) -> Result<(), AllocError>
     requires types { AreTypes (type_names_of m.now) 0 m.now.types }
     requires place { id.0 < length m.now.types }
     ensures { OnOk result (out.new.items ≡ out.old.items ++ text_of (type_at m.now id)) }

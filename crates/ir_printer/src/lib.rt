@@ -7,11 +7,13 @@ ghost use Rattle.ir_types.specs.Reads.{Reads, IsReadable};
 ghost use Rattle.ir_printer.specs.Print.{front_pieces, module_pieces};
 
 mod branching;
+mod call;
 mod function;
 mod item;
 mod kept;
 mod line;
 mod opening;
+mod symbol;
 #[cfg(test)]
 mod tests;
 mod value;
@@ -38,7 +40,7 @@ fn put_front(alloc: Global, m: &Module, out: &mut Vec<u8>) -> Result<(), AllocEr
 /// # Errors
 ///
 /// Where there is no room for the text; then nothing is appended.
-#[tactic(auto, unfolding(crate::specs::Print::module_pieces), using(crate::proofs::Printed::readable_functions, crate::proofs::Printed::printed_reads, type_printer::proofs::Appended::text_of_both, std::proofs::lemmas::Grind::common_steps))]
+#[tactic(auto, unfolding(crate::specs::Print::module_pieces), using(crate::proofs::Printed::readable_functions, crate::proofs::Printed::readable_types, crate::proofs::Printed::printed_reads, type_printer::proofs::Appended::text_of_both, std::proofs::lemmas::Grind::common_steps))]
 pub fn print_module(alloc: Global, m: &Module, out: &mut Vec<u8>) -> Result<(), AllocError>
     requires { IsReadable m.now }
     ensures text { OnOk result (out.new.items ≡ out.old.items
@@ -48,7 +50,7 @@ pub fn print_module(alloc: Global, m: &Module, out: &mut Vec<u8>) -> Result<(), 
 {
     let mut text = Vec::new(alloc);
     put_front(alloc, m, &mut text)?;
-    put_functions(&mut text, m.functions.as_slice())?;
+    put_functions(alloc, &mut text, m, m.functions.as_slice())?;
     put_lines(&mut text, m.tail.as_slice())?;
     out.extend_from_slice(&text)
 }

@@ -1,65 +1,99 @@
 // Instructions, each on a line.
 
-ghost use Rattle.std.specs.Prelude.{◌≡◌, ◌<◌, ◌++◌, ◌∷◌, [], map, codes, OnOk};
+ghost use Rattle.std.specs.Prelude.{◌≡◌, ◌<◌, ◌++◌, ◌∷◌, [], map, codes, length, OnOk};
 ghost use Rattle.std.specs.Option.{option_map};
 ghost use Rattle.text_lex.specs.Layout.{text_of};
-ghost use Rattle.ir_types.specs.Denotes.{name_in, operand_in, inst_in};
+ghost use Rattle.ir_types.specs.Types.{AreTypes};
+ghost use Rattle.ir_types.specs.Denotes.{Tables, name_in, type_names_of, tables_of, operand_in, inst_in};
 ghost use Rattle.ir_shape.specs.Shape.{IsBody, IsResult, IsInst};
-ghost use Rattle.ir_printer.specs.Print.{operands_pieces, to_pieces, align_pieces, ending_pieces, result_pieces, inst_pieces};
+ghost use Rattle.ir_printer.specs.Print.{type_at, operands_pieces, to_pieces, align_pieces, ending_pieces, result_pieces, inst_pieces};
 
 use crate::branching::{put_entries, put_switch, put_targets};
-use crate::kept::put_kept_behind;
+use crate::call::{put_call, put_steps};
+use crate::item::put_type_at;
+use crate::kept::{put_blank_then_kept, put_kept_behind};
 use crate::opening::put_opening;
 use crate::value::{put_listed, put_typed};
-use ir_types::{Inst, InstKind, Names, Ty, ValueId};
-use std::alloc::AllocError;
+use ir_types::{Inst, InstKind, Module, Names, Ty, TypeId, ValueId};
+use std::alloc::{AllocError, Global};
 use type_printer::name::put_digits;
 use type_printer::types::{put_local, put_type};
 
-// Appends the operands of an instruction with their types.
-#[tactic(auto, using(crate::proofs::Operands::all_alike, type_printer::proofs::Appended::text_of_both, std::proofs::lemmas::Grind::common_steps))]
-fn put_operands_of(out: &mut Vec<u8>, names: &Names, inst: &Inst) -> Result<(), AllocError>
-    requires { IsBody (inst_in names.now inst.now) }
+// Appends a space and the memory type of a `getelementptr`, and a comma behind it.
+fn put_stepped_type(
+    alloc: Global,
+    out: &mut Vec<u8>,
+    m: &Module,
+    id: TypeId,
+) -> Result<(), AllocError>
+    requires types { AreTypes (type_names_of m.now) 0 m.now.types }
+    requires place { id.0 < length m.now.types }
     ensures { OnOk result (out.new.items ≡ out.old.items
-        ++ text_of (operands_pieces inst.now.kind inst.now.ty
-        (map (operand_in names.now) inst.now.args) (map (name_in names.now) inst.now.labels))) }
+        ++ 32 ∷ (text_of (type_at m.now id) ++ 44 ∷ [])) }
+{
+    out.push(b' ')?;
+    put_type_at(alloc, out, m, id)?;
+    out.push(b',')?;
+    Ok(())
+}
+
+// Appends the operands of an instruction with their types.
+#[tactic(auto, using(crate::proofs::Operands::all_alike, type_printer::proofs::MemoryPrinted::within_types, type_printer::proofs::Appended::text_of_both, std::proofs::lemmas::Grind::common_steps))]
+fn put_operands_of(
+    alloc: Global,
+    out: &mut Vec<u8>,
+    m: &Module,
+    names: &Names,
+    inst: &Inst,
+) -> Result<(), AllocError>
+    requires types { AreTypes (type_names_of m.now) 0 m.now.types }
+    requires known { IsBody (inst_in (tables_of m.now) names.now inst.now) }
+    ensures { OnOk result (out.new.items ≡ out.old.items
+        ++ text_of (operands_pieces (tables_of m.now) inst.now.kind inst.now.ty
+        (map (operand_in (tables_of m.now) names.now) inst.now.args)
+        (map (name_in names.now) inst.now.labels))) }
 {
     let ty = inst.ty;
     let args = inst.args.as_slice();
     match &inst.kind {
-        InstKind::Binary(..) => put_typed(out, names, ty, args),
-        InstKind::Compare(_, of) => put_typed(out, names, *of, args),
+        InstKind::Binary(..) => put_typed(out, m, names, ty, args),
+        InstKind::Compare(_, of) => put_typed(out, m, names, *of, args),
         InstKind::Select(condition, last) => {
-            put_listed(out, names, &[*condition, ty, *last], args)
+            put_listed(out, m, names, &[*condition, ty, *last], args)
         }
-        InstKind::Freeze => put_listed(out, names, &[ty], args),
+        InstKind::Freeze => put_listed(out, m, names, &[ty], args),
         InstKind::Trunc(from, ..) | InstKind::Zext(from, _) | InstKind::Sext(from) => {
-            put_listed(out, names, &[*from], args)
+            put_listed(out, m, names, &[*from], args)
         }
-        InstKind::PtrToInt => put_listed(out, names, &[Ty::Ptr], args),
+        InstKind::PtrToInt => put_listed(out, m, names, &[Ty::Ptr], args),
         InstKind::Phi => {
             out.push(b' ')?;
             put_type(out, ty)?;
             out.push(b' ')?;
-            put_entries(out, names, ty, args, inst.labels.as_slice())
+            put_entries(out, m, names, ty, args, inst.labels.as_slice())
+        }
+        InstKind::Offset(id, widths, ..) => {
+            put_stepped_type(alloc, out, m, *id)?;
+            put_steps(out, m, names, widths.as_slice(), args)
         }
         InstKind::Load(_) => {
             out.push(b' ')?;
             put_type(out, ty)?;
             out.push(b',')?;
-            put_listed(out, names, &[Ty::Ptr], args)
+            put_listed(out, m, names, &[Ty::Ptr], args)
         }
-        InstKind::Store(of, _) => put_listed(out, names, &[*of, Ty::Ptr], args),
-        InstKind::Extract(of, width) => put_listed(out, names, &[*of, Ty::Int(*width)], args),
+        InstKind::Store(of, _) => put_listed(out, m, names, &[*of, Ty::Ptr], args),
+        InstKind::Call(callee) => put_call(out, m, names, ty, callee, args),
+        InstKind::Extract(of, width) => put_listed(out, m, names, &[*of, Ty::Int(*width)], args),
         InstKind::Insert(element, width) => {
-            put_listed(out, names, &[ty, *element, Ty::Int(*width)], args)
+            put_listed(out, m, names, &[ty, *element, Ty::Int(*width)], args)
         }
         InstKind::Shuffle(one, other, mask) => {
-            put_listed(out, names, &[*one, *other, *mask], args)
+            put_listed(out, m, names, &[*one, *other, *mask], args)
         }
-        InstKind::Branch => put_listed(out, names, &[Ty::Int(1)], args),
-        InstKind::Switch(width, _) => put_listed(out, names, &[Ty::Int(*width)], args),
-        InstKind::Return(of) => put_listed(out, names, &[*of], args),
+        InstKind::Branch => put_listed(out, m, names, &[Ty::Int(1)], args),
+        InstKind::Switch(width, _) => put_listed(out, m, names, &[Ty::Int(*width)], args),
+        InstKind::Return(of) => put_listed(out, m, names, &[*of], args),
         InstKind::ReturnVoid => out.extend_from_slice(b" void"),
         InstKind::Jump | InstKind::Unreachable => Ok(()),
     }
@@ -79,10 +113,10 @@ fn put_align(out: &mut Vec<u8>, align: u64) -> Result<(), AllocError>
     put_digits(out, align)
 }
 
-// Appends the type of a cast, an alignment, or labels.
+// Appends the type of a cast, an alignment, what is kept behind a call, or labels.
 #[tactic(auto, using(crate::proofs::Operands::first_type, type_printer::proofs::Appended::text_of_both, std::proofs::lemmas::Grind::common_steps))]
 fn put_ending(out: &mut Vec<u8>, names: &Names, inst: &Inst) -> Result<(), AllocError>
-    requires { IsBody (inst_in names.now inst.now) }
+    requires { (tables : Tables) × IsBody (inst_in tables names.now inst.now) }
     ensures { OnOk result (out.new.items ≡ out.old.items
         ++ text_of (ending_pieces inst.now.kind inst.now.ty
         (map (name_in names.now) inst.now.labels))) }
@@ -93,6 +127,7 @@ fn put_ending(out: &mut Vec<u8>, names: &Names, inst: &Inst) -> Result<(), Alloc
             put_to(out, inst.ty)
         }
         InstKind::Load(align) | InstKind::Store(_, align) => put_align(out, *align),
+        InstKind::Call(callee) => put_blank_then_kept(out, &callee.after),
         InstKind::Jump => {
             out.push(b' ')?;
             put_targets(out, names, labels)
@@ -109,6 +144,7 @@ fn put_ending(out: &mut Vec<u8>, names: &Names, inst: &Inst) -> Result<(), Alloc
         | InstKind::Select(..)
         | InstKind::Freeze
         | InstKind::Phi
+        | InstKind::Offset(..)
         | InstKind::Extract(..)
         | InstKind::Insert(..)
         | InstKind::Shuffle(..)
@@ -138,14 +174,21 @@ fn put_result(
 
 /// Appends an instruction and a line feed.
 #[tactic(auto, using(crate::proofs::Appended::inst_text, std::proofs::lemmas::Grind::common_steps))]
-pub(crate) fn put_inst(out: &mut Vec<u8>, names: &Names, inst: &Inst) -> Result<(), AllocError>
-    requires { IsInst (inst_in names.now inst.now) }
+pub(crate) fn put_inst(
+    alloc: Global,
+    out: &mut Vec<u8>,
+    m: &Module,
+    names: &Names,
+    inst: &Inst,
+) -> Result<(), AllocError>
+    requires types { AreTypes (type_names_of m.now) 0 m.now.types }
+    requires known { IsInst (inst_in (tables_of m.now) names.now inst.now) }
     ensures { OnOk result (out.new.items ≡ out.old.items
-        ++ text_of (inst_pieces (inst_in names.now inst.now))) }
+        ++ text_of (inst_pieces (tables_of m.now) names.now inst.now)) }
 {
     put_result(out, names, inst.ty, inst.result)?;
     put_opening(out, &inst.kind)?;
-    put_operands_of(out, names, inst)?;
+    put_operands_of(alloc, out, m, names, inst)?;
     put_ending(out, names, inst)?;
     put_kept_behind(out, &inst.kept)?;
     out.push(b'\n')?;

@@ -2,9 +2,9 @@
 
 ghost use Rattle.std.specs.Prelude.{◌≡◌, ◌++◌, ◌∷◌, [], codes, OnOk};
 ghost use Rattle.text_lex.specs.Layout.{text_of};
-ghost use Rattle.ir_printer.specs.Print.{operator_word, predicate_word, flag_pieces, wrap_pieces, flags_pieces, opening_pieces};
+ghost use Rattle.ir_printer.specs.Print.{operator_word, predicate_word, flag_pieces, wrap_pieces, flags_pieces, offset_flags, call_words, opening_pieces};
 
-use ir_types::{BinOp, Flags, InstKind, Pred};
+use ir_types::{BinOp, Flags, InstKind, Pred, TailKind};
 use std::alloc::AllocError;
 
 #[tactic(auto, unfolding(crate::specs::Print::operator_word))]
@@ -74,6 +74,33 @@ fn put_flags(out: &mut Vec<u8>, flags: Flags) -> Result<(), AllocError>
     put_flag(out, flags.disjoint, b"disjoint")
 }
 
+fn put_offset_flags(
+    out: &mut Vec<u8>,
+    inbounds: bool,
+    nuw: bool,
+    nusw: bool,
+) -> Result<(), AllocError>
+    ensures { OnOk result (out.new.items ≡ out.old.items
+        ++ text_of (offset_flags inbounds nuw nusw)) }
+{
+    put_flag(out, inbounds, b"inbounds")?;
+    put_flag(out, nusw, b"nusw")?;
+    put_flag(out, nuw, b"nuw")?;
+    Ok(())
+}
+
+// Appends `call`, and the word before it.
+fn put_call_words(out: &mut Vec<u8>, tail: TailKind) -> Result<(), AllocError>
+    ensures { OnOk result (out.new.items ≡ out.old.items ++ text_of (call_words tail)) }
+{
+    match tail {
+        TailKind::Unmarked => out.extend_from_slice(b"call"),
+        TailKind::Tail => out.extend_from_slice(b"tail call"),
+        TailKind::MustTail => out.extend_from_slice(b"musttail call"),
+        TailKind::NoTail => out.extend_from_slice(b"notail call"),
+    }
+}
+
 /// Appends the word of an instruction, with its flags or its predicate.
 pub(crate) fn put_opening(out: &mut Vec<u8>, kind: &InstKind) -> Result<(), AllocError>
     ensures { OnOk result (out.new.items ≡ out.old.items ++ text_of (opening_pieces kind.now)) }
@@ -100,8 +127,13 @@ pub(crate) fn put_opening(out: &mut Vec<u8>, kind: &InstKind) -> Result<(), Allo
         InstKind::Sext(_) => out.extend_from_slice(b"sext"),
         InstKind::PtrToInt => out.extend_from_slice(b"ptrtoint"),
         InstKind::Phi => out.extend_from_slice(b"phi"),
+        InstKind::Offset(_, _, inbounds, nuw, nusw) => {
+            out.extend_from_slice(b"getelementptr")?;
+            put_offset_flags(out, *inbounds, *nuw, *nusw)
+        }
         InstKind::Load(_) => out.extend_from_slice(b"load"),
         InstKind::Store(..) => out.extend_from_slice(b"store"),
+        InstKind::Call(callee) => put_call_words(out, callee.tail),
         InstKind::Extract(..) => out.extend_from_slice(b"extractelement"),
         InstKind::Insert(..) => out.extend_from_slice(b"insertelement"),
         InstKind::Shuffle(..) => out.extend_from_slice(b"shufflevector"),

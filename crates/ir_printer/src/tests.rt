@@ -3,7 +3,8 @@
 use crate::kept::{put_blank_then_kept, put_kept_behind, put_kept_then_blank, put_line};
 use crate::opening::put_opening;
 use crate::value::put_number;
-use ir_types::{BinOp, Flags, InstKind, Kept, Pred, Ty};
+use ir_types::{BinOp, Callee, Flags, InstKind, Kept, Name, Pred, TailKind, Ty, TypeId};
+use lists::Items;
 use std::alloc::{AllocError, Global};
 use std::test::Fail;
 
@@ -50,6 +51,17 @@ fn wide_numbers(rt: HostRuntime) -> Result<(), Fail> {
     Ok(())
 }
 
+fn callee_of(alloc: Global, tail: TailKind) -> Result<Callee, AllocError> {
+    Ok(Callee {
+        tail,
+        before: Kept::new(alloc),
+        signature: None,
+        name: Name::Number(7),
+        actuals: Items::from_vec(Vec::new(alloc)),
+        after: Kept::new(alloc),
+    })
+}
+
 #[test]
 fn openings(rt: HostRuntime) -> Result<(), Fail> {
     let none = Flags {
@@ -83,6 +95,8 @@ fn openings(rt: HostRuntime) -> Result<(), Fail> {
         InstKind::Compare(Pred::Sle, Ty::Ptr),
         InstKind::Trunc(Ty::Int(32), false, true),
         InstKind::Zext(Ty::Int(8), true),
+        InstKind::Offset(TypeId(0), Items::from_vec(Vec::new(rt.alloc())), true, true, true),
+        InstKind::Call(callee_of(rt.alloc(), TailKind::MustTail)?),
         InstKind::Unreachable,
     ];
     let mut out = Vec::new(rt.alloc());
@@ -92,7 +106,7 @@ fn openings(rt: HostRuntime) -> Result<(), Fail> {
     }
     assert_eq!(rt;
         out.as_slice(),
-        b"add nuw nsw\nlshr exact\nor disjoint\nxor\nicmp sle\ntrunc nsw\nzext nneg\nunreachable\n".as_slice()
+        b"add nuw nsw\nlshr exact\nor disjoint\nxor\nicmp sle\ntrunc nsw\nzext nneg\ngetelementptr inbounds nusw nuw\nmusttail call\nunreachable\n".as_slice()
     );
     Ok(())
 }

@@ -4,13 +4,14 @@ ghost use Rattle.std.specs.Prelude.{◌≡◌, ◌<◌, ◌≤◌, ◌^◌, ◌+
 ghost use Rattle.std.specs.List.{AllByRecursion, AllZip};
 ghost use Rattle.text_lex.specs.Layout.{text_of};
 ghost use Rattle.ir_types.specs.Grammar.{width_of};
-ghost use Rattle.ir_types.specs.Denotes.{name_in, operand_in};
+ghost use Rattle.ir_types.specs.Denotes.{name_in, tables_of, operand_in};
 ghost use Rattle.ir_shape.specs.Shape.{IsName, IsType, IsLane, IsOperand, IsTyped};
 ghost use Rattle.type_printer.specs.Texts.{signed_text};
 ghost use Rattle.type_printer.specs.Pieces.{with_commas};
 ghost use Rattle.ir_printer.specs.Print.{comma_before, number_token, lane_pieces, lanes_pieces, operand_pieces, typed_operand, typed_pieces, each_typed, listed_pieces};
 
-use ir_types::{Names, Operand, Ty};
+use crate::symbol::put_global;
+use ir_types::{Module, Names, Operand, Ty};
 use std::alloc::AllocError;
 use type_printer::name::put_digits;
 use type_printer::types::{put_local, put_type};
@@ -101,13 +102,14 @@ fn put_lanes(out: &mut Vec<u8>, ty: Ty, lanes: &[Option<u64>]) -> Result<(), All
 /// Appends an operand at its type.
 pub(crate) fn put_operand(
     out: &mut Vec<u8>,
+    m: &Module,
     names: &Names,
     ty: Ty,
     operand: &Operand,
 ) -> Result<(), AllocError>
-    requires { IsTyped ty (operand_in names.now operand.now) }
+    requires { IsTyped ty (operand_in (tables_of m.now) names.now operand.now) }
     ensures { OnOk result (out.new.items ≡ out.old.items
-        ++ text_of (operand_pieces ty (operand_in names.now operand.now))) }
+        ++ text_of (operand_pieces ty (operand_in (tables_of m.now) names.now operand.now))) }
 {
     match operand {
         Operand::Local(name) => put_local(out, names, *name),
@@ -118,23 +120,25 @@ pub(crate) fn put_operand(
             Ty::Vector(_, width) => put_lanes(out, Ty::Int(width), lanes.as_slice()),
             Ty::Int(_) | Ty::Ptr | Ty::Void => unreachable!(),
         },
+        Operand::Global(symbol, bytes) => put_global(out, m, *symbol, *bytes),
     }
 }
 
 fn put_operands(
     out: &mut Vec<u8>,
+    m: &Module,
     names: &Names,
     ty: Ty,
     operands: &[Operand],
 ) -> Result<(), AllocError>
-    requires { AllByRecursion (IsTyped ty) (map (operand_in names.now) operands.now) }
+    requires { AllByRecursion (IsTyped ty) (map (operand_in (tables_of m.now) names.now) operands.now) }
     ensures { OnOk result (out.new.items ≡ out.old.items
         ++ text_of (with_commas
-        (map (operand_pieces ty) (map (operand_in names.now) operands.now)))) }
+        (map (operand_pieces ty) (map (operand_in (tables_of m.now) names.now) operands.now)))) }
 {
     for (place, operand) in operands.iter().enumerate() {
         put_comma(out, place)?;
-        put_operand(out, names, ty, operand)?;
+        put_operand(out, m, names, ty, operand)?;
     }
     Ok(())
 }
@@ -143,51 +147,54 @@ fn put_operands(
 #[tactic(auto, using(crate::proofs::Operands::two_alike, type_printer::proofs::Appended::text_of_both, std::proofs::lemmas::Grind::common_steps))]
 pub(crate) fn put_typed(
     out: &mut Vec<u8>,
+    m: &Module,
     names: &Names,
     ty: Ty,
     operands: &[Operand],
 ) -> Result<(), AllocError>
-    requires { AllZip IsTyped (ty ∷ ty ∷ []) (map (operand_in names.now) operands.now) }
+    requires { AllZip IsTyped (ty ∷ ty ∷ []) (map (operand_in (tables_of m.now) names.now) operands.now) }
     ensures { OnOk result (out.new.items ≡ out.old.items
-        ++ text_of (typed_pieces ty (map (operand_in names.now) operands.now))) }
+        ++ text_of (typed_pieces ty (map (operand_in (tables_of m.now) names.now) operands.now))) }
 {
     out.push(b' ')?;
     put_type(out, ty)?;
     out.push(b' ')?;
-    put_operands(out, names, ty, operands)
+    put_operands(out, m, names, ty, operands)
 }
 
-// Appends `T V`.
+/// Appends `T V`.
 #[tactic(auto, using(type_printer::proofs::Appended::text_of_both, std::proofs::lemmas::Grind::common_steps))]
-fn put_typed_operand(
+pub(crate) fn put_typed_operand(
     out: &mut Vec<u8>,
+    m: &Module,
     names: &Names,
     ty: Ty,
     operand: &Operand,
 ) -> Result<(), AllocError>
-    requires { IsTyped ty (operand_in names.now operand.now) }
+    requires { IsTyped ty (operand_in (tables_of m.now) names.now operand.now) }
     ensures { OnOk result (out.new.items ≡ out.old.items
-        ++ text_of (typed_operand ty (operand_in names.now operand.now))) }
+        ++ text_of (typed_operand ty (operand_in (tables_of m.now) names.now operand.now))) }
 {
     put_type(out, ty)?;
     out.push(b' ')?;
-    put_operand(out, names, ty, operand)
+    put_operand(out, m, names, ty, operand)
 }
 
 fn put_each_typed(
     out: &mut Vec<u8>,
+    m: &Module,
     names: &Names,
     types: &[Ty],
     operands: &[Operand],
 ) -> Result<(), AllocError>
-    requires { AllZip IsTyped types.now (map (operand_in names.now) operands.now) }
+    requires { AllZip IsTyped types.now (map (operand_in (tables_of m.now) names.now) operands.now) }
     ensures { OnOk result (out.new.items ≡ out.old.items
         ++ text_of (with_commas
-        (each_typed types.now (map (operand_in names.now) operands.now)))) }
+        (each_typed types.now (map (operand_in (tables_of m.now) names.now) operands.now)))) }
 {
     for (place, operand) in operands.iter().enumerate() {
         put_comma(out, place)?;
-        put_typed_operand(out, names, types[place], operand)?;
+        put_typed_operand(out, m, names, types[place], operand)?;
     }
     Ok(())
 }
@@ -195,14 +202,15 @@ fn put_each_typed(
 /// Appends ` T V, T V`.
 pub(crate) fn put_listed(
     out: &mut Vec<u8>,
+    m: &Module,
     names: &Names,
     types: &[Ty],
     operands: &[Operand],
 ) -> Result<(), AllocError>
-    requires { AllZip IsTyped types.now (map (operand_in names.now) operands.now) }
+    requires { AllZip IsTyped types.now (map (operand_in (tables_of m.now) names.now) operands.now) }
     ensures { OnOk result (out.new.items ≡ out.old.items
-        ++ text_of (listed_pieces types.now (map (operand_in names.now) operands.now))) }
+        ++ text_of (listed_pieces types.now (map (operand_in (tables_of m.now) names.now) operands.now))) }
 {
     out.push(b' ')?;
-    put_each_typed(out, names, types, operands)
+    put_each_typed(out, m, names, types, operands)
 }

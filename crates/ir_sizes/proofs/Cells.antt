@@ -196,11 +196,12 @@ struct_one packed all h = record {
 
 -- ---- a step into a struct
 
-member_of : (k : ℕ) (packed : Bool) (p : Option (List Laid)) → (members_before p (end ∷ []) >>= up_to_end >>= λ y. member_at packed y.0 k) ≡ (p >>= λ xs. member_at packed xs k)
-member_of k packed None = refl
-member_of k packed (Some xs) = ap (λ (o : Option (List Laid × List Cell)). o >>= λ y. member_at packed y.0 k) (members_up_to_end xs [])
+behind_members : {A : Type 0} (next : List Laid → Option A) (p : Option (List Laid)) → (members_before p (end ∷ []) >>= up_to_end >>= λ y. next y.0) ≡ (p >>= next)
+behind_members next None = refl
+behind_members next (Some xs) = ap (λ (o : Option (List Laid × List Cell)). o >>= λ y. next y.0) (members_up_to_end xs [])
 
-pub step_of_struct : (sizes : Name → Option Layout) (packed : Bool) (all : List (List TypeNode)) (k : ℕ) → AllByRecursion IsOne all → (cells_of sizes (concat all ++ closing ∷ []) >>= up_to_end >>= λ y. member_at packed y.0 k) ≡ (laid_by sizes all >>= λ xs. member_at packed xs k)
-step_of_struct sizes packed all k h =
-    ap (λ (o : Option (List Cell)). o >>= up_to_end >>= λ y. member_at packed y.0 k) (members_cells sizes all (closing ∷ []) h)
-    ∙ member_of k packed (laid_by sizes all)
+-- what is made of the members of a struct
+pub step_of_struct : {A : Type 0} (next : List Laid → Option A) (sizes : Name → Option Layout) (all : List (List TypeNode)) → AllByRecursion IsOne all → (cells_of sizes (concat all ++ closing ∷ []) >>= up_to_end >>= λ y. next y.0) ≡ (laid_by sizes all >>= next)
+step_of_struct next sizes all h =
+    ap (λ (o : Option (List Cell)). o >>= up_to_end >>= λ y. next y.0) (members_cells sizes all (closing ∷ []) h)
+    ∙ behind_members next (laid_by sizes all)

@@ -62,11 +62,6 @@ module _ (defs : Definitions) (nodes : List TypeNode) (i : ℕ × ℕ) (more : L
   pub offset_unsized : small_size defs nodes ≡ None → offset_of defs nodes (i ∷ more) ≡ None
   offset_unsized e = ap (λ (o : Option ℕ). o >>= λ s. path_offset defs nodes more >>= λ k. Some ((scaled s i + k) % 2 ^ 64)) e
 
-  pub offset_refused : (s : ℕ) → small_size defs nodes ≡ Some s → path_offset defs nodes more ≡ None → offset_of defs nodes (i ∷ more) ≡ None
-  offset_refused s e f =
-      ap (λ (o : Option ℕ). o >>= λ s. path_offset defs nodes more >>= λ k. Some ((scaled s i + k) % 2 ^ 64)) e
-      ∙ ap (λ (o : Option ℕ). o >>= λ k. Some ((scaled s i + k) % 2 ^ 64)) f
-
   pub offset_found : (s k : ℕ) → small_size defs nodes ≡ Some s → path_offset defs nodes more ≡ Some k → offset_of defs nodes (i ∷ more) ≡ Some ((scaled s i + k) % 2 ^ 64)
   offset_found s k e f =
       ap (λ (o : Option ℕ). o >>= λ s. path_offset defs nodes more >>= λ k. Some ((scaled s i + k) % 2 ^ 64)) e

@@ -18,7 +18,7 @@ use Rattle.ir_types.specs.declared.memory_type.Extent.TheVariants.{NoSize, Size}
 use Rattle.ir_types.specs.Types.{IsTypeAt, AreTypes}
 use Rattle.ir_types.specs.Sizes.{Layout, IsLaid, at_place, array_laid, AreExtents, aligned, end_behind, greatest_align, struct_layout, SIZE_CAP}
 use Rattle.ir_types.specs.TypeNodes.{TypeNode}
-use Rattle.ir_types.specs.Offsets.{Definitions, Laid, layouts, layout_by, layout_of_name, layout_of, small_size, member_at, scaled, stepped_into, unnamed}
+use Rattle.ir_types.specs.Offsets.{Definitions, Laid, layouts, layout_by, layout_of_name, layout_of, small_size, member_at, scaled, stepped_into, unnamed, counted}
 use Rattle.ir_sizes.specs.Known.{extent_at, IsSized, IsSizedAt, IsExtentOf}
 use Rattle.ir_sizes.specs.Put.{put_at, put}
 use Rattle.ir_sizes.specs.Definitions.{names_in, nodes_in, type_in, AreDefinitions}
@@ -212,8 +212,8 @@ module _ (types : List MemTy) (names : List TypeName) (extents : List Extent) (d
   -- ---- structs
 
   module _ (packed : Bool) (ids : List TypeId) (h : IsTypeAt (names_in names) (length types) (Struct packed ids)) where
-    members_step : (i : ℕ × ℕ) → stepped_into defs (type_in types names (Struct packed ids)) i ≡ (laid_by sizes (map nodes ids) >>= λ xs. member_at packed xs i.1)
-    members_step i = step_of_struct sizes packed (map nodes ids) i.1 (places_one (names_in names) types are (length types) ids (omega arith) h)
+    members_step : (i : ℕ × ℕ) → stepped_into defs (type_in types names (Struct packed ids)) i ≡ (laid_by sizes (map nodes ids) >>= λ xs. counted i >>= member_at packed xs)
+    members_step i = step_of_struct (λ xs. counted i >>= member_at packed xs) sizes (map nodes ids) (places_one (names_in names) types are (length types) ids (omega arith) h)
 
     members_sized : IsSmallLaid (type_in types names (Struct packed ids)) → All (IsSizedAt extents) ids
     members_sized laid = extents_sized types names extents sized (Struct packed ids) laid.layout (layout_type types names defs are agree (Struct packed ids) laid.layout h laid.is)
@@ -229,34 +229,43 @@ module _ (types : List MemTy) (names : List TypeName) (extents : List Extent) (d
         let found = bind_some (laid_by sizes (map nodes ids)) (struct_by packed) l (sym (struct_layout_by sizes packed (map nodes ids) ones) ∙ e) in
         record { laid = found.0; is = found.1; whole_is = some_is found.2 }
 
-    past_members : (i : ℕ × ℕ) → IsSmallLaid (type_in types names (Struct packed ids)) → length ids ≤ i.1 → stepped_into defs (type_in types names (Struct packed ids)) i ≡ None
-    past_members i small past =
-        let m = members_laid small.layout small.is in
-        let none = slice_get_past m.laid i.1 (omega (arith, laid_length sizes nodes ids m.laid m.is)) in
-        members_step i ∙ ap (λ (o : Option (List Laid)). o >>= λ xs. member_at packed xs i.1) m.is ∙ no_member packed m.laid i.1 none
+    -- a step by an index with this number, where it is not negative
+    counted_step : (i : ℕ × ℕ) (k : Option ℕ) (m : List Laid) → laid_by sizes (map nodes ids) ≡ Some m → counted i ≡ k → stepped_into defs (type_in types names (Struct packed ids)) i ≡ (k >>= member_at packed m)
+    counted_step i k m e c =
+        members_step i ∙ ap (λ (o : Option (List Laid)). o >>= λ xs. counted i >>= member_at packed xs) e ∙ ap (λ (o : Option ℕ). o >>= member_at packed m) c
 
-    into_member : (i : ℕ × ℕ) (bytes : ℕ) (b : BeginsAt types names packed ids i.1 bytes) → IsSmallLaid (type_in types names (Struct packed ids)) → (stepped_into defs (type_in types names (Struct packed ids)) i ≡ Some (bytes, nodes b.id)) × IsSteppable (extent_at extents b.id.0)
-    into_member i bytes b small =
+    no_negative : (i : ℕ × ℕ) → IsSmallLaid (type_in types names (Struct packed ids)) → counted i ≡ None → stepped_into defs (type_in types names (Struct packed ids)) i ≡ None
+    no_negative i small c =
         let m = members_laid small.layout small.is in
-        let x = laid_at sizes nodes ids m.laid i.1 b.id m.is b.found in
+        counted_step i None m.laid m.is c
+
+    past_members : (i : ℕ × ℕ) (k : ℕ) → counted i ≡ Some k → IsSmallLaid (type_in types names (Struct packed ids)) → length ids ≤ k → stepped_into defs (type_in types names (Struct packed ids)) i ≡ None
+    past_members i k c small past =
+        let m = members_laid small.layout small.is in
+        let none = slice_get_past m.laid k (omega (arith, laid_length sizes nodes ids m.laid m.is)) in
+        counted_step i (Some k) m.laid m.is c ∙ no_member packed m.laid k none
+
+    into_member : (i : ℕ × ℕ) (k bytes : ℕ) → counted i ≡ Some k → (b : BeginsAt types names packed ids k bytes) → IsSmallLaid (type_in types names (Struct packed ids)) → (stepped_into defs (type_in types names (Struct packed ids)) i ≡ Some (bytes, nodes b.id)) × IsSteppable (extent_at extents b.id.0)
+    into_member i k bytes c b small =
+        let m = members_laid small.layout small.is in
+        let x = laid_at sizes nodes ids m.laid k b.id m.is b.found in
         let layout : x.0 ≡ b.layout = some_is (sym x.2 ∙ place_layout types names defs are agree b.id b.layout b.laid) in
-        let front = laid_front sizes nodes ids m.laid i.1 m.is in
-        let before : layouts (take i.1 m.laid) ≡ b.before.layouts = lists_are (sym (ap (λ (o : Option (List Laid)). o >>= λ xs. Some (layouts xs)) front) ∙ members_layouts types names defs are agree (take i.1 ids) b.before.layouts b.before.laid) in
+        let front = laid_front sizes nodes ids m.laid k m.is in
+        let before : layouts (take k m.laid) ≡ b.before.layouts = lists_are (sym (ap (λ (o : Option (List Laid)). o >>= λ xs. Some (layouts xs)) front) ∙ members_layouts types names defs are agree (take k ids) b.before.layouts b.before.laid) in
         let aligns = laid_aligns types names (layouts_members types names defs are agree ids m.laid h m.is) in
         let natural = (laid_aligns types names b.laid).0 in
-        let there : slice_get (layouts m.laid) i.1 ≡ Some b.layout = slice_get-map (λ (y : Laid). y.layout) m.laid i.1 ∙ ap (option_map (λ (y : Laid). y.layout)) x.1 ∙ ap (λ (k : Layout). Some k) layout in
+        let there : slice_get (layouts m.laid) k ≡ Some b.layout = slice_get-map (λ (y : Laid). y.layout) m.laid k ∙ ap (option_map (λ (y : Laid). y.layout)) x.1 ∙ ap (λ (l : Layout). Some l) layout in
         let last = end_behind 0 (put packed b.before.layouts) in
         let align = put_at packed b.layout.align in
-        let same : take i.1 (layouts m.laid) ≡ b.before.layouts = take-map (λ (y : Laid). y.layout) i.1 m.laid ∙ before in
-        let within : aligned align last + b.layout.size ≤ (struct_layout packed (layouts m.laid)).size = rw same at (member_within packed (layouts m.laid) i.1 b.layout aligns there) in
+        let same : take k (layouts m.laid) ≡ b.before.layouts = take-map (λ (y : Laid). y.layout) k m.laid ∙ before in
+        let within : aligned align last + b.layout.size ≤ (struct_layout packed (layouts m.laid)).size = rw same at (member_within packed (layouts m.laid) k b.layout aligns there) in
         let whole : (struct_layout packed (layouts m.laid)).size ≡ small.layout.size = ap (λ (l : Layout). l.size) m.whole_is in
         let low = aligned_least align last (put_bound packed b.layout.align natural.0 natural.1).0 in
         let lt = small.small in
         let is : b.last ≡ last = omega (arith, b.before.last_is, within, whole, low, lt) in
-        let place : aligned (put_at packed x.0.align) (end_behind 0 (put packed (layouts (take i.1 m.laid)))) ≡ bytes = rw (layout, before) (sym (b.bytes_is ∙ ap (aligned align) is)) in (
-          members_step i
-              ∙ ap (λ (o : Option (List Laid)). o >>= λ xs. member_at packed xs i.1) m.is
-              ∙ member_is packed m.laid i.1 (record { nodes = nodes b.id; layout = x.0 }) x.1
+        let place : aligned (put_at packed x.0.align) (end_behind 0 (put packed (layouts (take k m.laid)))) ≡ bytes = rw (layout, before) (sym (b.bytes_is ∙ ap (aligned align) is)) in (
+          counted_step i (Some k) m.laid m.is c
+              ∙ member_is packed m.laid k (record { nodes = nodes b.id; layout = x.0 }) x.1
               ∙ ap (λ (n : ℕ). Some (n, nodes b.id)) place,
           small_steppable b.id b.layout b.laid (omega (arith, within, whole, lt)),
         )
@@ -295,15 +304,21 @@ module _ (types : List MemTy) (names : List TypeName) (extents : List Extent) (d
       pub struct_sized : All (IsSizedAt extents) ids
       struct_sized = members_sized packed ids h (behind_small id (type_in types names (Struct packed ids)) steppable e)
 
-      pub struct_refused : length ids ≤ i.number → Steps None
-      struct_refused past = record {
-        is = by_type (Struct packed ids) e ∙ past_members packed ids h (index_pair i) (behind_small id (type_in types names (Struct packed ids)) steppable e) past;
+      pub struct_negative : counted (index_pair i) ≡ None → Steps None
+      struct_negative c = record {
+        is = by_type (Struct packed ids) e ∙ no_negative packed ids h (index_pair i) (behind_small id (type_in types names (Struct packed ids)) steppable e) c;
         small = tt;
       }
 
-      pub struct_step : (bytes : ℕ) (place : TypeId) (b : BeginsAt types names packed ids i.number bytes) → place ≡ b.id → Steps (Some (record { bytes = bytes; place = place }))
-      struct_step bytes place b same =
-          let into = into_member packed ids h (index_pair i) bytes b (behind_small id (type_in types names (Struct packed ids)) steppable e) in
+      pub struct_refused : (k : ℕ) → counted (index_pair i) ≡ Some k → length ids ≤ k → Steps None
+      struct_refused k c past = record {
+        is = by_type (Struct packed ids) e ∙ past_members packed ids h (index_pair i) k c (behind_small id (type_in types names (Struct packed ids)) steppable e) past;
+        small = tt;
+      }
+
+      pub struct_step : (k bytes : ℕ) (place : TypeId) → counted (index_pair i) ≡ Some k → (b : BeginsAt types names packed ids k bytes) → place ≡ b.id → Steps (Some (record { bytes = bytes; place = place }))
+      struct_step k bytes place c b same =
+          let into = into_member packed ids h (index_pair i) k bytes c b (behind_small id (type_in types names (Struct packed ids)) steppable e) in
           record {
             is = by_type (Struct packed ids) e ∙ into.0 ∙ ap (λ (p : TypeId). Some (bytes, nodes p)) (sym same);
             small = rw same into.1;

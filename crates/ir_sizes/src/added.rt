@@ -1,5 +1,6 @@
 // The extents of types that were added behind others.
 ghost use Rattle.std.specs.Prelude.{OnOk};
+ghost use Rattle.forms.specs.View.{Extends};
 ghost use Rattle.ir_types.specs.Types.{AreTypes};
 ghost use Rattle.ir_types.specs.Sizes.{AreExtents};
 ghost use Rattle.ir_sizes.specs.Known.{AreFirstExtents};
@@ -21,7 +22,8 @@ pub fn extents_behind(
 ) -> Result<(), AllocError>
     requires types { AreTypes (names_in names.now) 0 types.now }
     requires first { AreFirstExtents types.now names.now extents.old.items }
-    ensures { OnOk result (AreExtents types.now names.now extents.new.items) }
+    ensures are { OnOk result (AreExtents types.now names.now extents.new.items) }
+    ensures grows { Extends extents.old.items extents.new.items }
 {
     for place in extents.len()..types.len() {
         let extent = extent_of(names, extents.as_slice(), &types[place]);

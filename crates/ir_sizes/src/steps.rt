@@ -4,10 +4,10 @@ ghost use Rattle.ir_types.specs.declared.memory_type.MemTy.{MemTy};
 ghost use Rattle.ir_types.specs.declared.memory_type.TypeName.{TypeName};
 ghost use Rattle.ir_types.specs.Types.{AreTypes, IsTypeAt};
 ghost use Rattle.ir_types.specs.Sizes.{AreExtents};
-ghost use Rattle.ir_types.specs.Offsets.{Definitions, unnamed};
+ghost use Rattle.ir_types.specs.Offsets.{Definitions, unnamed, counted};
 ghost use Rattle.ir_sizes.specs.Known.{extent_at, IsSizedAt, AreSmall, EachIsRight};
 ghost use Rattle.ir_sizes.specs.Definitions.{names_in, nodes_in, type_in, AreDefinitions};
-ghost use Rattle.ir_sizes.specs.Stepping.{IsIndex, IsSteppable, IsUnnamed, BeginsAt, IsStep};
+ghost use Rattle.ir_sizes.specs.Stepping.{index_pair, IsIndex, IsSteppable, IsUnnamed, BeginsAt, IsStep};
 
 use crate::offsets::{Index, scaled};
 use crate::single::{aligned_up, definition, end_of, extent_of_part, member_align, small_size};
@@ -53,6 +53,18 @@ fn member_offset(packed: bool, members: &[TypeId], extents: &[Extent], place: us
     }
 }
 
+/// The number of an index, where it is not negative as a signed one.
+fn counted(index: Index) -> Option<u64>
+    requires { IsIndex index }
+    ensures { result ≡ counted (index_pair index) }
+{
+    if index.number < 1 << (index.width - 1) {
+        Some(index.number)
+    } else {
+        None
+    }
+}
+
 /// A step by an index into the type at a place; none where it has no such part, or one that is too large to step over.
 pub fn step_into(
     types: &[MemTy],
@@ -76,10 +88,11 @@ pub fn step_into(
         }
         MemTy::Struct(packed, members) => {
             let members = members.as_slice();
-            if index.number >= members.len() as u64 {
+            let number = counted(index)?;
+            if number >= members.len() as u64 {
                 return None;
             }
-            let place = index.number as usize;
+            let place = number as usize;
             let bytes = member_offset(*packed, members, extents, place)?;
             Some(Step {
                 bytes,

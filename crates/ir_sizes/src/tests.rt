@@ -1,4 +1,9 @@
-use crate::{extents_of, size_of};
+ghost use Rattle.std.specs.Prelude.{◌≡◌, IfOk};
+ghost use Rattle.ir_types.specs.declared.memory_type.MemTy.TheVariants.{Struct};
+ghost use Rattle.ir_types.specs.Types.{AreTypes};
+ghost use Rattle.ir_sizes.specs.Definitions.{names_in};
+
+use crate::{Index, extents_of, offset, size_of};
 use ir_types::{Extent, MemTy, Module, Name, NamedType, Ty, TypeId, TypeName};
 use lists::{Items, Text};
 use std::alloc::{AllocError, Global};
@@ -6,7 +11,9 @@ use std::test::Fail;
 
 const CAP: u64 = 2_305_843_009_213_693_952;
 
-fn structure(alloc: Global, packed: bool, members: &[TypeId]) -> Result<MemTy, AllocError> {
+fn structure(alloc: Global, packed: bool, members: &[TypeId]) -> Result<MemTy, AllocError>
+    ensures { IfOk result (λ t. t ≡ Struct packed members.now) }
+{
     Ok(MemTy::Struct(packed, Items::from_vec(members.to_vec(alloc)?)))
 }
 
@@ -104,5 +111,48 @@ fn sizes_end_below_the_cap(rt: HostRuntime) -> Result<(), Fail> {
     );
     assert_eq!(rt; size_of(&m, &MemTy::Array(2, TypeId(6))), None);
     assert_eq!(rt; size_of(&m, &MemTy::Array(0, TypeId(14))), None);
+    Ok(())
+}
+
+#[derive(Drop)]
+struct Stepped {
+    types: Vec<MemTy>,
+    names: Vec<TypeName>,
+}
+
+fn lists(alloc: Global) -> Result<Stepped, AllocError>
+    ensures { IfOk result (λ s. AreTypes (names_in s.names.items) 0 s.types.items) }
+{
+    Ok(Stepped {
+        types: vec![in alloc;
+            MemTy::One(Ty::Int(8)),
+            MemTy::One(Ty::Int(32)),
+            MemTy::Array(3, TypeId(1)),
+            structure(alloc, false, &[TypeId(0), TypeId(1), TypeId(2)])?,
+            structure(alloc, true, &[TypeId(0), TypeId(1)])?,
+            MemTy::Named(0),
+            MemTy::Array(2, TypeId(5)),
+        ]?,
+        names: vec![in alloc; named(alloc, b"s", NamedType::Defined(TypeId(3)))?]?,
+    })
+}
+
+fn index(width: u32, number: u64) -> Index
+    ensures width { result.width ≡ width }
+    ensures number { result.number ≡ number }
+{
+    Index { width, number }
+}
+
+#[test]
+fn indexes_lead_into_types(rt: HostRuntime) -> Result<(), Fail> {
+    let alloc = rt.alloc();
+    let s = lists(alloc)?;
+    let extents = extents_of(alloc, s.types.as_slice(), s.names.as_slice())?;
+    let two_deep = [index(64, 1), index(64, 1), index(32, 2), index(64, 2)];
+    assert_eq!(rt;
+        offset(&s.types, &s.names, extents.as_slice(), TypeId(6), &two_deep),
+        Some(76)
+    );
     Ok(())
 }

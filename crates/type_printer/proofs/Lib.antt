@@ -15,3 +15,4 @@ pub mod TypeNames
 pub mod MemoryPlaced
 pub mod Frames
 pub mod Writes
+pub mod InstMemory

@@ -93,7 +93,7 @@ some_says {w = w} {pieces = pieces} s says (b ∷ more) lt h =
     let q = behind_each s says more h.1 in
     record { spells = ((w b, map w more), refl, (tokens_of (pieces b), tokens_of (each_behind (gap s ∷ []) (map pieces more)), tokens_of-append (pieces b) _, (says.one b h.0).spells, q.spells)) }
 
-behind_commas : {A B : Type 0} {f : Form A} {w : B → A} {pieces : B → List Piece} {P : B → Type 0} → EachSays f w pieces P → (items : List B) → AllByRecursion P items → Says (many (marked Comma f)) (map w items) (tokens_of (each_behind (pieces_of.comma ∷ pieces_of.blank ∷ []) (map pieces items)))
+pub behind_commas : {A B : Type 0} {f : Form A} {w : B → A} {pieces : B → List Piece} {P : B → Type 0} → EachSays f w pieces P → (items : List B) → AllByRecursion P items → Says (many (marked Comma f)) (map w items) (tokens_of (each_behind (pieces_of.comma ∷ pieces_of.blank ∷ []) (map pieces items)))
 behind_commas {f = f} says [] h = none_says (marked Comma f)
 behind_commas {pieces = pieces} says (b ∷ more) h =
     more_says (token Comma (44 ∷ []) ∷ tokens_of (pieces b)) _ _ (ap (λ (ts : List Lexeme). token Comma (44 ∷ []) ∷ ts) (tokens_of-append (pieces b) _)) (marked_says Comma (44 ∷ []) (says.one b h.0)) (behind_commas says more h.1)

@@ -1,5 +1,5 @@
 -- Pieces that write a value by a form: they spell it, are tokens, and join.
-use Rattle.std.proofs.Common.{◌≡◌, ◌<◌, ℕ, true, List, [], ◌∷◌, ◌++◌, length, Option, Some, None, refl, sym, ap, ◌∙◌, subst, append_assoc}
+use Rattle.std.proofs.Common.{◌≡◌, ◌<◌, ℕ, true, List, [], ◌∷◌, ◌++◌, length, Option, Some, None, refl, sym, ap, ◌∙◌, subst, append_assoc, arith}
 use Rattle.std.specs.Prelude.{map, codes}
 use Rattle.std.specs.List.{AllByRecursion}
 use Rattle.std.proofs.lemmas.Bool.{and_from}
@@ -7,7 +7,7 @@ use Rattle.std.proofs.lemmas.List.{append-nil}
 use Rattle.forms.specs.declared.TokenKind.{TokenKind}
 use Rattle.forms.specs.declared.TokenKind.TheVariants.{Word, Comma, LeftBracket, RightBracket}
 use Rattle.forms.specs.Form.{Lexeme, Form, exactly, one, pair, either, mapped, made, optional, many, by_word, ahead, entry}
-use Rattle.forms.specs.Combined.{word, behind, after_mark, between, marked, commas, list}
+use Rattle.forms.specs.Combined.{word, behind, after_mark, between, marked, some, commas, list}
 use Rattle.forms.specs.Lexical.{kind_of}
 use Rattle.text_lex.specs.Layout.{Piece, gap, lexeme, tokens_of, AreTokens, is_mark, Before, closed, open_, left_by, joins, end_of}
 use Rattle.text_lex.proofs.Layouts.{tokens_of-append, AreTokens-append, joins-from, joins_any, mark_stands}
@@ -15,7 +15,7 @@ use Rattle.type_printer.specs.Pieces as pieces_of
 use Rattle.type_printer.specs.Pieces.{token, comma, blank, line_feed, indent, each_behind, with_commas}
 use Rattle.type_printer.proofs.Laid.{IsLaid, IsBehind, loose, nothing_behind, blank_laid, mark_laid, Separates, each_laid, all_laid, separated_laid}
 use Rattle.type_printer.proofs.LaidOut.{commas_part, bracket_kinds, comma_kind}
-use Rattle.type_printer.proofs.Says.{Says, pair_says, left_says, right_says, mapped_says, made_says, one_says, exactly_says, word_says, ahead_says, there_says, cons_says, by_word_says, behind_says, after_mark_says, marked_says, between_says, EachSays, behind_each, commas_says, list_says}
+use Rattle.type_printer.proofs.Says.{Says, pair_says, left_says, right_says, mapped_says, made_says, one_says, exactly_says, word_says, ahead_says, there_says, cons_says, by_word_says, behind_says, after_mark_says, marked_says, between_says, EachSays, behind_each, behind_commas, commas_says, list_says}
 
 -- The first argument says what stands at once before the pieces.
 pub record Writes {A : Type 0} (b : Before) (f : Form A) (a : A) (ps : List Piece) : Type 0 where
@@ -163,6 +163,17 @@ commas_write e items lt h = laid_writes (commas_says (each_says e) items lt h) (
 
 pub list_write : {A B : Type 0} {f : Form A} {w : B → A} {pieces : B → List Piece} {P : B → Type 0} → EachWrites f w pieces P → (items : List B) → AllByRecursion P items → Writes closed (list f) (map w items) (with_commas (map pieces items))
 list_write e items h = laid_writes (list_says (each_says e) items h) (separated_laid _ _ commas_part (each_is_laid e items h))
+
+-- each behind a comma
+pub many_commas : {A B : Type 0} {b : Before} {f : Form A} {w : B → A} {pieces : B → List Piece} {P : B → Type 0} → EachWrites f w pieces P → (items : List B) → AllByRecursion P items → Writes b (many (marked Comma f)) (map w items) (each_behind (comma ∷ blank ∷ []) (map pieces items))
+many_commas {pieces = pieces} e items h =
+    let l = each_laid _ (map pieces items) commas_part (each_is_laid e items h) in
+    anywhere (record { says = behind_commas (each_says e) items h; tokens = l.tokens; joined = l.joined })
+
+-- the same of one at least
+pub some_commas : {A B : Type 0} {b : Before} {f : Form A} {w : B → A} {pieces : B → List Piece} {P : B → Type 0} → EachWrites f w pieces P → (items : List B) → 0 < length items → AllByRecursion P items → Writes b (some (marked Comma f)) (map w items) (each_behind (comma ∷ blank ∷ []) (map pieces items))
+some_commas e [] lt h = absurd (omega arith)
+some_commas {w = w} {pieces = pieces} e (x ∷ items) lt h = mapped_writes (w x, map w items) _ refl (both (marked_comma (e.one x h.0)) (many_commas e items h.1))
 
 -- each behind white space
 pub many_behind : {A B : Type 0} {b : Before} {f : Form A} {w : B → A} {pieces : B → List Piece} {P : B → Type 0} (s : List ℕ) → Separates (gap s ∷ []) → EachWrites f w pieces P → (items : List B) → AllByRecursion P items → Writes b (many f) (map w items) (each_behind (gap s ∷ []) (map pieces items))

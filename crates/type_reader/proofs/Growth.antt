@@ -24,7 +24,7 @@ use Rattle.type_reader.proofs.LookUps.{has_this}
 use Rattle.type_reader.proofs.NodeLists.{nodes_stay}
 
 pub grows_refl : (t : TableLists) → Grows t t
-grows_refl t = record { symbols = extends_refl t.symbols; known = refl; entries = extends_refl t.entries; types = extends_refl t.types; extents = extends_refl t.extents; definitions = refl }
+grows_refl t = record { symbols = extends_refl t.symbols; known = refl; entries = extends_refl t.entries; types = extends_refl t.types; definitions = refl }
 
 pub grows_trans : (a b c : TableLists) → Grows a b → Grows b c → Grows a c
 grows_trans a b c p q = record {
@@ -32,7 +32,6 @@ grows_trans a b c p q = record {
   known = q.known ∙ p.known;
   entries = extends_trans a.entries b.entries c.entries p.entries q.entries;
   types = extends_trans a.types b.types c.types p.types q.types;
-  extents = extends_trans a.extents b.extents c.extents p.extents q.extents;
   definitions = q.definitions ∙ p.definitions;
 }
 
@@ -74,7 +73,7 @@ adds_extend : (old : List Name) (name : Name) (new : List Name) → Adds old nam
 adds_extend old name new (inl there) = subst (λ (l : List Name). Extends old l) (sym there.1) (extends_refl old)
 adds_extend old name new (inr fresh) = record { more = name ∷ []; parts = fresh.1 }
 
-extends_length : {A : Type 0} (old new : List A) → Extends old new → length old ≤ length new
+pub extends_length : {A : Type 0} (old new : List A) → Extends old new → length old ≤ length new
 extends_length old new x = omega (arith, ap length x.parts, length-append old x.more)
 
 -- another symbol, and nothing else

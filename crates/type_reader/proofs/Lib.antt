@@ -8,5 +8,6 @@ pub mod Holding
 pub mod Openings
 pub mod LookUps
 pub mod Growth
+pub mod Enlarged
 pub mod Defining
 pub mod Looking

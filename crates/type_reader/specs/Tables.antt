@@ -46,7 +46,6 @@ pub record Grows (old new : TableLists) : Type 0 where
   pub known : new.known ≡ old.known
   pub entries : Extends old.entries new.entries
   pub types : Extends old.types new.types
-  pub extents : Extends old.extents new.extents
   pub definitions : definitions_of new ≡ definitions_of old
 
 -- a name stands for a type before a place, if for any

@@ -1,22 +1,25 @@
 // What a module has for its functions, while these are read.
 
-ghost use Rattle.std.specs.Prelude.{◌≡◌, ℕ, List, length, map, All, IfOk};
+ghost use Rattle.std.specs.Prelude.{◌≡◌, ◌<◌, ℕ, List, length, map, All, IfOk, OnOk};
 ghost use Rattle.std.specs.List.{AllByRecursion};
 ghost use Rattle.forms.specs.Gives.{Gives, left};
 ghost use Rattle.forms.specs.Reading.{read};
+ghost use Rattle.forms.specs.View.{Extends};
 ghost use Rattle.ir_types.specs.Names.{name_at};
 ghost use Rattle.ir_types.specs.Types.{AreTypes};
+ghost use Rattle.ir_types.specs.TypeNodes.{type_nodes};
+ghost use Rattle.ir_types.specs.Sizes.{AreExtents};
 ghost use Rattle.ir_types.specs.Grammar.{inst_memory};
 ghost use Rattle.ir_types.specs.Offsets.{offset_of};
 ghost use Rattle.ir_sizes.specs.Stepping.{index_pair, IsIndex};
-ghost use Rattle.type_reader.specs.TypeTable.{names_of};
+ghost use Rattle.type_reader.specs.TypeTable.{names_of, LooksUpSome};
 ghost use Rattle.type_reader.specs.Tables.{TableLists, nodes_there, definitions_of, Grows, IsDefinedBefore, AreEntriesApart, AreTables};
 
 use crate::memory::memory_type;
 use crate::symbol_names::SymbolNames;
 use crate::type_names::TypeNames;
 use forms::{Cursor, SyntaxFault};
-use ir_sizes::{Index, extents_of};
+use ir_sizes::{Index, extents_behind, extents_of, offset};
 use ir_types::{Extent, MemTy, Name, TypeId, TypeName};
 use lists::Items;
 use std::alloc::{AllocError, Global};
@@ -40,6 +43,30 @@ impl Model for Tables {
     ghost view = { λ s. record { symbols = s.symbols; known = s.known; entries = s.names; types = s.types.items; extents = s.extents.items } };
 
     ghost invariant = { λ s. AreTables (record { symbols = s.symbols; known = s.known; entries = s.names; types = s.types.items; extents = s.extents.items }) };
+}
+
+/// A memory type, which is added at the end of the list of types behind its parts, with the extents of all.
+fn read_type<'t>(
+    alloc: Global,
+    tokens: Cursor<'t>,
+    types: &mut Vec<MemTy>,
+    names: &mut TypeNames,
+    extents: &mut Vec<Extent>,
+) -> Result<(TypeId, Cursor<'t>), SyntaxFault>
+    requires are { AreTypes (names_of names.old) 0 types.old.items }
+    requires defined { AllByRecursion (IsDefinedBefore (length types.old.items)) names.old }
+    requires extents { AreExtents types.old.items names.old extents.old.items }
+    ensures types_grow { Extends types.old.items types.new.items }
+    ensures extents_grow { Extends extents.old.items extents.new.items }
+    ensures looks_up { LooksUpSome names.old names.new }
+    ensures are { OnOk result (AreTypes (names_of names.new) 0 types.new.items) }
+    ensures extents_are { OnOk result (AreExtents types.new.items names.new extents.new.items) }
+    ensures reads { Gives (λ x. (type_nodes (names_of names.new) types.new.items x.0, left x.1)) result (read inst_memory (left tokens.entry)) }
+    ensures within { IfOk result (λ x. x.0.0 < length types.new.items) }
+{
+    let (id, rest) = memory_type(alloc, tokens, types, names)?;
+    extents_behind(types.as_slice(), names.as_slice(), extents)?;
+    Ok((id, rest))
 }
 
 /// The parts of tables.
@@ -111,7 +138,19 @@ impl Tables {
         ensures reads { Gives (λ x. (nodes_there self.new x.0, left x.1)) result (read inst_memory (left tokens.entry)) }
         ensures stays { IfOk result (λ x. (later : TableLists) → Grows self.new later → nodes_there later x.0 ≡ nodes_there self.new x.0) }
     {
-        memory_type(alloc, tokens, &mut self.types, &mut self.names)
+        let count = self.types.len();
+        let read = read_type(
+            alloc,
+            tokens,
+            &mut self.types,
+            &mut self.names,
+            &mut self.extents,
+        );
+        if read.is_err() {
+            self.types.truncate(count);
+            self.extents.truncate(count);
+        }
+        read
     }
 
     /// How many bytes these indexes lead on, modulo 2^64, from a pointer that is stepped through as the type at a place; none where they step
@@ -120,7 +159,13 @@ impl Tables {
         requires { All IsIndex indexes.now }
         ensures { result ≡ offset_of (definitions_of self.now) (nodes_there self.now id) (map index_pair indexes.now) }
     {
-        None
+        offset(
+            self.types.as_slice(),
+            self.names.as_slice(),
+            self.extents.as_slice(),
+            id,
+            indexes,
+        )
     }
 
     /// The parts, in the same memory.

@@ -1,11 +1,10 @@
 use Rattle.std.proofs.Common.{append_assoc}
-use Rattle.ir_types.specs.Denotes.{tree_of_function}
 use Rattle.ir_printer.proofs.Appended.{head_text}
 use Rattle.ir_printer.proofs.function.put_head.Goals as goal
 
 pub returns : goal.returns
 returns c = rw (
-  head_text (tree_of_function c.args.function.now),
+  head_text c.args.function.now,
   c.in_ok-put_blank_then_kept.ensures,
   c.in_ok-push-3.ensures.items,
   c.in_ok-put_all_params.ensures,

@@ -11,5 +11,5 @@ use Rattle.ir_printer.proofs.function.put_params.Given as goal
 abbrev pub invariant-loop-param : goal.invariant-loop-param
 invariant-loop-param l = record {
   known : AllByRecursion IsParam (map (param_in l.names) (drop l.param-index l.rest));
-  printed : l.out.items ++ text_of (each_behind (comma ∷ blank ∷ []) (map param_pieces (map (param_in l.names) (drop l.param-index l.rest)))) ≡ l.initial.out.items ++ text_of (each_behind (comma ∷ blank ∷ []) (map param_pieces (map (param_in l.names) l.rest)));
+  printed : l.out.items ++ text_of (each_behind (comma ∷ blank ∷ []) (map (λ p. param_pieces (param_in l.names p)) (drop l.param-index l.rest))) ≡ l.initial.out.items ++ text_of (each_behind (comma ∷ blank ∷ []) (map (λ p. param_pieces (param_in l.names p)) l.rest));
 }

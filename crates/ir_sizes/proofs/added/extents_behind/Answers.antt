@@ -5,6 +5,7 @@ use Rattle.ir_types.specs.declared.memory_type.MemTy.{MemTy}
 use Rattle.ir_types.specs.declared.memory_type.TypeName.{TypeName}
 use Rattle.ir_types.specs.declared.memory_type.Extent.{Extent}
 use Rattle.ir_types.specs.Types.{AreTypes}
+use Rattle.ir_types.proofs.NameAt.{extends_trans}
 use Rattle.ir_sizes.specs.Known.{AreFirstExtents, EachIsRight, IsRight, AreSized, IsSized}
 use Rattle.ir_sizes.specs.Definitions.{names_in}
 use Rattle.ir_sizes.proofs.Setting.{right_small, first_right}
@@ -33,5 +34,6 @@ loop-place-preserved c =
     let found : slice_get c.args.types.now (length c.loop-place.extents.items) ≡ Some c.index-types-place.result = rw count (slice_get_read c.args.types.now _ c.loop-place.place c.index-types-place.result refl c.loop-place-test.true c.index-types-place.is) in
     record {
       first = more c.args.types.now c.args.names.now c.loop-place.extents.items c.as_slice.result.now c.push.new.self.items c.index-types-place.result c.extent_of-extent.result c.requires.types c.loop-place.invariant.first found c.as_slice.ensures.value c.in_ok-push.ensures.items (c.extent_of-extent.ensures.right c.args.types.now) c.extent_of-extent.ensures.sized;
+      grows = extends_trans c.args.extents.now.items c.loop-place.extents.items c.push.new.self.items c.loop-place.invariant.grows (record { more = c.extent_of-extent.result ∷ []; parts = c.in_ok-push.ensures.items });
       count = ap length c.in_ok-push.ensures.items ∙ length-append c.loop-place.extents.items (c.extent_of-extent.result ∷ []) ∙ ap (λ n. n + 1) count;
     }

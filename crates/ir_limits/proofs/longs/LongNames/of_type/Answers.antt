@@ -1,4 +1,4 @@
-use Rattle.std.proofs.Common.{[], map, ap, ◌∙◌, None, get_or}
+use Rattle.std.proofs.Common.{[], map, ap, ◌∙◌}
 use Rattle.ir_types.specs.declared.memory_type.TypeName.{TypeName}
 use Rattle.ir_types.specs.Denotes.{Tables}
 use Rattle.ir_types.specs.TypeNodes.{all_nodes, type_nodes}

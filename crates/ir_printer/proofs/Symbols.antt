@@ -1,0 +1,80 @@
+-- The constant that steps so many bytes behind a symbol.
+use Rattle.std.proofs.Common.{◌≡◌, ◌+◌, ◌-◌, ◌*◌, ◌%◌, ◌≤◌, ◌^◌, ℕ, true, false, List, [], ◌∷◌, Some, lit<, lit≤, refl, ap, ◌∙◌, arith, inl, inr}
+use Rattle.std.specs.Prelude.{nat_lt, codes}
+use Rattle.std.proofs.Math.Nat.{mod-eq_of_lt}
+use Rattle.std.proofs.lemmas.Bool.Decides.{nat_tests}
+use Rattle.forms.specs.declared.TokenKind.TheVariants as kinds
+use Rattle.forms.specs.Form.{Form, many}
+use Rattle.forms.specs.Lexical.{kind_of, table}
+use Rattle.forms.proofs.Begins.{test}
+use Rattle.text_lex.specs.Layout.{Piece, lexeme, Before, closed, open_}
+use Rattle.ir_types.specs.declared.name.Name.{Name}
+use Rattle.ir_types.specs.declared.inst.Ty.TheVariants.{Int}
+use Rattle.ir_types.specs.Offsets.{Definitions, scaled, offset_of}
+use Rattle.ir_types.specs.TypeNodes.{TypeNode, scalar}
+use Rattle.ir_types.specs.Grammar.{memory_leaf, inst_memory, three_flags, comma_index, constant_offset}
+use Rattle.ir_shape.specs.Shape.{IsName, IsBelow}
+use Rattle.type_printer.specs.Texts.{signed_text}
+use Rattle.type_printer.specs.Pieces.{token, word, comma, blank, left_paren, right_paren, global_token, width_word, type_pieces}
+use Rattle.type_printer.proofs.InstMemory.{in_instruction}
+use Rattle.type_printer.proofs.Laid.{loose, nothing_behind, mark_laid}
+use Rattle.type_printer.proofs.LaidOut.{bracket_kinds, type_laid}
+use Rattle.type_printer.proofs.MemorySays.{leaf_says}
+use Rattle.type_printer.proofs.Says.{none_says, left_says, mapped_says}
+use Rattle.type_printer.proofs.Spelled.{decimals, type_says}
+use Rattle.type_printer.proofs.Writes.{Writes, both, spaced, mapped_writes, none_writes, behind_writes, after_comma, between_writes}
+use Rattle.ir_printer.proofs.Numbers.{signed_again}
+use Rattle.ir_printer.proofs.Words.{value_kinds, global_writes, width_writes, signed_writes}
+
+-- ---- how many bytes they are
+
+-- so many of one byte
+scaled_one : (n : ℕ) → IsBelow 64 n → scaled 1 (64, n) ≡ n
+scaled_one n lt = elim (test (nat_lt n (2 ^ (64 - 1)))) [
+  | inl y ↦ rw y (let e : 1 * n ≡ n = omega arith in rw e (mod-eq_of_lt lt))
+  | inr other ↦ rw other (let e : 1 * (2 ^ 64 - (2 ^ 64 - n)) ≡ n = omega arith in rw e (mod-eq_of_lt lt))
+]
+
+-- whatever names of types stand for
+pub bytes_behind : (defs : Definitions) (n : ℕ) → IsBelow 64 n → offset_of defs (scalar (Int 8) ∷ []) ((64, n) ∷ []) ≡ Some n
+bytes_behind defs n lt = ap (λ (k : ℕ). Some ((k + 0) % 2 ^ 64)) (scaled_one n lt) ∙ ap (λ (k : ℕ). Some k) (let e : n + 0 ≡ n = omega arith in rw e (mod-eq_of_lt lt))
+
+-- ---- how they are written
+
+abbrev pub written_steps : Name → ℕ → List TypeNode × (Name × List (ℕ × ℕ))
+written_steps n bytes = (scalar (Int 8) ∷ [], (n, (64, bytes) ∷ []))
+
+step_kinds : (kind_of (codes "getelementptr") ≡ Some kinds.Word)
+unfolding table
+step_kinds = refl
+
+byte_type : type_pieces (Int 8) ≡ word (codes "i8") ∷ []
+unfolding type_pieces width_word
+byte_type = rw (decimals.1) refl
+
+step_word : width_word 64 ≡ codes "i64"
+unfolding width_word
+step_word = rw (decimals.4) refl
+
+byte_writes : Writes closed inst_memory (scalar (Int 8) ∷ []) (word (codes "i8") ∷ [])
+unfolding memory_leaf
+byte_writes = rw (← byte_type) (in_instruction _ (type_pieces (Int 8)) (leaf_says _ _ _ (left_says (mapped_says (Int 8) _ refl (type_says (Int 8) (inr (inl refl)))))) (type_laid (Int 8) (inr (inl refl))))
+
+pub no_flags_write : {b : Before} → Writes b three_flags (false, (false, false)) []
+unfolding three_flags
+no_flags_write = mapped_writes None _ refl none_writes
+
+no_others : {A : Type 0} {b : Before} {f : Form A} → Writes b (many f) [] []
+no_others {f = f} = record { says = none_says f; tokens = tt; joined = refl }
+
+index_writes : (n : ℕ) → IsBelow 64 n → Writes open_ comma_index (64, n) (comma ∷ blank ∷ word (codes "i64") ∷ blank ∷ lexeme (token kinds.Number (signed_text 64 n)) ∷ [])
+index_writes n lt = rw (← step_word) (after_comma (mapped_writes (64, signed_text 64 n) _ (rw (signed_again 64 n (lit< tt) (lit≤ tt) lt) refl) (both (width_writes 64 (inr (inr (inr (inr (inl refl)))))) (spaced (signed_writes 64 n (lit≤ tt) lt)))))
+
+pub steps_write : (n : Name) (bytes : ℕ) → IsName n → IsBelow 64 bytes
+    → Writes closed constant_offset (written_steps n bytes) (word (codes "getelementptr") ∷ blank ∷ left_paren ∷ word (codes "i8") ∷ comma ∷ blank ∷ word (codes "ptr") ∷ blank ∷ lexeme (global_token n) ∷ comma ∷ blank ∷ word (codes "i64") ∷ blank ∷ lexeme (token kinds.Number (signed_text 64 bytes)) ∷ right_paren ∷ [])
+unfolding constant_offset
+steps_write n bytes h lt =
+    behind_writes (codes "getelementptr") step_kinds (mapped_writes ((false, (false, false)), written_steps n bytes) _ refl (both no_flags_write (spaced (between_writes kinds.LeftParen kinds.RightParen (codes "(") (codes ")")
+    (word (codes "i8") ∷ comma ∷ blank ∷ word (codes "ptr") ∷ blank ∷ lexeme (global_token n) ∷ comma ∷ blank ∷ word (codes "i64") ∷ blank ∷ lexeme (token kinds.Number (signed_text 64 bytes)) ∷ []) (right_paren ∷ []) bracket_kinds.0 refl
+    (mark_laid kinds.RightParen (codes ")") refl bracket_kinds.1 (loose nothing_behind)) refl
+    (both byte_writes (both (after_comma (behind_writes (codes "ptr") value_kinds.4 (spaced (global_writes n h)))) (mapped_writes ((64, bytes), []) _ refl (both (index_writes bytes lt) no_others))))))))

@@ -1,0 +1,10 @@
+use Rattle.std.proofs.Common.{◌≡◌, ◌++◌, take}
+use Rattle.std.specs.Prelude.{map}
+use Rattle.text_lex.specs.Layout.{text_of}
+use Rattle.ir_types.specs.Denotes.{tables_of, operand_in}
+use Rattle.type_printer.specs.Pieces.{with_commas}
+use Rattle.ir_printer.specs.Print.{arguments_of}
+use Rattle.ir_printer.proofs.call.put_arguments.Given as goal
+
+abbrev pub invariant-loop-place : goal.invariant-loop-place
+invariant-loop-place l = l.out.items ≡ l.initial.out.items ++ text_of (with_commas (take l.place (arguments_of l.actuals (map (operand_in (tables_of l.m) l.names) l.operands))))

@@ -1,0 +1,46 @@
+// Symbols as operands.
+
+ghost use Rattle.std.specs.Prelude.{◌≡◌, ◌++◌, OnOk};
+ghost use Rattle.text_lex.specs.Layout.{text_of};
+ghost use Rattle.ir_types.specs.Names.{name_at};
+ghost use Rattle.ir_types.specs.Denotes.{tables_of};
+ghost use Rattle.ir_shape.specs.Shape.{IsName};
+ghost use Rattle.type_printer.specs.Pieces.{global_token};
+ghost use Rattle.ir_printer.specs.Print.{global_pieces};
+
+use crate::value::put_signed;
+use ir_types::Module;
+use std::alloc::AllocError;
+use type_printer::name::put_name;
+
+// Appends `@name` for a place in the list of symbols.
+fn put_symbol(out: &mut Vec<u8>, m: &Module, symbol: u32) -> Result<(), AllocError>
+    requires { IsName (name_at (tables_of m.now).symbols symbol) }
+    ensures { OnOk result (out.new.items ≡ out.old.items
+        ++ (global_token (name_at (tables_of m.now).symbols symbol)).text) }
+{
+    out.push(b'@')?;
+    put_name(out, &m.symbols.at(symbol as usize).name)
+}
+
+/// Appends a symbol, and how many bytes behind it where these aren't 0.
+#[tactic(auto, unfolding(crate::specs::Print::global_pieces), using(type_printer::proofs::Appended::text_of_both, std::proofs::lemmas::Grind::common_steps))]
+pub(crate) fn put_global(
+    out: &mut Vec<u8>,
+    m: &Module,
+    symbol: u32,
+    bytes: u64,
+) -> Result<(), AllocError>
+    requires { IsName (name_at (tables_of m.now).symbols symbol) }
+    ensures { OnOk result (out.new.items ≡ out.old.items
+        ++ text_of (global_pieces (name_at (tables_of m.now).symbols symbol) bytes)) }
+{
+    if bytes == 0 {
+        return put_symbol(out, m, symbol);
+    }
+    out.extend_from_slice(b"getelementptr (i8, ptr ")?;
+    put_symbol(out, m, symbol)?;
+    out.extend_from_slice(b", i64 ")?;
+    put_signed(out, 64, bytes)?;
+    out.extend_from_slice(b")")
+}

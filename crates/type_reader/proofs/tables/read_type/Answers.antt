@@ -1,0 +1,39 @@
+use Rattle.std.proofs.Common.{◌≡◌, List, length, ◌∙◌, arith}
+use Rattle.std.proofs.lemmas.Result.{err_from_is_err_and}
+use Rattle.forms.specs.declared.cursor.Cursor.{Cursor}
+use Rattle.forms.specs.Form.{Lexeme}
+use Rattle.forms.specs.Gives.{left}
+use Rattle.forms.specs.Reading.{read}
+use Rattle.ir_types.specs.declared.memory_type.TypeId.{TypeId}
+use Rattle.ir_types.specs.TypeNodes.{type_nodes}
+use Rattle.ir_types.specs.Grammar.{memory_type, inst_memory}
+use Rattle.ir_types.proofs.InstMemory.{inst_memory_reads}
+use Rattle.type_reader.specs.TypeTable.{names_of}
+use Rattle.type_reader.proofs.Enlarged.{first_extents}
+use Rattle.type_reader.proofs.Same.{gives_failed}
+use Rattle.type_reader.proofs.tables.read_type.Goals as goal
+
+-- as any memory type is read
+as_any : (ts : List Lexeme) → read inst_memory ts ≡ read (memory_type (length ts)) ts
+as_any ts = inst_memory_reads (length ts) ts (omega arith)
+
+pub returns-in_err-id-clause-reads : goal.returns-in_err-id-clause-reads
+returns-in_err-id-clause-reads c =
+    let ts = left c.args.tokens in
+    let p = err_from_is_err_and c.from_residual.result c.from_residual.ensures.1 in
+    let names = names_of c.memory_type.new.names in
+    let types = c.memory_type.new.types.items in
+    rw (p.1, p.2) (gives_failed (λ (x : TypeId × Cursor). (type_nodes names types x.0, left x.1)) _ c.in_err-id.field-0.0 _ _ (λ e. as_any ts ∙ e) (c.in_err-id.ensures.reads (length ts) (omega arith)))
+
+pub extents_behind-requires-clause-first : goal.extents_behind-requires-clause-first
+extents_behind-requires-clause-first c =
+    let r = c.requires in
+    let e = c.in_ok-id.ensures in
+    let types = c.args.types.now.items in
+    rw (c.as_slice.ensures.value, c.as_slice-2.ensures, e.types_grow.parts)
+    (first_extents types e.types_grow.more c.args.names.now c.memory_type.new.names c.args.extents.now.items r.are r.defined r.extents e.looks_up)
+
+pub returns-clause-reads : goal.returns-clause-reads
+returns-clause-reads c =
+    let ts = left c.args.tokens in
+    as_any ts ∙ c.in_ok-id.ensures.reads (length ts) (omega arith)
