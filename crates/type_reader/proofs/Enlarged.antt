@@ -3,6 +3,7 @@ use Rattle.std.proofs.Common.{◌≡◌, ℕ, zero, suc, ◌<◌, ◌≤◌, Lis
 use Rattle.std.specs.Prelude.{slice_get}
 use Rattle.std.specs.List.{AllByRecursion, filter_map}
 use Rattle.std.proofs.lemmas.List.{append-nil}
+use Rattle.std.proofs.Math.Seq.{take-append_seam}
 use Rattle.forms.specs.View.{Extends}
 use Rattle.ir_types.specs.declared.name.Name.{Name}
 use Rattle.ir_types.specs.declared.memory_type.TypeId.{TypeId}
@@ -19,10 +20,10 @@ use Rattle.ir_sizes.specs.Definitions.{IsMissing}
 use Rattle.ir_sizes.specs.Known.{IsDefined, AreFirstExtents}
 use Rattle.ir_sizes.proofs.Staying.{extents_first}
 use Rattle.type_reader.specs.TypeTable.{names_of, missing_entry, LooksUpSome}
-use Rattle.type_reader.specs.Tables.{TableLists, definition_over, Grows, IsDefinedBefore, AreTables}
+use Rattle.type_reader.specs.Tables.{TableLists, nodes_there, definition_over, Grows, IsDefinedBefore, AreTables}
 use Rattle.type_reader.proofs.Growth.{entries_looked, definitions_stay, extends_length}
 use Rattle.type_reader.proofs.Holding.{names_extend}
-use Rattle.type_reader.proofs.NodeLists.{types_with_names}
+use Rattle.type_reader.proofs.NodeLists.{types_with_names, nodes_stay}
 
 are_missing : (ns : List Name) → AllByRecursion IsMissing (map missing_entry ns)
 are_missing [] = tt
@@ -99,3 +100,11 @@ module _ (t : TableLists) (entries : List TypeName) (h : AreTables t) (l : Looks
   pub with_entries : AreTables (record { symbols = t.symbols; known = t.known; entries = entries; types = t.types; extents = t.extents })
   with_entries =
       enlarged t.types t.extents (extends_refl t.types) (types_with_names (names_of t.entries) (names_of entries) t.types names_longer h.types_are) (extents_with_names t.types t.entries entries t.extents h.types_are h.defined h.extents_are l)
+
+-- a list that is cut back to what it was
+pub cut_back : {A : Type 0} (n : ℕ) (old new kept : List A) → n ≡ length old → Extends old new → kept ≡ take n new → kept ≡ old
+cut_back n old new kept e x k = k ∙ ap (λ (m : ℕ). take m new) e ∙ ap (take (length old)) x.parts ∙ take-append_seam old x.more
+
+-- the nodes of a type that was added
+pub nodes_kept : (t : TableLists) (id : TypeId) → AreTypes (names_of t.entries) 0 t.types → id.0 < length t.types → (later : TableLists) → Grows t later → nodes_there later id ≡ nodes_there t id
+nodes_kept t id are lt later g = nodes_stay (names_of t.entries) (names_of later.entries) t.types later.types id are lt (names_extend t.entries later.entries g.entries) g.types

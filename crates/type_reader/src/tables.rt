@@ -139,18 +139,20 @@ impl Tables {
         ensures stays { IfOk result (λ x. (later : TableLists) → Grows self.new later → nodes_there later x.0 ≡ nodes_there self.new x.0) }
     {
         let count = self.types.len();
-        let read = read_type(
+        match read_type(
             alloc,
             tokens,
             &mut self.types,
             &mut self.names,
             &mut self.extents,
-        );
-        if read.is_err() {
-            self.types.truncate(count);
-            self.extents.truncate(count);
+        ) {
+            Ok(found) => Ok(found),
+            Err(fault) => {
+                self.types.truncate(count);
+                self.extents.truncate(count);
+                Err(fault)
+            }
         }
-        read
     }
 
     /// How many bytes these indexes lead on, modulo 2^64, from a pointer that is stepped through as the type at a place; none where they step
