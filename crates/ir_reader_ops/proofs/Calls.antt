@@ -21,13 +21,16 @@ use Rattle.ir_reader_ops.proofs.Offsets.{parted}
 
 -- ---- arguments
 
+abbrev actual_of : Ty → KeptTexts → OperandTree → Actual × OperandTree
+actual_of t k a = (record { ty = t; kept = k }, a)
+
 pub argument_is : (defs : Definitions) (ts : List Lexeme) → read (argument defs) ts ≡ argument_read defs ts
 unfolding argument
 argument_is defs ts =
     first_apart (actual_at defs) value_type (pair kept value) ts
     ∙ alike (read value_type ts) _ _ (λ t.
     first_apart (λ y. actual_at defs (t.0, y)) kept value t.1
-    ∙ alike (read kept t.1) _ _ (λ k. then_made (operand_at defs t.0) (λ a. (record { ty = t.0; kept = k.0 }, a)) (read value k.1)))
+    ∙ alike (read kept t.1) _ _ (λ k. then_made (operand_at defs t.0) (actual_of t.0 k.0) (read value k.1)))
 
 abbrev Arguments : Type 0
 Arguments = Option (List (Actual × OperandTree) × List Lexeme)

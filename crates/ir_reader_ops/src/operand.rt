@@ -134,7 +134,7 @@ fn offset(
     requires { All IsIndex indexes.now }
     ensures { Gives (λ bytes. bytes) result (offset_of (definitions scope.now) (nodes_there scope.now.tables id) (map index_pair indexes.now)) }
 {
-    match scope.tables.offset(id, indexes)? {
+    match scope.tables.offset(id, indexes) {
         Some(bytes) => Ok(bytes),
         None => Err(tokens.refusal()),
     }
