@@ -52,13 +52,16 @@ nothing_then None = refl
 nothing_then (Some a) = refl
 
 -- of two values the first is completed
+abbrev before : {A C : Type 0} → C → A → Option (A × C)
+before c a = Some (a, c)
+
 abbrev pub first : {A B C : Type 0} → (B → Option A) → B × C → Option (A × C)
-first complete x = complete x.0 >>= λ a. Some (a, x.1)
+first complete x = complete x.0 >>= before x.1
 
 pub pair_sooner : {A B C : Type 0} (f : Form A) (g : Form B) (h : Form C) (complete : B → Option A) → Later f g complete → Later (pair f h) (pair g h) (first complete)
 pair_sooner {A} {B} {C} f g h complete later ts = ap (λ (q : Option (A × List Lexeme)). q >>= λ x. read h x.1 >>= beside_left x.0) (later ts) ∙ by (read g ts)
   where
-    with_first : (o : Option A) (y : C × List Lexeme) → (o >>= λ a. Some ((a, y.0), y.1)) ≡ ((o >>= λ a. Some (a, y.0)) >>= leaving y.1)
+    with_first : (o : Option A) (y : C × List Lexeme) → (o >>= λ a. beside_left a y) ≡ ((o >>= before y.0) >>= leaving y.1)
     with_first None y = refl
     with_first (Some a) y = refl
 
