@@ -6,5 +6,5 @@ pub mod Operands
 pub mod Split
 pub mod Conditions
 pub mod Offsets
-pub mod Calls
+pub mod Callees
 pub mod Beginnings

@@ -68,6 +68,9 @@ module _ (tail : TailKind) (b : KeptTexts) (t : Ty) (s : Option Signature) (n : 
   abbrev whole : List (Actual × OperandTree) × KeptTexts → Option InstTree
   whole x = Some (call_tree tail (b, (t, (s, (n, x)))))
 
+  abbrev parted_before : List Lexeme → Option (List Actual × List OperandTree) → Option ((List Actual × List OperandTree) × List Lexeme)
+  parted_before us o = o >>= λ q. Some (q, us)
+
   behind_name : (defs : Definitions) (ts : List Lexeme) → completed whole (read (pair (in_parens defs) kept) ts) ≡ (arguments_read defs ts >>= λ p. read kept p.1 >>= λ a. Some (call_of p.0 a.0, a.1))
   behind_name defs ts =
       first_apart whole (in_parens defs) kept ts
@@ -82,7 +85,7 @@ module _ (tail : TailKind) (b : KeptTexts) (t : Ty) (s : Option Signature) (n : 
       by None = refl
       by (Some x) =
           kept_behind x.0 (read kept x.1)
-          ∙ sym (ap (λ (o : Option _). (o >>= λ q. Some (q, x.1)) >>= λ p. read kept p.1 >>= λ a. Some (call_of p.0 a.0, a.1)) (parted x.0))
+          ∙ sym (ap (λ (o : Option (List Actual × List OperandTree)). parted_before x.1 o >>= λ p. read kept p.1 >>= λ a. Some (call_of p.0 a.0, a.1)) (parted x.0))
 
 pub call_is : (defs : Definitions) (tail : TailKind) (ts : List Lexeme) → read (call defs tail) ts ≡ call_read defs tail ts
 unfolding call
