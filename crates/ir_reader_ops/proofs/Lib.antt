@@ -1,4 +1,5 @@
 pub mod Widening
+pub mod Refusals
 pub mod Pushing
 pub mod Modulo
 pub mod Chains

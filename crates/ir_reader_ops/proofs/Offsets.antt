@@ -11,7 +11,7 @@ use Rattle.ir_types.specs.TypeNodes.{TypeNode}
 use Rattle.ir_types.specs.Tree.{OperandTree, InstTree}
 use Rattle.ir_types.specs.Grammar.{bare_inst, three_flags, inst_memory, pointer_value, index_value, width, after_mark, some, offset_tree, getelementptr}
 use Rattle.ir_reader_ops.specs.Split.{split_each, behind_both}
-use Rattle.ir_reader_ops.specs.Offsets.{as_two, next_index, indexes_read, getelementptr_read}
+use Rattle.ir_reader_ops.specs.Offsets.{as_two, next_index, indexes_read, steps_read, getelementptr_read}
 use Rattle.ir_reader_ops.proofs.Chains.{alike, first_apart}
 
 -- pairs as two lists
@@ -38,6 +38,10 @@ behind_pointer defs f m p ts = by (read (some (next_index defs)) ts)
     by : (r : Option (List (ℕ × OperandTree) × List Lexeme)) → completed (whole f m p) r ≡ (behind_both [] (p ∷ []) (completed (split_each as_two) r) >>= λ s. Some (offset_of_steps f m s.0, s.1))
     by None = refl
     by (Some x) = sym (ap (λ (o : Option (List ℕ × List OperandTree)). behind_both [] (p ∷ []) (steps_before x.1 o) >>= λ s. Some (offset_of_steps f m s.0, s.1)) (parted x.0))
+
+-- the steps, behind their pointer
+pub steps_behind : (defs : Definitions) (p : OperandTree) (ts us : List Lexeme) → read (after_mark Comma (pointer_value defs)) ts ≡ Some (p, us) → steps_read defs ts ≡ indexes_read defs (p ∷ []) us
+steps_behind defs p ts us e = ap (λ (o : Option (OperandTree × List Lexeme)). o >>= λ p. indexes_read defs (p.0 ∷ []) p.1) e
 
 abbrev then_offset : Flags → List TypeNode → Option ((List ℕ × List OperandTree) × List Lexeme) → Option (InstTree × List Lexeme)
 then_offset f m r = r >>= λ s. Some (offset_of_steps f m s.0, s.1)

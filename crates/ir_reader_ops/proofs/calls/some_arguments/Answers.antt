@@ -1,4 +1,4 @@
-use Rattle.std.proofs.Common.{◌≡◌, List, map, refl, sym, ap, ◌∙◌, arith}
+use Rattle.std.proofs.Common.{◌≡◌, map, refl, sym, ap, ◌∙◌, arith}
 use Rattle.std.proofs.lemmas.Result.{err_from_is_err_and}
 use Rattle.forms.specs.declared.cursor.Cursor.{Cursor}
 use Rattle.forms.specs.declared.TokenKind.TheVariants.{Comma}
@@ -9,14 +9,12 @@ use Rattle.forms.proofs.Viewed.{count_viewed}
 use Rattle.ir_types.specs.declared.call.Actual.{Actual}
 use Rattle.ir_types.specs.declared.inst.Operand.{Operand}
 use Rattle.ir_types.specs.Offsets.{Definitions}
-use Rattle.ir_types.specs.Tree.{OperandTree}
-use Rattle.forms.specs.Form.{Lexeme}
 use Rattle.ir_types.specs.Grammar.{argument, marked}
 use Rattle.ir_reader_ops.specs.Seen.{definitions, operand_seen}
 use Rattle.ir_reader_ops.specs.Calls.{actual_in, some_arguments_read}
 use Rattle.ir_reader_ops.proofs.Widening.{widens_trans}
 use Rattle.ir_reader_ops.proofs.Pushing.{push_seen, push_steady}
-use Rattle.type_reader.proofs.Same.{gives_failed}
+use Rattle.ir_reader_ops.proofs.Refusals.{fails}
 use Rattle.ir_reader_ops.specs.Offsets.{as_two}
 use Rattle.ir_reader_ops.proofs.Split.{goes_two, fails_two, split_ends}
 use Rattle.ir_reader_ops.proofs.calls.some_arguments.Goals as goal
@@ -52,7 +50,7 @@ returns-in_err-actual-2-clause-reads c =
     let form = marked Comma (argument defs) in
     let p = err_from_is_err_and c.from_residual-in_err-actual-2.result c.from_residual-in_err-actual-2.ensures.1 in
     let same : read (marked Comma (argument defs)) (left c.more.rest) ≡ read (marked Comma (argument (definitions before))) (left c.more.rest) = ap (λ (d : Definitions). read (marked Comma (argument d)) (left c.more.rest)) (sym c.more.invariant.grows.definitions) in
-    rw (p.1, p.2) (gives_failed (λ (x : (Actual × Operand) × Cursor). (actual_in now x.0, left x.1)) (λ (x : (List Actual × List OperandTree) × List Lexeme). x) c.in_err-actual-2.field-0.0 _ _
+    rw (p.1, p.2) (fails (λ (x : (Actual × Operand) × Cursor). (actual_in now x.0, left x.1)) c.in_err-actual-2.field-0.0 _ _
       (λ e. fails_two form c.more.actuals.items (map (operand_seen before) c.more.values) (left c.more.rest) (some_arguments_read defs (left c.args.tokens)) refl (sym (c.another.ensures defs) ∙ c.more-test.true) (same ∙ e) c.more.invariant.reads)
       c.in_err-actual-2.ensures.reads)
 
