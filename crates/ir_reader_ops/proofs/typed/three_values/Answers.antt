@@ -1,18 +1,12 @@
-use Rattle.std.proofs.Common.{◌≡◌, List, refl, sym, ap, ◌∙◌}
-use Rattle.forms.specs.Form.{Lexeme}
+use Rattle.std.proofs.Common.{refl, ◌∙◌}
 use Rattle.forms.specs.Gives.{left}
-use Rattle.forms.specs.Reading.{read}
-use Rattle.ir_types.specs.Offsets.{Definitions}
 use Rattle.ir_types.specs.Grammar.{typed_value, comma_typed}
 use Rattle.ir_reader_ops.specs.Seen.{definitions}
 use Rattle.ir_reader_ops.specs.View.{typed_in}
 use Rattle.ir_reader_ops.proofs.Chains.{three_apart}
+use Rattle.ir_reader_ops.proofs.Operands.{by_definitions}
 use Rattle.ir_reader_ops.proofs.Widening.{widens_trans, steady_behind}
 use Rattle.ir_reader_ops.proofs.typed.three_values.Goals as goal
-
--- the same by other definitions, where these are the same
-by_definitions : (d e : Definitions) (ts : List Lexeme) → e ≡ d → read (comma_typed d) ts ≡ read (comma_typed e) ts
-by_definitions d e ts same = ap (λ (d : Definitions). read (comma_typed d) ts) (sym same)
 
 pub returns-clause-reads : goal.returns-clause-reads
 returns-clause-reads c =
@@ -27,8 +21,8 @@ returns-clause-reads c =
       (three_apart (typed_value defs) (comma_typed defs) (comma_typed defs) (typed_in a c.in_ok-first.first) (typed_in b c.in_ok-second.second) (typed_in n c.in_ok-third.third)
         (left c.args.tokens) (left c.in_ok-first.rest) (left c.in_ok-second.rest) (left c.in_ok-third.rest)
         c.in_ok-first.ensures.reads
-        (by_definitions defs (definitions a) (left c.in_ok-first.rest) c.in_ok-first.ensures.grows.definitions ∙ c.in_ok-second.ensures.reads)
-        (by_definitions defs (definitions b) (left c.in_ok-second.rest) (c.in_ok-second.ensures.grows.definitions ∙ c.in_ok-first.ensures.grows.definitions) ∙ c.in_ok-third.ensures.reads))
+        (by_definitions comma_typed defs (definitions a) (left c.in_ok-first.rest) c.in_ok-first.ensures.grows.definitions ∙ c.in_ok-second.ensures.reads)
+        (by_definitions comma_typed defs (definitions b) (left c.in_ok-second.rest) (c.in_ok-second.ensures.grows.definitions ∙ c.in_ok-first.ensures.grows.definitions) ∙ c.in_ok-third.ensures.reads))
 
 pub returns-clause-stays : goal.returns-clause-stays
 returns-clause-stays c = λ later e.
