@@ -9,3 +9,4 @@ pub mod Conditions
 pub mod Offsets
 pub mod Callees
 pub mod Beginnings
+pub mod Attached
