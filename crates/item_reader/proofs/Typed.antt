@@ -5,7 +5,7 @@ use Rattle.forms.specs.Form.{Lexeme, Form, exactly, one, ahead, pair, either, ma
 use Rattle.forms.specs.Gives.{mark}
 use Rattle.forms.specs.Reading.{◌>>=◌, read}
 use Rattle.forms.specs.Walk.{completed}
-use Rattle.forms.proofs.Longest.{within}
+use Rattle.forms.proofs.Fronts.{within}
 use Rattle.function_reader.proofs.Chains.{alike, first_apart}
 use Rattle.ir_types.specs.declared.name.Name.{Name}
 use Rattle.ir_types.specs.TypeNodes.{TypeNode}
