@@ -1,4 +1,4 @@
-use Rattle.std.proofs.Common.{rules, ◌≡◌, ℕ, length, refl, sym, ◌∙◌, subst, arith}
+use Rattle.std.proofs.Common.{◌≡◌, ℕ, length, refl, sym, ◌∙◌, subst, arith}
 use Rattle.ir_types.specs.declared.memory_type.TypeId.{TypeId}
 use Rattle.ir_types.proofs.NameAt.{extends_refl}
 use Rattle.type_reader.specs.TypeTable.{LooksUpSome}
@@ -18,7 +18,7 @@ invariant_of-self-in-Err c =
     let s = c.self.inside in
     let t : TableLists = record { symbols = s.symbols; known = s.known; entries = s.names; types = s.types.items; extents = s.extents.items } in
     let e = c.in-Err.ensures in
-    let count : c.len-count.result ≡ length t.types = search rules in
+    let count : c.len-count.result ≡ length t.types = c.len-count.ensures ∙ s.types.ok.0 in
     let types = cut_back c.len-count.result t.types c.read_type.new.types.items c.truncate.new.self.items count e.types_grow c.truncate.ensures.items in
     let extents = cut_back c.len-count.result t.extents c.read_type.new.extents.items c.truncate-in-Err.new.self.items (count ∙ sym c.self.invariant.extents_are.as_many) e.extents_grow c.truncate-in-Err.ensures.items in
     rw (types, extents) (with_entries t c.read_type.new.names c.self.invariant e.looks_up)
@@ -42,7 +42,7 @@ returns-in-Err-clause-grows c =
     let s = c.self.inside in
     let t : TableLists = record { symbols = s.symbols; known = s.known; entries = s.names; types = s.types.items; extents = s.extents.items } in
     let e = c.in-Err.ensures in
-    let count : c.len-count.result ≡ length t.types = search rules in
+    let count : c.len-count.result ≡ length t.types = c.len-count.ensures ∙ s.types.ok.0 in
     let types = cut_back c.len-count.result t.types c.read_type.new.types.items c.truncate.new.self.items count e.types_grow c.truncate.ensures.items in
     let extents = cut_back c.len-count.result t.extents c.read_type.new.extents.items c.truncate-in-Err.new.self.items (count ∙ sym c.self.invariant.extents_are.as_many) e.extents_grow c.truncate-in-Err.ensures.items in
     rw (types, extents, sym c.self.view_is) (enlarged_grows t c.read_type.new.names c.self.invariant e.looks_up t.types t.extents (extends_refl t.types))
