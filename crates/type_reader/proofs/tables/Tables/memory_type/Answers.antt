@@ -1,8 +1,6 @@
-use Rattle.std.proofs.Common.{◌≡◌, ℕ, length, refl, sym, ◌∙◌, subst, arith}
-use Rattle.ir_types.specs.declared.memory_type.TypeId.{TypeId}
+use Rattle.std.proofs.Common.{◌≡◌, length, sym, ◌∙◌}
 use Rattle.ir_types.proofs.NameAt.{extends_refl}
-use Rattle.type_reader.specs.TypeTable.{LooksUpSome}
-use Rattle.type_reader.specs.Tables.{TableLists, Grows, AreTables}
+use Rattle.type_reader.specs.Tables.{TableLists}
 use Rattle.type_reader.proofs.Enlarged.{enlarged, enlarged_grows, with_entries, cut_back, nodes_kept}
 use Rattle.type_reader.proofs.tables.Tables.memory_type.Goals as goal
 
