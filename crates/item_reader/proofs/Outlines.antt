@@ -7,6 +7,7 @@ use Rattle.forms.specs.Reading.{◌>>=◌, read}
 use Rattle.forms.specs.Walk.{completed}
 use Rattle.forms.specs.Kept.{attachments}
 use Rattle.forms.specs.Nested.{joined}
+use Rattle.forms.proofs.Exact.{some_is}
 use Rattle.ir_types.specs.declared.name.Name.{Name}
 use Rattle.ir_types.specs.declared.inst.Ty.{Ty}
 use Rattle.ir_types.specs.Tree.{KeptTexts}
@@ -74,12 +75,16 @@ outline_of_parts : {B : Type 0} (h : Parts B → Outline) (r : Option (Parts B �
 outline_of_parts h None e = refl
 outline_of_parts h (Some x) e = ap (λ (n : Name). Some (n, x.1)) (e x.0)
 
--- what stands behind parameters, passed over in two parts
-behind_body : {B C : Type 0} (n : Name) (f : Form B) (g : Form C) (ts : List Lexeme) → (passed (read (pair f g) ts) >>= λ e. Some (n, e)) ≡ (read f ts >>= λ a. passed (read g a.1) >>= λ e. Some (n, e))
-behind_body {B} {C} n f g ts =
-    sym (only_name n (read (pair f g) ts)) ∙ first_apart (λ _. Some n) f g ts ∙ alike (read f ts) _ _ (λ a. only_name n (read g a.1))
+-- the name, with what is behind
+abbrev called : Name → List Lexeme → Option (Name × List Lexeme)
+called n us = Some (n, us)
 
-behind_run : {B : Type 0} (n : Name) (r : Option (B × List Lexeme)) → (passed r >>= λ e. Some (n, e)) ≡ (r >>= λ a. Some (n, a.1))
+-- what stands behind parameters, in two parts
+behind_body : {B C : Type 0} (n : Name) (f : Form B) (g : Form C) (ts : List Lexeme) → (passed (read (pair f g) ts) >>= called n) ≡ (read f ts >>= λ a. passed (read g a.1) >>= called n)
+behind_body {B} {C} n f g ts = sym (only_name n (read (pair f g) ts)) ∙ first_apart (λ _. Some n) f g ts ∙ alike (read f ts) _ _ (λ a. only_name n (read g a.1))
+
+-- and in one
+behind_run : {B : Type 0} (n : Name) (r : Option (B × List Lexeme)) → (passed r >>= called n) ≡ (r >>= λ a. called n a.1)
 behind_run n None = refl
 behind_run n (Some a) = refl
 
@@ -100,20 +105,27 @@ declaration_is ts =
 
 -- ---- what the name says of the outline
 
-pub name_stands : (r : Option (Outline × List Lexeme)) (n : Name) (us : List Lexeme) → outline_name r ≡ Some (n, us) → is_some r ≡ true
+abbrev Outlined : Type 0
+Outlined = Option (Outline × List Lexeme)
+
+abbrev name_and_rest : Outline × List Lexeme → Name × List Lexeme
+name_and_rest x = (x.0.name, x.1)
+
+same_parts : (x : Outline × List Lexeme) (n : Name) (us : List Lexeme) → outline_name (Some x) ≡ Some (n, us) → name_and_rest x ≡ (n, us)
+same_parts x n us e = some_is (name_and_rest x) (n, us) e
+
+pub name_stands : (r : Outlined) (n : Name) (us : List Lexeme) → outline_name r ≡ Some (n, us) → is_some r ≡ true
 name_stands None n us e = absurd cc
 name_stands (Some x) n us e = refl
 
-pub name_is : (r : Option (Outline × List Lexeme)) (n : Name) (us : List Lexeme) → outline_name r ≡ Some (n, us) → n ≡ (outline_or_none r).name
+pub name_is : (r : Outlined) (n : Name) (us : List Lexeme) → outline_name r ≡ Some (n, us) → n ≡ (outline_or_none r).name
 name_is None n us e = absurd cc
-name_is (Some x) n us e = cc
+name_is (Some x) n us e = sym (ap (λ (y : Name × List Lexeme). y.0) (same_parts x n us e))
+
+abbrev read_so : Outline → List Lexeme → Outlined
+read_so s us = Some (s, us)
 
 -- what is read is what its outline says
-pub outline_again : (r : Option (Outline × List Lexeme)) (n : Name) (us : List Lexeme) → outline_name r ≡ Some (n, us) → r ≡ Some (outline_or_none r, us)
+pub outline_again : (r : Outlined) (n : Name) (us : List Lexeme) → outline_name r ≡ Some (n, us) → r ≡ Some (outline_or_none r, us)
 outline_again None n us e = absurd cc
-outline_again (Some x) n us e = cc
-
--- where it has no name, none is read
-pub no_name : (r : Option (Outline × List Lexeme)) → outline_name r ≡ None → r ≡ None
-no_name None e = refl
-no_name (Some x) e = absurd cc
+outline_again (Some x) n us e = ap (λ (y : Name × List Lexeme). read_so x.0 y.1) (same_parts x n us e)
