@@ -4,7 +4,7 @@ use Rattle.forms.proofs.Tables.{word_next}
 use Rattle.std.proofs.Common.{eqb, ◌&&◌, ◌≡◌, Bool, true, false, List, [], ◌∷◌, ◌++◌, ◌||◌, ℕ, refl, sym, ap, ◌∙◌}
 use Rattle.forms.specs.declared.TokenKind.{TokenKind}
 use Rattle.forms.specs.declared.TokenKind.TheVariants.{Word, Local, Global, Comdat, Metadata, Equal}
-use Rattle.forms.specs.Form.{Lexeme, Form, kind_code, entry, either, mapped, by_word}
+use Rattle.forms.specs.Form.{Lexeme, Form, kind_code, entry, mapped, by_word}
 use Rattle.forms.specs.Reading.{Terminal, mark_then, any_of, fits, fits_one, words_of, next_in, opens, read}
 use Rattle.ir_types.specs.TypeNodes.{TypeNode}
 use Rattle.ir_types.specs.Tree.{comdat_line, metadata_line}

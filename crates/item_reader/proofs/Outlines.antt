@@ -1,6 +1,6 @@
 -- Passing over a function part after part is skimming it whole.
-use Rattle.std.proofs.Common.{◌≡◌, true, false, List, Option, Some, None, refl, sym, ap, ◌∙◌}
-use Rattle.std.specs.Prelude.{Bool, is_some}
+use Rattle.std.proofs.Common.{◌≡◌, true, List, Option, Some, None, refl, sym, ap, ◌∙◌}
+use Rattle.std.specs.Prelude.{is_some}
 use Rattle.forms.specs.declared.TokenKind.TheVariants.{LeftParen, RightParen, LeftBrace, RightBrace}
 use Rattle.forms.specs.Form.{Lexeme, Form, enclosed, pair}
 use Rattle.forms.specs.Reading.{◌>>=◌, read}
@@ -15,7 +15,7 @@ use Rattle.ir_types.specs.Grammar.{return_type, global_name, kept}
 use Rattle.ir_types.specs.Skimmed.{Outline, declared_outline, skimmed_declaration, defined_outline, skimmed_definition}
 use Rattle.kept_runs.specs.Passed.{passed}
 use Rattle.ir_reader_ops.proofs.Chains.{alike, first_apart}
-use Rattle.item_reader.specs.Sources.{outline_there, outline_or_none}
+use Rattle.item_reader.specs.Sources.{outline_or_none}
 use Rattle.item_reader.specs.Passed.{outline_name, signature_passed, definition_passed, declaration_passed}
 
 behind_passed : {A B : Type 0} (r : Option (A × List Lexeme)) (g : List Lexeme → Option B) → (r >>= λ x. g x.1) ≡ (passed r >>= g)

@@ -1,7 +1,7 @@
 -- Reading definitions and variables part after part is reading them whole.
-use Rattle.std.proofs.Common.{◌≡◌, ℕ, ◌≤◌, ◌<◌, Bool, List, [], codes, length, Option, Some, None, refl, sym, ap, ◌∙◌, arith}
+use Rattle.std.proofs.Common.{◌≡◌, ℕ, ◌≤◌, Bool, List, codes, length, Option, Some, None, refl, sym, ap, ◌∙◌, arith}
 use Rattle.forms.specs.declared.TokenKind.TheVariants.{Local, Global, Equal, Word}
-use Rattle.forms.specs.Form.{Lexeme, Form, exactly, one, ahead, pair, either, mapped, made}
+use Rattle.forms.specs.Form.{Lexeme, Form, exactly, one, ahead, pair, either, mapped}
 use Rattle.forms.specs.Gives.{mark}
 use Rattle.forms.specs.Reading.{◌>>=◌, read}
 use Rattle.forms.specs.Walk.{completed}

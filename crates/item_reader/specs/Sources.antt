@@ -1,5 +1,5 @@
 -- What stands at a place of the text, and is left to be read again.
-use Rattle.std.specs.Prelude.{ℕ, Bool, true, false, List, [], length, Option, Some, None}
+use Rattle.std.specs.Prelude.{Bool, true, false, List, [], length, Option, Some, None}
 use Rattle.forms.specs.Form.{Lexeme}
 use Rattle.forms.specs.Reading.{read}
 use Rattle.ir_types.specs.declared.name.Name.TheVariants.{Number}

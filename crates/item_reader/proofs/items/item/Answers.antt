@@ -1,4 +1,4 @@
-use Rattle.std.proofs.Common.{◌≡◌, sym, ◌∙◌}
+use Rattle.std.proofs.Common.{sym, ◌∙◌}
 use Rattle.forms.specs.Gives.{left}
 use Rattle.type_reader.proofs.Same.{gives_same}
 use Rattle.ir_types.specs.Grammar.{memory_type}

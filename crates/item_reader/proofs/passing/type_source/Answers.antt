@@ -1,4 +1,4 @@
-use Rattle.std.proofs.Common.{◌≡◌, true, refl, sym, ap, ◌∙◌, arith}
+use Rattle.std.proofs.Common.{sym, ap, ◌∙◌, arith}
 use Rattle.std.specs.Prelude.{length, is_some}
 use Rattle.forms.specs.Gives.{left}
 use Rattle.type_reader.specs.TypeTable.{names_of}
