@@ -43,7 +43,7 @@ abbrev text : List Lexeme
 text =
     tokens []
     (codes "define void @f ( ptr %p ) { getelementptr { %q , %t } , ptr %p , i64 1 store ptr getelementptr ( %t , ptr @w , i64 2 ) , ptr @v ret void } "
-        ++ codes "@v = global %t 0 %t = type i64")
+    ++ codes "@v = global %t 0 %t = type i64")
 
 abbrev definitions : Definitions
 definitions = (Text (codes "t"), Some (scalar (Int 64) ∷ [])) ∷ []
