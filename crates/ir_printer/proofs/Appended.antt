@@ -1,8 +1,9 @@
 -- The text of an instruction and of a type's definition, and of items that are printed one at a time.
-use Rattle.std.proofs.Common.{◌≡◌, ◌+◌, ◌<◌, ◌≤◌, ℕ, zero, suc, false, eqb, List, [], ◌∷◌, ◌++◌, length, get_or, drop, sym, ap, ◌∙◌, subst, arith, append_assoc, add-one, drop-cons}
-use Rattle.std.specs.Prelude.{codes, map, flat_map}
+use Rattle.std.proofs.Common.{◌≡◌, ◌+◌, ◌<◌, ◌≤◌, ℕ, zero, suc, false, cond, eqb, List, [], ◌∷◌, ◌++◌, length, get_or, drop, sym, ap, ◌∙◌, subst, arith, append_assoc, add-one, drop-cons}
+use Rattle.std.specs.Prelude.{codes, map, flat_map, Result, Ok, Err, OnOk}
 use Rattle.std.specs.List.{AllByRecursion}
 use Rattle.std.specs.Option.{option_map}
+use Rattle.std.specs.Result.{is_ok}
 use Rattle.std.proofs.lemmas.List.{append-nil, drop_all}
 use Rattle.text_lex.specs.Layout.{Piece, text_of}
 use Rattle.text_lex.specs.KeptText.{kept_behind}
@@ -15,8 +16,18 @@ use Rattle.ir_types.specs.declared.module.Block.{Block}
 use Rattle.ir_types.specs.declared.module.Function.{Function}
 use Rattle.ir_types.specs.Denotes.{Tables, name_in, operand_in, param_in}
 use Rattle.ir_types.specs.Tree.{OperandTree}
-use Rattle.type_printer.specs.Pieces.{local_token, global_token, line_feed, separated, with_commas, type_pieces}
+use Rattle.type_printer.specs.Pieces.{word, local_token, global_token, line_feed, separated, with_commas, type_pieces}
 use Rattle.ir_printer.specs.Print.{signature_pieces, arguments_of, call_pieces, opening_pieces, operands_pieces, ending_pieces, result_pieces, inst_pieces, block_pieces, kept_then_blank, blank_then_kept, params_pieces, function_word, head_pieces, body_pieces, function_pieces, parting, functions_behind, definition_pieces}
+
+-- a word is appended where there is room
+pub word_appended : {T E : Type 0} (out w : List ℕ) {out1 : List ℕ} (r : Result T E) → out1 ≡ cond (is_ok r) (out ++ w) out → OnOk r (out1 ≡ out ++ text_of (word w ∷ []))
+word_appended out w (Ok u) e = rw (append-nil w) e
+word_appended out w (Err x) e = tt
+
+-- and more behind it
+pub more_appended : {T E : Type 0} (out w more : List ℕ) {out1 out2 : List ℕ} (r : Result T E) → out1 ≡ out ++ w → OnOk r (out2 ≡ out1 ++ more) → OnOk r (out2 ≡ out ++ (w ++ more))
+more_appended out w more (Ok u) e f = f ∙ rw e (append_assoc out w more)
+more_appended out w more (Err x) e f = tt
 
 pub inst_text : (t : Tables) (ns : List Name) (i : Inst) → text_of (inst_pieces t ns i)
     ≡ text_of (result_pieces (option_map (name_in ns) i.result)) ++ (text_of (opening_pieces i.kind) ++ (text_of (operands_pieces t i.kind i.ty (map (operand_in t ns) i.args) (map (name_in ns) i.labels)) ++ (text_of (ending_pieces i.kind i.ty (map (name_in ns) i.labels)) ++ (text_of (kept_behind [] i.kept) ++ 10 ∷ []))))
