@@ -25,9 +25,9 @@ word_appended out w (Ok u) e = rw (append-nil w) e
 word_appended out w (Err x) e = tt
 
 -- and more behind it
-pub more_appended : {T E : Type 0} (out w more : List ℕ) {out1 out2 : List ℕ} (r : Result T E) → out1 ≡ out ++ w → OnOk r (out2 ≡ out1 ++ more) → OnOk r (out2 ≡ out ++ (w ++ more))
-more_appended out w more (Ok u) e f = f ∙ rw e (append_assoc out w more)
-more_appended out w more (Err x) e f = tt
+pub more_appended : {T E : Type 0} (out w more out2 : List ℕ) {out1 : List ℕ} (r : Result T E) → out1 ≡ out ++ w → OnOk r (out2 ≡ out1 ++ more) → OnOk r (out2 ≡ out ++ (w ++ more))
+more_appended out w more out2 (Ok u) e f = f ∙ rw e (append_assoc out w more)
+more_appended out w more out2 (Err x) e f = tt
 
 pub inst_text : (t : Tables) (ns : List Name) (i : Inst) → text_of (inst_pieces t ns i)
     ≡ text_of (result_pieces (option_map (name_in ns) i.result)) ++ (text_of (opening_pieces i.kind) ++ (text_of (operands_pieces t i.kind i.ty (map (operand_in t ns) i.args) (map (name_in ns) i.labels)) ++ (text_of (ending_pieces i.kind i.ty (map (name_in ns) i.labels)) ++ (text_of (kept_behind [] i.kept) ++ 10 ∷ []))))

@@ -7,7 +7,7 @@ use Rattle.ir_printer.proofs.opening.put_opening.Goals as goal
 pub returns-in_ok-extend_from_slice-in-Offset : goal.returns-in_ok-extend_from_slice-in-Offset
 returns-in_ok-extend_from_slice-in-Offset c =
     let arm = c.in-Offset in
-    rw arm.is (more_appended c.args.out.now.items (codes "getelementptr") (text_of (offset_flags arm.inbounds arm.nuw arm.nusw)) c.put_offset_flags.result c.in_ok-extend_from_slice-in-Offset.ensures.items c.put_offset_flags.ensures)
+    rw arm.is (more_appended c.args.out.now.items (codes "getelementptr") (text_of (offset_flags arm.inbounds arm.nuw arm.nusw)) c.put_offset_flags.new.out.items c.put_offset_flags.result c.in_ok-extend_from_slice-in-Offset.ensures.items c.put_offset_flags.ensures)
 
 pub returns-in-Extract : goal.returns-in-Extract
 returns-in-Extract c = rw c.in-Extract.is (word_appended c.args.out.now.items (codes "extractelement") c.extend_from_slice-in-Extract.result c.extend_from_slice-in-Extract.ensures.items)
