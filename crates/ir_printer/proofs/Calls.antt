@@ -1,5 +1,5 @@
 -- The pieces that calls and `getelementptr` are printed as write them.
-use Rattle.std.proofs.Common.{◌≡◌, ◌<◌, ℕ, Bool, List, [], ◌∷◌, ◌++◌, length, Option, Some, None, refl, sym, ap, subst, append_assoc, arith}
+use Rattle.std.proofs.Common.{◌≡◌, ◌<◌, ℕ, Bool, List, [], ◌∷◌, ◌++◌, length, Option, Some, None, refl, ap, subst, append_assoc, arith}
 use Rattle.std.specs.Prelude.{map, codes}
 use Rattle.std.specs.List.{AllByRecursion, AllZip}
 use Rattle.forms.specs.declared.TokenKind.TheVariants as kinds
@@ -22,7 +22,7 @@ use Rattle.type_printer.proofs.LaidOut.{bracket_kinds}
 use Rattle.type_printer.proofs.Writes.{Writes, both, spaced, mapped_writes, made_writes, none_writes, there_writes, after_comma, between_writes, EachWrites, list_write, some_commas}
 use Rattle.ir_printer.specs.Print.{typed_operand, each_typed, written_types, signature_pieces, argument_pieces, arguments_of, call_pieces, blank_then_kept, kept_then_blank, offset_flags, listed_pieces}
 use Rattle.ir_printer.proofs.Words.{type_writes, return_writes, global_writes}
-use Rattle.ir_printer.proofs.Values.{IsWritten, operand_written, pointer_writes, index_writes}
+use Rattle.ir_printer.proofs.Values.{operand_written, pointer_writes, index_writes}
 use Rattle.ir_printer.proofs.Parts.{offset_flags_write}
 use Rattle.ir_printer.proofs.Dotted.{dotted_write}
 use Rattle.ir_printer.proofs.KeptWritten.{spaced_kept, kept_before}

@@ -1,13 +1,12 @@
 -- The constant that steps so many bytes behind a symbol.
-use Rattle.std.proofs.Common.{◌≡◌, ◌+◌, ◌-◌, ◌*◌, ◌%◌, ◌≤◌, ◌^◌, ℕ, true, false, List, [], ◌∷◌, Some, None, lit<, lit≤, refl, ap, ◌∙◌, arith, inl, inr}
+use Rattle.std.proofs.Common.{◌≡◌, ◌+◌, ◌-◌, ◌*◌, ◌%◌, ◌^◌, ℕ, false, List, [], ◌∷◌, Some, None, lit<, lit≤, refl, ap, ◌∙◌, arith, inl, inr}
 use Rattle.std.specs.Prelude.{nat_lt, codes}
 use Rattle.std.proofs.Math.Nat.{mod-eq_of_lt}
-use Rattle.std.proofs.lemmas.Bool.Decides.{nat_tests}
 use Rattle.forms.specs.declared.TokenKind.TheVariants as kinds
 use Rattle.forms.specs.Form.{Form, many}
 use Rattle.forms.specs.Lexical.{kind_of, table}
 use Rattle.forms.proofs.Begins.{test}
-use Rattle.text_lex.specs.Layout.{Piece, lexeme, Before, closed, open_}
+use Rattle.text_lex.specs.Layout.{lexeme, Before, closed, open_}
 use Rattle.ir_types.specs.declared.name.Name.{Name}
 use Rattle.ir_types.specs.declared.inst.Ty.TheVariants.{Int}
 use Rattle.ir_types.specs.Offsets.{Definitions, scaled, offset_of}
