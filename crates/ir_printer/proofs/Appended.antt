@@ -37,7 +37,7 @@ inst_text t ns i = simp (text_of-append, append_assoc)
 pub call_text : (c : Callee) (t : Ty) (args : List OperandTree) → text_of (call_pieces c t args)
     ≡ 32 ∷ (text_of (kept_then_blank c.before) ++ (text_of (type_pieces t) ++ (text_of (signature_pieces c.signature) ++ (32 ∷ ((global_token c.name).text ++ (40 ∷ (text_of (with_commas (arguments_of c.actuals args)) ++ 41 ∷ [])))))))
 unfolding call_pieces
-call_text c t args = simp (text_of-append, append_assoc)
+call_text c t args = simp text_of-append
 
 pub definition_text : (n : Name) (ps : List Piece) → text_of (definition_pieces n ps) ≡ ((local_token n).text ++ codes " = type ") ++ (text_of ps ++ 10 ∷ [])
 definition_text n ps = simp (text_of-append, append_assoc)
@@ -72,7 +72,3 @@ one_printed f xs i x out out1 whole lt e e1 so_far =
     let step : text_of (flat_map f (drop i xs)) ≡ text_of (f x) ++ text_of (flat_map f (drop (i + 1) xs)) =
     ap (λ (ys : List _). text_of (flat_map f ys)) from ∙ text_of-append (f x) _ in
     rw e1 (append_assoc out (text_of (f x)) _ ∙ sym (ap (λ (t : List ℕ). out ++ t) step) ∙ so_far)
-
--- none is left
-pub none_left : {A : Type 0} (f : A → List Piece) (xs : List A) (i : ℕ) (out whole : List ℕ) → length xs ≤ i → out ++ text_of (flat_map f (drop i xs)) ≡ whole → out ≡ whole
-none_left f xs i out whole le so_far = sym (append-nil out) ∙ sym (ap (λ (ys : List _). out ++ text_of (flat_map f ys)) (drop_all i xs le)) ∙ so_far
