@@ -113,7 +113,6 @@ fn enclosed_dotted<'t>(
 }
 
 /// The parameters in their parentheses, whose names are those of a scope.
-#[tactic(auto, using(ir_reader_ops::proofs::Widening::names_widen))]
 fn scoped_params<'t>(
     alloc: Global,
     tokens: Cursor<'t>,
