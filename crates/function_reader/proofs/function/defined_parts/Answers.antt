@@ -37,7 +37,7 @@ returns-clause-stays c = λ later e.
     let grows = c.in_ok-body.ensures.grows in
     let stays = c.in_ok-params.ensures.stays in
     let params : params_in later.names c.from_vec.result ≡ params_in q.names c.from_vec.result =
-        ap (λ (l : List Param). params_in later.names l) c.from_vec.ensures ∙ stays later (widens_trans p q later grows e) ∙ sym (ap (λ (l : List Param). params_in q.names l) c.from_vec.ensures ∙ stays q grows) in
+    ap (λ (l : List Param). params_in later.names l) c.from_vec.ensures ∙ stays later (widens_trans p q later grows e) ∙ sym (ap (λ (l : List Param). params_in q.names l) c.from_vec.ensures ∙ stays q grows) in
     let body : blocks_in later c.from_vec-2.result ≡ blocks_in q c.from_vec-2.result =
-        ap (λ (l : List Block). blocks_in later l) c.from_vec-2.ensures ∙ c.in_ok-body.ensures.stays later e ∙ sym (ap (λ (l : List Block). blocks_in q l) c.from_vec-2.ensures) in
+    ap (λ (l : List Block). blocks_in later l) c.from_vec-2.ensures ∙ c.in_ok-body.ensures.stays later e ∙ sym (ap (λ (l : List Block). blocks_in q l) c.from_vec-2.ensures) in
     rw (params, body) refl
