@@ -12,4 +12,4 @@ mod tests;
 
 pub use function::{declared, defined};
 pub use ir_reader_ops::{excluded_words, kept};
-pub use passing::pass_defined;
+pub use passing::{pass_declared, pass_defined};
