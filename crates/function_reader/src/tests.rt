@@ -1,6 +1,6 @@
 // Each public function once, and instructions of all forms.
 
-use crate::{declared, defined, excluded_words, kept, pass_declared, pass_defined};
+use crate::{declared, defined};
 use forms::{Cursor, SyntaxFault, Token, TokenKind};
 use lists::Texts;
 use std::alloc::{AllocError, Global};
@@ -67,8 +67,6 @@ fn declares(rt: HostRuntime) -> Result<(), SyntaxFault> {
         text: DECLARED,
         rest: tokens.as_slice(),
     };
-    let (_, behind) = pass_declared(rt.alloc(), cursor)?;
-    assert!(rt; behind.rest.is_empty());
     let (function, rest) = declared(rt.alloc(), cursor)?;
     assert!(rt; rest.rest.is_empty());
     assert!(rt; are_kept(&function.before, 3, b"signext"));
@@ -87,8 +85,6 @@ fn defines(rt: HostRuntime) -> Result<(), SyntaxFault> {
         text: DEFINED,
         rest: tokens.as_slice(),
     };
-    let (_, behind) = pass_defined(rt.alloc(), cursor)?;
-    assert_eq!(rt; behind.rest.len(), 1);
     let mut tables = no_tables(rt.alloc())?;
     let (function, rest) = defined(rt.alloc(), cursor, &mut tables)?;
     assert_eq!(rt; rest.rest.len(), 1);
@@ -96,21 +92,6 @@ fn defines(rt: HostRuntime) -> Result<(), SyntaxFault> {
     assert!(rt; are_kept(&function.after, 3, b"!7"));
     assert_eq!(rt; function.params.len(), 2);
     assert_eq!(rt; function.names.len(), 3);
-    Ok(())
-}
-
-#[test]
-fn keeps_no_excluded_word(rt: HostRuntime) -> Result<(), SyntaxFault> {
-    let text = b"align 4 #0 ret ";
-    let tokens = parted(rt.alloc(), text)?;
-    let cursor = Cursor {
-        text,
-        rest: tokens.as_slice(),
-    };
-    let (texts, rest) = kept(rt.alloc(), cursor)?;
-    assert!(rt; are_kept(&texts, 3, b"#0"));
-    assert_eq!(rt; rest.rest.len(), 1);
-    assert!(rt; excluded_words().contains(&b"ret".as_slice()));
     Ok(())
 }
 
