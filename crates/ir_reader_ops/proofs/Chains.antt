@@ -39,6 +39,11 @@ first_apart {A} {B} f g h ts = by (read g ts)
     by None = refl
     by (Some x) = each x.0 (read h x.1)
 
+-- three forms in a row, of what each gives
+pub three_apart : {A B C : Type 0} (f : Form A) (g : Form B) (h : Form C) (a : A) (b : B) (c : C) (ts us vs ws : List Lexeme) → read f ts ≡ Some (a, us) → read g us ≡ Some (b, vs) → read h vs ≡ Some (c, ws)
+    → read (pair f (pair g h)) ts ≡ Some ((a, (b, c)), ws)
+three_apart f g h a b c ts us vs ws first second third = rw first (rw second (rw third refl))
+
 abbrev there : {Z R : Type 0} → R → Option Z → Option (Z × R)
 there r o = o >>= λ z. Some (z, r)
 

@@ -12,6 +12,7 @@ use Rattle.ir_types.specs.Offsets.{Definitions}
 use Rattle.ir_types.specs.Tree.{OperandTree, InstTree}
 use Rattle.ir_types.specs.Grammar.{operand_at, bare_inst, value, after_mark, target, branch_tree, branch}
 use Rattle.ir_reader_ops.specs.Conditions.{conditional_read}
+use Rattle.ir_reader_ops.specs.Operands.{value_read}
 use Rattle.ir_reader_ops.proofs.Chains.{alike, chained}
 use Rattle.ir_reader_ops.proofs.Operands.{behind_apart}
 
@@ -41,3 +42,8 @@ conditional_is defs ts =
     behind_apart (branch_tree defs) (exactly Word (codes "i1")) (pair value two_targets) (i1 ∷ ts)
     ∙ chained (operand_at defs (Int 1)) branch_of value two_targets ts
     ∙ alike (completed (operand_at defs (Int 1)) (read value ts)) _ _ (λ a. labels_behind a.0 a.1)
+
+-- a branch, of what its parts are read as
+pub conditional_reads : (defs : Definitions) (a : OperandTree) (t o : Name) (ts at_then at_other rest : List Lexeme) → value_read defs (Int 1) ts ≡ Some (a, at_then) → read (after_mark Comma target) at_then ≡ Some (t, at_other)
+    → read (after_mark Comma target) at_other ≡ Some (o, rest) → conditional_read defs ts ≡ Some (bare_inst Branch Void (a ∷ []) (t ∷ o ∷ []), rest)
+conditional_reads defs a t o ts at_then at_other rest value then other = rw value (rw then (rw other refl))

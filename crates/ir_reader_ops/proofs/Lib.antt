@@ -1,4 +1,5 @@
 pub mod Widening
+pub mod Refusals
 pub mod Pushing
 pub mod Modulo
 pub mod Chains
@@ -6,5 +7,5 @@ pub mod Operands
 pub mod Split
 pub mod Conditions
 pub mod Offsets
-pub mod Calls
+pub mod Callees
 pub mod Beginnings

@@ -11,7 +11,7 @@ use Rattle.ir_types.specs.TypeNodes.{TypeNode}
 use Rattle.ir_types.specs.Tree.{OperandTree, InstTree}
 use Rattle.ir_types.specs.Grammar.{bare_inst, three_flags, inst_memory, pointer_value, index_value, width, after_mark, some, offset_tree, getelementptr}
 use Rattle.ir_reader_ops.specs.Split.{split_each, behind_both}
-use Rattle.ir_reader_ops.specs.Offsets.{as_two, next_index, indexes_read, getelementptr_read}
+use Rattle.ir_reader_ops.specs.Offsets.{as_two, next_index, indexes_read, steps_read, getelementptr_read}
 use Rattle.ir_reader_ops.proofs.Chains.{alike, first_apart}
 
 -- pairs as two lists
@@ -28,13 +28,20 @@ whole f m p is = Some (offset_tree (f, (m, (p, is))))
 abbrev offset_of_steps : Flags → List TypeNode → List ℕ × List OperandTree → InstTree
 offset_of_steps f m s = bare_inst (Offset m s.0 f.0 f.1.0 f.1.1) Ptr s.1 []
 
+abbrev steps_before : List Lexeme → Option (List ℕ × List OperandTree) → Option ((List ℕ × List OperandTree) × List Lexeme)
+steps_before us o = o >>= λ q. Some (q, us)
+
 behind_pointer : (defs : Definitions) (f : Flags) (m : List TypeNode) (p : OperandTree) (ts : List Lexeme)
     → completed (whole f m p) (read (some (next_index defs)) ts) ≡ (indexes_read defs (p ∷ []) ts >>= λ s. Some (offset_of_steps f m s.0, s.1))
 behind_pointer defs f m p ts = by (read (some (next_index defs)) ts)
   where
     by : (r : Option (List (ℕ × OperandTree) × List Lexeme)) → completed (whole f m p) r ≡ (behind_both [] (p ∷ []) (completed (split_each as_two) r) >>= λ s. Some (offset_of_steps f m s.0, s.1))
     by None = refl
-    by (Some x) = sym (ap (λ (o : Option _). behind_both [] (p ∷ []) (o >>= λ q. Some (q, x.1)) >>= λ s. Some (offset_of_steps f m s.0, s.1)) (parted x.0))
+    by (Some x) = sym (ap (λ (o : Option (List ℕ × List OperandTree)). behind_both [] (p ∷ []) (steps_before x.1 o) >>= λ s. Some (offset_of_steps f m s.0, s.1)) (parted x.0))
+
+-- the steps, behind their pointer
+pub steps_behind : (defs : Definitions) (p : OperandTree) (ts us : List Lexeme) → read (after_mark Comma (pointer_value defs)) ts ≡ Some (p, us) → steps_read defs ts ≡ indexes_read defs (p ∷ []) us
+steps_behind defs p ts us e = ap (λ (o : Option (OperandTree × List Lexeme)). o >>= λ p. indexes_read defs (p.0 ∷ []) p.1) e
 
 abbrev then_offset : Flags → List TypeNode → Option ((List ℕ × List OperandTree) × List Lexeme) → Option (InstTree × List Lexeme)
 then_offset f m r = r >>= λ s. Some (offset_of_steps f m s.0, s.1)

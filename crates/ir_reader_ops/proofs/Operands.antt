@@ -1,5 +1,5 @@
 -- Reading operands part after part is reading them whole.
-use Rattle.std.proofs.Common.{◌≡◌, ◌<◌, ℕ, Bool, false, cond, List, length, get_or, map, codes, Option, Some, None, ap, ◌∙◌}
+use Rattle.std.proofs.Common.{◌≡◌, ◌<◌, ℕ, Bool, false, cond, List, length, get_or, map, codes, Option, Some, None, refl, sym, ap, ◌∙◌}
 use Rattle.std.proofs.lemmas.List.Folds.{list_all-map, list_all_at}
 use Rattle.forms.specs.declared.TokenKind.TheVariants.{Word, Comma}
 use Rattle.forms.specs.Form.{Lexeme, Form, exactly, mapped, pair}
@@ -10,7 +10,7 @@ use Rattle.ir_types.specs.declared.inst.Ty.{Ty}
 use Rattle.ir_types.specs.declared.inst.Ty.TheVariants.{Int, Ptr}
 use Rattle.ir_types.specs.Offsets.{Definitions}
 use Rattle.ir_types.specs.Tree.{OperandTree}
-use Rattle.ir_types.specs.Grammar.{WrittenValue, lane_at, is_int, operand_at, width, value_type, value, after_mark, two_values, typed_value, both_at, typed_pair, pointer_value, index_value}
+use Rattle.ir_types.specs.Grammar.{WrittenValue, lane_at, is_int, operand_at, width, value_type, value, after_mark, two_values, typed_value, both_at, typed_pair, comma_typed, pointer_value, index_value, extract_tree, extractelement, insert_tree, insertelement}
 use Rattle.ir_reader_ops.specs.declared.lanes.Lane.{Lane}
 use Rattle.ir_reader_ops.specs.View.{typed_lane_in, lanes_in}
 use Rattle.ir_reader_ops.specs.Operands.{lanes_of_width, typed_value_read, typed_pair_read, pointer_read, index_read}
@@ -54,3 +54,25 @@ typed_pair_is defs ts =
     ∙ alike (completed (operand_at defs t.0) (read value t.1)) _ _ (λ a.
     behind_apart (second_at defs t.0 a.0) (mark Comma) value a.1
     ∙ alike (read (mark Comma) a.1) _ _ (λ c. then_made (operand_at defs t.0) (λ b. (t.0, (a.0, b))) (read value c.1))))
+
+-- the same by other definitions that are the same
+pub by_definitions : {A : Type 0} (f : Definitions → Form A) (d e : Definitions) (ts : List Lexeme) → e ≡ d → read (f d) ts ≡ read (f e) ts
+by_definitions f d e ts same = ap (λ (d : Definitions). read (f d) ts) (sym same)
+
+-- an index behind a comma
+abbrev pub index_behind : Definitions → Form (ℕ × OperandTree)
+index_behind defs = after_mark Comma (index_value defs)
+
+-- lanes of vectors, of what their parts are read as
+pub extract_reads : (defs : Definitions) (v : Ty × OperandTree) (i : ℕ × OperandTree) (ts us ws : List Lexeme) → read (typed_value defs) ts ≡ Some (v, us) → read (index_behind defs) us ≡ Some (i, ws) → read (extractelement defs) ts ≡ Some (extract_tree (v, i), ws)
+unfolding extractelement
+extract_reads defs v i ts us ws vector index = rw vector (rw index refl)
+
+pub extract_fails : (defs : Definitions) (v : Ty × OperandTree) (ts us : List Lexeme) → read (typed_value defs) ts ≡ Some (v, us) → read (index_behind defs) us ≡ None → read (extractelement defs) ts ≡ None
+unfolding extractelement
+extract_fails defs v ts us vector index = rw vector (rw index refl)
+
+pub insert_reads : (defs : Definitions) (v e : Ty × OperandTree) (i : ℕ × OperandTree) (ts us vs ws : List Lexeme) → read (typed_value defs) ts ≡ Some (v, us) → read (comma_typed defs) us ≡ Some (e, vs) → read (index_behind defs) vs ≡ Some (i, ws)
+    → read (insertelement defs) ts ≡ Some (insert_tree (v, (e, i)), ws)
+unfolding insertelement
+insert_reads defs v e i ts us vs ws vector element index = rw vector (rw element (rw index refl))

@@ -61,7 +61,10 @@ refused : {A B C : Type 0} (step : A → Option (B × C)) (bs : List B) (cs : Li
 refused step bs cs a None e = refl
 refused step bs cs a (Some x) e = ap (λ (o : Option _). behind_both bs cs ((o >>= λ p. split_each step x.0 >>= λ q. Some (p.0 ∷ q.0, p.1 ∷ q.1)) >>= λ v. Some (v, x.1))) e
 
-nothing_made : {B C : Type 0} (o : Option (B × C)) (us : List Lexeme) → (o >>= λ b. Some (b, us)) ≡ None → o ≡ None
+abbrev made_before : {B : Type 0} → List Lexeme → Option B → Option (B × List Lexeme)
+made_before us o = o >>= λ b. Some (b, us)
+
+nothing_made : {B : Type 0} (o : Option B) (us : List Lexeme) → made_before us o ≡ None → o ≡ None
 nothing_made None us e = refl
 nothing_made (Some b) us e = absurd cc
 
@@ -86,8 +89,14 @@ pub fails_two : {B C : Type 0} (f : Form (B × C)) (bs : List B) (cs : List C) (
     → behind_both bs cs (completed (split_each as_two) (read (many f) ts)) ≡ whole → whole ≡ None
 fails_two f bs cs ts whole n o e before = split_fails f as_two bs cs ts whole n o (ap (completed as_two) e) before
 
+abbrev with_first : {A : Type 0} → A → Option (List A × List Lexeme) → Option ((A × List A) × List Lexeme)
+with_first a r = r >>= λ y. Some ((a, y.0), y.1)
+
 abbrev consed : {A : Type 0} → A → Option (List A × List Lexeme) → Option (List A × List Lexeme)
-consed a r = (r >>= λ y. Some ((a, y.0), y.1)) >>= λ z. Some (z.0.0 ∷ z.0.1, z.1)
+consed a r = with_first a r >>= λ z. Some (z.0.0 ∷ z.0.1, z.1)
+
+abbrev both_read : {A : Type 0} → Option (A × List Lexeme) → (A × List Lexeme → Option ((A × List A) × List Lexeme)) → Option (List A × List Lexeme)
+both_read r more = r >>= more >>= λ z. Some (z.0.0 ∷ z.0.1, z.1)
 
 consed_is : {A : Type 0} (a : A) (r : Option (List A × List Lexeme)) → consed a r ≡ first_before a r
 consed_is a None = refl
@@ -97,7 +106,7 @@ consed_is a (Some x) = refl
 pub first_two : {B C : Type 0} (f g : Form (B × C)) (bs : List B) (cs : List C) (b : B) (c : C) (ts us : List Lexeme) → read f ts ≡ Some ((b, c), us)
     → behind_both (bs ++ b ∷ []) (cs ++ c ∷ []) (completed (split_each as_two) (read (many g) us)) ≡ behind_both bs cs (completed (split_each as_two) (read (mapped (λ x. x.0 ∷ x.1) (pair f (many g))) ts))
 first_two {B} {C} f g bs cs b c ts us e =
-    sym (ap (λ (r : Option ((B × C) × List Lexeme)). behind_both bs cs (completed (split_each as_two) ((r >>= λ x. read (many g) x.1 >>= λ y. Some ((x.0, y.0), y.1)) >>= λ z. Some (z.0.0 ∷ z.0.1, z.1)))) e
+    sym (ap (λ (r : Option ((B × C) × List Lexeme)). behind_both bs cs (completed (split_each as_two) (both_read r (λ x. with_first x.0 (read (many g) x.1))))) e
     ∙ ap (λ (r : Option _). behind_both bs cs (completed (split_each as_two) r)) (consed_is (b, c) (read (many g) us))
     ∙ regroup as_two bs cs (b, c) b c (read (many g) us) refl)
 

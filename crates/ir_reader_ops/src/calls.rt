@@ -24,7 +24,7 @@ use std::alloc::Global;
 use type_reader::{begins_type, global, return_type, value_type};
 
 /// T K V.
-#[tactic(auto, using(crate::proofs::Calls::argument_is))]
+#[tactic(auto, using(crate::proofs::Callees::argument_is))]
 fn argument<'t>(
     alloc: Global,
     tokens: Cursor<'t>,
@@ -122,7 +122,7 @@ fn enclosed_arguments<'t>(
 }
 
 /// K R [( T, .. [, ...] )] @name ( T K V, .. ) K.
-#[tactic(auto, using(crate::proofs::Calls::call_is))]
+#[tactic(auto, using(crate::proofs::Callees::call_is))]
 fn call<'t>(
     alloc: Global,
     tail: TailKind,

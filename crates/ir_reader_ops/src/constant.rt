@@ -32,7 +32,8 @@ pub fn memory<'t>(
     ensures reads { Gives (λ x. (nodes_seen scope.new x.0, left x.1)) result (read inst_memory (left tokens.entry)) }
     ensures stays { Stays nodes_seen scope.new result }
 {
-    scope.tables.memory_type(alloc, tokens)
+    let (id, rest) = scope.tables.memory_type(alloc, tokens)?;
+    Ok((id, rest))
 }
 
 /// The place of a symbol, which is added to the module's where it is new.

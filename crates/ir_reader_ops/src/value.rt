@@ -41,6 +41,7 @@ pub enum Written<'t> {
 }
 
 /// The place of a local name, which is added to the names where it is new.
+#[tactic(auto, using(crate::proofs::Widening::names_widen, crate::proofs::Widening::widens_refl))]
 pub fn local_id<'t>(
     alloc: Global,
     tokens: Cursor<'t>,
@@ -91,7 +92,7 @@ fn constant_word<'t>(tokens: Cursor<'t>) -> Option<(Written<'t>, Cursor<'t>)>
 }
 
 /// A value as it is written.
-#[tactic(auto, unfolding(ir_types::specs::Grammar::value, ir_types::specs::Grammar::local_name))]
+#[tactic(auto, unfolding(ir_types::specs::Grammar::value, ir_types::specs::Grammar::local_name, ir_types::specs::Grammar::global_name))]
 pub fn written_value<'t>(
     alloc: Global,
     tokens: Cursor<'t>,

@@ -6,7 +6,7 @@ use Rattle.ir_reader_ops.specs.Split.{split_each}
 use Rattle.ir_reader_ops.specs.Offsets.{as_two}
 use Rattle.ir_reader_ops.specs.Calls.{actuals_in}
 use Rattle.type_reader.proofs.Same.{gives_same}
-use Rattle.ir_reader_ops.proofs.Calls.{list_some, list_none}
+use Rattle.ir_reader_ops.proofs.Callees.{list_some, list_none}
 use Rattle.ir_reader_ops.proofs.calls.arguments.Goals as goal
 
 pub returns-then-begins_type-clause-reads : goal.returns-then-begins_type-clause-reads

@@ -1,15 +1,13 @@
-use Rattle.std.proofs.Common.{◌≡◌, refl, sym, ap, ◌∙◌}
+use Rattle.std.proofs.Common.{◌≡◌, refl, ap}
 use Rattle.ir_reader_ops.specs.Seen.{operand_seen}
-use Rattle.ir_reader_ops.specs.Split.{labels_in}
-use Rattle.ir_reader_ops.proofs.Widening.{widens_trans}
+use Rattle.ir_reader_ops.specs.Split.{labels_in, head_in}
+use Rattle.ir_reader_ops.proofs.Widening.{steady_behind}
 use Rattle.ir_reader_ops.proofs.switch.switch.Goals as goal
 
 pub returns-clause-stays : goal.returns-clause-stays
 returns-clause-stays c = λ later e.
-    let a = c.head.new.scope in
     let n = c.cases.new.scope in
-    let grows = c.in_ok-numbers.ensures.grows in
-    let head = c.in_ok-bits.ensures.stays in
-    let value : operand_seen later c.in_ok-bits.value ≡ operand_seen n c.in_ok-bits.value = ap (λ x. x.0.1) (head later (widens_trans a n later grows e) ∙ sym (head n grows)) in
+    let head = steady_behind head_in c.head.new.scope n ((c.in_ok-bits.bits, c.in_ok-bits.value), c.in_ok-bits.default) c.in_ok-numbers.ensures.grows c.in_ok-bits.ensures.stays later e in
+    let value : operand_seen later c.in_ok-bits.value ≡ operand_seen n c.in_ok-bits.value = ap (λ x. x.0.1) head in
     let labels : labels_in later c.in_ok-numbers.labels ≡ labels_in n c.in_ok-numbers.labels = ap (λ x. x.1) (c.in_ok-numbers.ensures.stays later e) in
     rw (c.bare.ensures, c.in_ok-args.ensures, value, labels) refl

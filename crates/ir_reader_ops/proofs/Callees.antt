@@ -62,11 +62,14 @@ in_parens defs = between LeftParen RightParen (list (argument defs))
 
 module _ (tail : TailKind) (b : KeptTexts) (t : Ty) (s : Option Signature) (n : Name) where
   -- the call, of its arguments and what is kept behind them
-  abbrev call_of : List Actual × List OperandTree → KeptTexts → InstTree
+  abbrev pub call_of : List Actual × List OperandTree → KeptTexts → InstTree
   call_of p a = bare_inst (Call (record { tail = tail; before = b; signature = s; name = n; actuals = p.0; after = a })) t p.1 []
 
   abbrev whole : List (Actual × OperandTree) × KeptTexts → Option InstTree
   whole x = Some (call_tree tail (b, (t, (s, (n, x)))))
+
+  abbrev parted_before : List Lexeme → Option (List Actual × List OperandTree) → Option ((List Actual × List OperandTree) × List Lexeme)
+  parted_before us o = o >>= λ q. Some (q, us)
 
   behind_name : (defs : Definitions) (ts : List Lexeme) → completed whole (read (pair (in_parens defs) kept) ts) ≡ (arguments_read defs ts >>= λ p. read kept p.1 >>= λ a. Some (call_of p.0 a.0, a.1))
   behind_name defs ts =
@@ -82,7 +85,7 @@ module _ (tail : TailKind) (b : KeptTexts) (t : Ty) (s : Option Signature) (n : 
       by None = refl
       by (Some x) =
           kept_behind x.0 (read kept x.1)
-          ∙ sym (ap (λ (o : Option _). (o >>= λ q. Some (q, x.1)) >>= λ p. read kept p.1 >>= λ a. Some (call_of p.0 a.0, a.1)) (parted x.0))
+          ∙ sym (ap (λ (o : Option (List Actual × List OperandTree)). parted_before x.1 o >>= λ p. read kept p.1 >>= λ a. Some (call_of p.0 a.0, a.1)) (parted x.0))
 
 pub call_is : (defs : Definitions) (tail : TailKind) (ts : List Lexeme) → read (call defs tail) ts ≡ call_read defs tail ts
 unfolding call
@@ -99,3 +102,11 @@ call_is defs tail ts =
     ∙ alike (read (optional signature) t.1) _ _ (λ s.
     first_apart (λ x. Some (call_tree tail (b.0, (t.0, (s.0, x))))) global_name inner s.1
     ∙ alike (read global_name s.1) _ _ (λ n. behind_name tail b.0 t.0 s.0 n.0 defs n.1))))
+
+-- a call, of what its parts are read as
+pub call_reads : (defs : Definitions) (tail : TailKind) (b a : KeptTexts) (t : Ty) (s : Option Signature) (n : Name) (p : List Actual × List OperandTree) (ts at_type at_signature at_name at_arguments behind rest : List Lexeme)
+    → read kept ts ≡ Some (b, at_type) → read return_type at_type ≡ Some (t, at_signature) → read (optional signature) at_signature ≡ Some (s, at_name) → read global_name at_name ≡ Some (n, at_arguments)
+    → arguments_read defs at_arguments ≡ Some (p, behind) → read kept behind ≡ Some (a, rest)
+    → read (call defs tail) ts ≡ Some (call_of tail b t s n p a, rest)
+call_reads defs tail b a t s n p ts at_type at_signature at_name at_arguments behind rest before type sign name arguments after =
+    call_is defs tail ts ∙ rw before (rw type (rw sign (rw name (rw arguments (rw after refl)))))

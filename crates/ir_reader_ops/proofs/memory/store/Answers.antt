@@ -1,0 +1,12 @@
+use Rattle.std.proofs.Common.{◌≡◌, refl, ap}
+use Rattle.ir_reader_ops.specs.Seen.{operand_seen}
+use Rattle.ir_reader_ops.specs.View.{typed_in}
+use Rattle.ir_reader_ops.proofs.Widening.{steady_behind}
+use Rattle.ir_reader_ops.proofs.memory.store.Goals as goal
+
+pub returns-clause-stays : goal.returns-clause-stays
+returns-clause-stays c = λ later e.
+    let n = c.comma_pointer.new.scope in
+    let typed = steady_behind typed_in c.typed_value.new.scope n (c.in_ok-ty.ty, c.in_ok-ty.value) c.in_ok-pointer.ensures.grows c.in_ok-ty.ensures.stays later e in
+    let value : operand_seen later c.in_ok-ty.value ≡ operand_seen n c.in_ok-ty.value = ap (λ x. x.1) typed in
+    rw (c.applied.ensures, c.in_ok-args.ensures, value, c.in_ok-pointer.ensures.stays later e) refl

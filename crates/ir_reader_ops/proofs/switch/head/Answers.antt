@@ -1,0 +1,9 @@
+use Rattle.std.proofs.Common.{refl}
+use Rattle.ir_reader_ops.specs.View.{typed_in}
+use Rattle.ir_reader_ops.proofs.Widening.{steady_behind}
+use Rattle.ir_reader_ops.proofs.switch.head.Goals as goal
+
+pub returns-clause-stays : goal.returns-clause-stays
+returns-clause-stays c = λ later e.
+    let value = steady_behind typed_in c.index_value.new.scope c.comma_target.new.scope c.in_ok-value.value c.in_ok-default.ensures.grows c.in_ok-value.ensures.stays later e in
+    rw (value, c.in_ok-default.ensures.stays later e) refl
