@@ -1,9 +1,1 @@
-pub mod Making
-pub mod Setting
-pub mod Typing
-pub mod Adding
-pub mod Gathering
-pub mod Symbolic
-pub mod Building
-pub mod Whole
-pub mod Exact
+pub mod Filling
