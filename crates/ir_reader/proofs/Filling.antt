@@ -30,7 +30,11 @@ Written = Item WrittenFunction
 abbrev Walked : Type 0
 Walked = Option (List (Item FunctionTree) × Unit {0})
 
-before_walked : (j : Item FunctionTree) (w : Walked) → ((w >>= λ q. Some (j ∷ q.0, q.1)) >>= λ x. Some x.0) ≡ ((w >>= λ x. Some x.0) >>= λ js. Some (j ∷ js))
+-- one more in front, where something walks on
+abbrev before : Item FunctionTree → List (Item FunctionTree) × Unit {0} → Walked
+before j q = Some (j ∷ q.0, q.1)
+
+before_walked : (j : Item FunctionTree) (w : Walked) → ((w >>= before j) >>= λ x. Some x.0) ≡ ((w >>= λ x. Some x.0) >>= λ js. Some (j ∷ js))
 before_walked j None = refl
 before_walked j (Some q) = refl
 
