@@ -18,27 +18,27 @@ use Rattle.ir_reader.specs.declared.longs.ItemLong.TheVariants.{Known, OfFunctio
 
 -- ---- the items of each kind
 
-abbrev pub head_among : {F : Type 0} → Item F → Option KeptTexts
+abbrev pub head_among : Item Skimmed → Option KeptTexts
 head_among (head_line xs) = Some xs
 head_among i = None
 
-abbrev pub comdat_among : {F : Type 0} → Item F → Option KeptTexts
+abbrev pub comdat_among : Item Skimmed → Option KeptTexts
 comdat_among (comdat_line xs) = Some xs
 comdat_among i = None
 
-abbrev pub variable_among : {F : Type 0} → Item F → Option VariableTree
+abbrev pub variable_among : Item Skimmed → Option VariableTree
 variable_among (variable_item v) = Some v
 variable_among i = None
 
-abbrev pub function_among : {F : Type 0} → Item F → Option F
+abbrev pub function_among : Item Skimmed → Option Skimmed
 function_among (function_item f) = Some f
 function_among i = None
 
-abbrev pub attributes_among : {F : Type 0} → Item F → Option KeptTexts
+abbrev pub attributes_among : Item Skimmed → Option KeptTexts
 attributes_among (attribute_line xs) = Some xs
 attributes_among i = None
 
-abbrev pub metadata_among : {F : Type 0} → Item F → Option KeptTexts
+abbrev pub metadata_among : Item Skimmed → Option KeptTexts
 metadata_among (metadata_line xs) = Some xs
 metadata_among i = None
 
@@ -55,7 +55,7 @@ skimmed_of s = outlined (outline_of s)
 -- ---- long names
 
 -- the bytes of the first name in an item that has too many, where that is known before functions are read
-abbrev pub long_of : {F : Type 0} → Item F → ItemLong
+abbrev pub long_of : Item Skimmed → ItemLong
 long_of (type_item n t) = Known (first_long (n ∷ in_definition t))
 long_of (variable_item v) = Known (first_long (v.name ∷ names_used v.ty))
 long_of (function_item f) = OfFunction

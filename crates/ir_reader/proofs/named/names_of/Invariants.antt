@@ -1,0 +1,8 @@
+use Rattle.std.proofs.Common.{◌≡◌, take}
+use Rattle.std.specs.Prelude.{map}
+use Rattle.item_reader.specs.declared.part.Definition.{Definition}
+use Rattle.type_reader.specs.TypeTable.{missing_entry}
+use Rattle.ir_reader.proofs.named.names_of.Given as goal
+
+abbrev pub invariant-loop-definition : goal.invariant-loop-definition
+invariant-loop-definition l = l.names ≡ map (λ (d : Definition). missing_entry d.name) (take l.definition-index l.definitions)
