@@ -5,3 +5,4 @@ pub mod Adding
 pub mod Making
 pub mod Setting
 pub mod Typing
+pub mod Symbolic
