@@ -6,3 +6,4 @@ pub mod Making
 pub mod Setting
 pub mod Typing
 pub mod Symbolic
+pub mod Outlines

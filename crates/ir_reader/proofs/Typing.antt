@@ -97,7 +97,7 @@ all_before n (d ∷ ds) (ty ∷ tys) ns h = (entry_before n d.name ty h.0, all_b
 
 -- ---- all of them
 
-module _ (ds : List Definition) (vs : List Variable) (first types : List MemTy) (tys : List NamedType) (symbols : List Symbol) (known names new : List TypeName) (d : Made stands_for defined_as (entries ds) [] ds tys known first)
+module _ (ds : List Definition) (vs : List Variable) (start first types : List MemTy) (tys : List NamedType) (symbols : List Symbol) (known names new : List TypeName) (d : Made stands_for defined_as (entries ds) start ds tys known first)
   (v : Made symbol_over (λ (v : Variable). Some (variable_symbol v)) known first vs symbols names types) where
   looked : LooksUpSome (entries ds) names
   looked = looks_up_further (entries ds) known names d.names_grow v.names_grow
