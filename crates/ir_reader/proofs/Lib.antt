@@ -7,3 +7,5 @@ pub mod Setting
 pub mod Typing
 pub mod Symbolic
 pub mod Outlines
+pub mod Preparing
+pub mod Building
