@@ -9,3 +9,4 @@ pub mod Symbolic
 pub mod Outlines
 pub mod Preparing
 pub mod Building
+pub mod Exact
