@@ -143,7 +143,7 @@ pub fn module(
         types,
         extents,
         type_names,
-        symbols: with_missing(alloc, symbols, &names.as_slice()[known..])?,
+        symbols: with_missing(alloc, symbols, names.as_slice(), known)?,
         functions: Items::from_vec(functions),
         tail: joined(attributes, metadata)?,
     };

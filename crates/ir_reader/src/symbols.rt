@@ -119,15 +119,17 @@ fn missing_symbol(alloc: Global, name: &Name) -> Result<Symbol, AllocError>
     })
 }
 
-/// The symbols, and behind them those of names that are only used.
+/// The symbols, and behind them those of names that are only used: those behind the known ones.
 pub fn with_missing(
     alloc: Global,
     mut symbols: Vec<Symbol>,
-    used: &[Name],
+    names: &[Name],
+    known: usize,
 ) -> Result<Items<Symbol>, AllocError>
-    ensures { IfOk result (λ all. all ≡ symbols.items ++ map missing_symbol used.now) }
+    requires { known ≤ length names.now }
+    ensures { IfOk result (λ all. all ≡ symbols.items ++ map missing_symbol (drop known names.now)) }
 {
-    for name in used {
+    for name in &names[known..] {
         let symbol = missing_symbol(alloc, name)?;
         symbols.push(symbol)?;
     }
