@@ -1,10 +1,8 @@
 -- What the reader gives is what the text reads as.
-use Rattle.std.proofs.Common.{◌≡◌, ℕ, Bool, true, false, cond, eqb, List, length, Option, Some, None, Result, Ok, Err, refl, sym, ap, ◌∙◌}
-use Rattle.forms.specs.declared.cursor.SyntaxFault.{SyntaxFault}
-use Rattle.forms.specs.declared.cursor.SyntaxFault.TheVariants.{NoReading, Memory}
+use Rattle.std.proofs.Common.{◌≡◌, ℕ, List, Option, Some, None, sym, ap, ◌∙◌}
 use Rattle.forms.specs.Form.{Lexeme}
 use Rattle.forms.specs.Lexical.{Lexes}
-use Rattle.forms.specs.Reading.{◌>>=◌, read_whole}
+use Rattle.forms.specs.Reading.{◌>>=◌}
 use Rattle.forms.proofs.Parts.{bind_some}
 use Rattle.text_lex.specs.declared.fault.Count.{Count}
 use Rattle.text_lex.specs.declared.fault.TextFault.{TextFault}
@@ -12,53 +10,13 @@ use Rattle.text_lex.specs.declared.fault.TextFault.TheVariants.{BadToken, LeftOu
 use Rattle.text_lex.specs.Fault.{IsFaultOf}
 use Rattle.text_lex.proofs.Unique.{lexes_unique}
 use Rattle.ir_types.specs.declared.module.Module.{Module}
-use Rattle.ir_types.specs.Tree.{FunctionTree, Item}
-use Rattle.ir_types.specs.Skimmed.{Skimmed, skimmed_module, with_own_bodies, items_read}
+use Rattle.ir_types.specs.Skimmed.{items_read}
 use Rattle.ir_types.specs.Numbered.{numbered_module}
 use Rattle.ir_types.specs.Reads.{Reads}
 use Rattle.ir_types.proofs.Skimming.{spelled_found, found_spelled}
 use Rattle.ir_limits.specs.Limits.{limit_passed}
-use Rattle.ir_reader.specs.declared.gather.Gathered.{Gathered}
-use Rattle.ir_reader.specs.Reading.{filled_items, module_read, items_skimmed, IsGathered, IsModule, GivesModule}
+use Rattle.ir_reader.specs.Reading.{module_read, IsModule}
 use Rattle.ir_reader.specs.Refusal.{IsWithinLimits, PassesLimit, HasNoReading, IsRefusal}
-
--- ---- all of the tokens
-
--- the items, where no token is left
-abbrev if_all : Option (List (Item Skimmed) × List Lexeme) → Option (List (Item Skimmed))
-if_all r = r >>= λ x. cond (eqb (length x.1) 0) (Some x.0) None
-
-filled_from : Option (List (Item Skimmed) × List Lexeme) → Option (List (Item FunctionTree))
-filled_from r = (if_all r >>= with_own_bodies) >>= numbered_module
-
-whole_is : (ts : List Lexeme) → module_read ts ≡ filled_from (items_skimmed ts)
-unfolding filled_from
-whole_is ts = refl
-
--- items were gathered, and no token is left
-pub all_read : (ts us : List Lexeme) (items : List (Item Skimmed)) → items_skimmed ts ≡ Some (items, us) → eqb (length us) 0 ≡ true → module_read ts ≡ filled_items items
-unfolding filled_from
-all_read ts us items e n = whole_is ts ∙ ap filled_from e ∙ ap (λ (b : Bool). (cond b (Some items) None >>= with_own_bodies) >>= numbered_module) n
-
--- a token is left, or no items are skimmed
-pub not_all : (ts us : List Lexeme) (items : List (Item Skimmed)) → items_skimmed ts ≡ Some (items, us) → eqb (length us) 0 ≡ false → module_read ts ≡ None
-unfolding filled_from
-not_all ts us items e n = whole_is ts ∙ ap filled_from e ∙ ap (λ (b : Bool). (cond b (Some items) None >>= with_own_bodies) >>= numbered_module) n
-
-pub none_skimmed : (ts : List Lexeme) → items_skimmed ts ≡ None → module_read ts ≡ None
-unfolding filled_from
-none_skimmed ts e = whole_is ts ∙ ap filled_from e
-
--- of items the module is given that all of the tokens spell
-pub gives_all : (ts : List Lexeme) (items : List (Item Skimmed)) (r : Result (Module × Option (Count × ℕ)) SyntaxFault) → module_read ts ≡ filled_items items → GivesModule (filled_items items) r → GivesModule (module_read ts) r
-gives_all ts items r e h = rw e h
-
--- whatever fault is given for tokens that spell no module
-pub gives_none : (ts : List Lexeme) (fault : SyntaxFault) → module_read ts ≡ None → GivesModule (module_read ts) (Err fault)
-gives_none ts (NoReading place) e = e
-gives_none ts Memory e = tt
-
--- ---- the text
 
 reads_from : (text : List ℕ) (ts : List Lexeme) (m : Module) (passed : Option (Count × ℕ)) → Lexes text ts → IsModule (module_read ts) m passed → (r : Reads text m) × (passed ≡ limit_passed r.numbered)
 reads_from text ts m passed lexes h =

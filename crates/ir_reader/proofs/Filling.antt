@@ -1,5 +1,5 @@
 -- Items are filled with their functions, which are read by themselves.
-use Rattle.std.proofs.Common.{◌≡◌, ℕ, suc, List, [], ◌∷◌, length, Option, Some, None, refl, sym, ap, ◌∙◌}
+use Rattle.std.proofs.Common.{◌≡◌, List, [], ◌∷◌, Option, Some, None, refl, sym, ap, ◌∙◌}
 use Rattle.std.specs.List.{filter_map}
 use Rattle.forms.specs.Reading.{◌>>=◌}
 use Rattle.forms.specs.Walk.{walk}
@@ -8,7 +8,7 @@ use Rattle.ir_types.specs.Skimmed.{Skimmed, with_body, with_bodies}
 use Rattle.ir_types.specs.Tree.{FunctionTree, WrittenFunction, Item, head_line, comdat_line, type_item, variable_item, function_item, attribute_line, metadata_line}
 use Rattle.ir_types.specs.Numbered.{numbered_function, numbered_item, numbered_module}
 use Rattle.ir_reader.specs.Gathered.{function_among}
-use Rattle.ir_reader.specs.Reading.{function_read, functions_read}
+use Rattle.ir_reader.specs.Reading.{functions_read}
 
 -- the items, where these are their functions
 abbrev pub put : List (Item Skimmed) → List FunctionTree → List (Item FunctionTree)

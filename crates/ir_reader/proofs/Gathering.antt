@@ -1,5 +1,5 @@
 -- What the loop over items keeps.
-use Rattle.std.proofs.Common.{◌≡◌, ℕ, ◌≤◌, ◌<◌, true, false, List, [], ◌∷◌, ◌++◌, length, Option, Some, None, Result, Err, refl, sym, ap, ◌∙◌, arith}
+use Rattle.std.proofs.Common.{◌≡◌, ◌≤◌, ◌<◌, true, false, List, [], ◌∷◌, ◌++◌, length, Option, Some, None, Err, refl, ◌∙◌, arith}
 use Rattle.forms.specs.declared.cursor.Cursor.{Cursor}
 use Rattle.forms.specs.declared.cursor.SyntaxFault.{SyntaxFault}
 use Rattle.forms.specs.declared.cursor.SyntaxFault.TheVariants.{NoReading, Memory}

@@ -1,17 +1,15 @@
 -- The items of each kind, among items that were filled with their functions.
-use Rattle.std.proofs.Common.{◌≡◌, ℕ, suc, List, [], ◌∷◌, ◌++◌, length, map, Option, Some, None, refl, sym, ap, ◌∙◌, arith}
+use Rattle.std.proofs.Common.{◌≡◌, List, [], ◌∷◌, length, map, Option, Some, None, refl, sym, ap, ◌∙◌, arith}
 use Rattle.std.specs.List.{filter_map}
-use Rattle.forms.specs.Nested.{concat}
 use Rattle.ir_types.specs.declared.name.Name.{Name}
 use Rattle.ir_types.specs.TypeNodes.{TypeNode}
-use Rattle.ir_types.specs.Offsets.{Definitions, as_definition, definitions_in}
+use Rattle.ir_types.specs.Offsets.{definitions_in}
 use Rattle.ir_types.specs.Skimmed.{Skimmed}
 use Rattle.ir_types.specs.Tree.{KeptTexts, TypeNameTree, VariableTree, FunctionTree, Item, head_line, comdat_line, type_item, variable_item, function_item, attribute_line, metadata_line}
 use Rattle.ir_types.specs.Collected.{as_head, as_comdat, of_definition, as_type, as_variable, as_function, as_attributes, as_metadata}
 use Rattle.ir_limits.specs.Mentioned.{in_function, in_item, in_items}
 use Rattle.ir_limits.specs.Limits.{or_else, first_long}
 use Rattle.ir_limits.proofs.Firsts.{first_of_both}
-use Rattle.ir_reader.specs.declared.longs.ItemLong.TheVariants.{Known, OfFunction}
 use Rattle.ir_reader.specs.Gathered.{head_among, comdat_among, variable_among, function_among, attributes_among, metadata_among, long_of, long_among}
 use Rattle.ir_reader.proofs.Filling.{put}
 

@@ -1,8 +1,8 @@
 -- Functions are read at the places of their outlines.
-use Rattle.std.proofs.Common.{◌≡◌, ℕ, zero, suc, ◌<◌, ◌≤◌, ◌+◌, Bool, true, false, List, [], ◌∷◌, ◌++◌, length, map, take, drop, get_or, Option, Some, None, Err, refl, sym, ap, ◌∙◌, subst, arith, drop-cons, add-one}
+use Rattle.std.proofs.Common.{◌≡◌, ℕ, zero, suc, ◌<◌, Bool, true, false, List, [], ◌∷◌, ◌++◌, length, map, take, drop, get_or, Option, Some, None, Err, refl, sym, ap, ◌∙◌, arith}
 use Rattle.std.specs.Prelude.{is_some}
 use Rattle.std.specs.List.{AllByRecursion}
-use Rattle.std.proofs.lemmas.List.{map-append, map_push, take_more}
+use Rattle.std.proofs.lemmas.List.{map_push}
 use Rattle.forms.specs.declared.cursor.SyntaxFault.{SyntaxFault}
 use Rattle.forms.specs.declared.cursor.SyntaxFault.TheVariants.{NoReading, Memory}
 use Rattle.forms.specs.Form.{Lexeme}
@@ -13,7 +13,7 @@ use Rattle.forms.proofs.Parts.{bind_some, some_is}
 use Rattle.ir_types.specs.declared.name.Name.{Name}
 use Rattle.ir_types.specs.declared.module.Function.{Function}
 use Rattle.ir_types.specs.Names.{IsTable}
-use Rattle.ir_types.specs.Tree.{ParamTree, BlockTree, WrittenParam, WrittenBlock, WrittenFunction, FunctionTree}
+use Rattle.ir_types.specs.Tree.{WrittenFunction, FunctionTree}
 use Rattle.ir_types.specs.Offsets.{Definitions}
 use Rattle.ir_types.specs.Grammar.{declared_function, defined_function}
 use Rattle.ir_types.specs.Skimmed.{Outline, Skimmed, outlined, skimmed_definition, skimmed_declaration, dotted_read, params_read, body_read, with_dotted, with_inner, filled}

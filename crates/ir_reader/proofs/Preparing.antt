@@ -1,6 +1,5 @@
 -- What tables are before functions are read.
 use Rattle.std.proofs.Common.{◌≡◌, List, [], ◌∷◌, ◌++◌, length, map, Option, Some, refl, sym, ap, ◌∙◌, subst}
-use Rattle.std.specs.List.{filter_map}
 use Rattle.std.proofs.lemmas.List.{map-append, length-map}
 use Rattle.forms.specs.View.{Extends}
 use Rattle.ir_types.specs.declared.name.Name.{Name}
@@ -9,13 +8,13 @@ use Rattle.ir_types.specs.declared.memory_type.MemTy.{MemTy}
 use Rattle.ir_types.specs.declared.memory_type.TypeName.{TypeName}
 use Rattle.ir_types.specs.Tree.{SymbolTree}
 use Rattle.type_reader.specs.TypeTable.{names_of}
-use Rattle.type_reader.specs.Tables.{TableLists, definition_over, Grows}
+use Rattle.type_reader.specs.Tables.{TableLists}
 use Rattle.type_reader.proofs.Holding.{names_extend}
 use Rattle.item_reader.specs.declared.part.Definition.{Definition}
 use Rattle.item_reader.specs.declared.part.Variable.{Variable}
 use Rattle.item_reader.specs.declared.source.FunctionSource.{FunctionSource}
 use Rattle.ir_reader.specs.Trees.{symbol_over, variable_symbol, function_symbols}
-use Rattle.ir_reader.specs.Typed.{AreTyped, all_symbols, ArePrepared}
+use Rattle.ir_reader.specs.Typed.{AreTyped, ArePrepared}
 
 some_symbols : (vs : List Variable) → map Some (map variable_symbol vs) ≡ map (λ (v : Variable). Some (variable_symbol v)) vs
 some_symbols [] = refl
@@ -32,10 +31,10 @@ prepared ds vs fs types names before symbols t h s named known e d =
       named = named;
       known = known ∙ length-map symbols (λ (s : Symbol). s.name);
       stand = λ later g.
-      let ns = names_of later.entries in
-      let n : Extends (names_of names) ns = subst (λ (l : List TypeName). Extends (names_of l) ns) e (names_extend t.entries later.entries g.entries) in
-      let x : Extends types later.types = subst (λ (l : List MemTy). Extends l later.types) d g.types in
-      s ns later.types
-      ∙ ap (λ (l : List (Option SymbolTree)). l ++ map Some functions) (h.stand ns later.types n x ∙ sym (some_symbols vs))
-      ∙ sym (map-append Some (map variable_symbol vs) functions);
+          let ns = names_of later.entries in
+          let n : Extends (names_of names) ns = subst (λ (l : List TypeName). Extends (names_of l) ns) e (names_extend t.entries later.entries g.entries) in
+          let x : Extends types later.types = subst (λ (l : List MemTy). Extends l later.types) d g.types in
+          s ns later.types
+          ∙ ap (λ (l : List (Option SymbolTree)). l ++ map Some functions) (h.stand ns later.types n x ∙ sym (some_symbols vs))
+          ∙ sym (map-append Some (map variable_symbol vs) functions);
     }

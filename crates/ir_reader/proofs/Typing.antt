@@ -1,5 +1,5 @@
 -- The names of types stand for what the definitions say, and behind them stand the names that are used and not defined.
-use Rattle.std.proofs.Common.{◌≡◌, ◌≤◌, ℕ, zero, suc, List, [], ◌∷◌, ◌++◌, length, map, Option, Some, None, refl, sym, ap, ◌∙◌, subst, arith}
+use Rattle.std.proofs.Common.{◌≡◌, ◌≤◌, ℕ, zero, suc, List, [], ◌∷◌, ◌++◌, length, map, Option, Some, refl, sym, ap, ◌∙◌, subst, arith}
 use Rattle.std.specs.Prelude.{slice_get}
 use Rattle.std.specs.List.{AllByRecursion, filter_map}
 use Rattle.std.specs.Option.{option_map}
@@ -23,10 +23,9 @@ use Rattle.type_reader.proofs.Growth.{extends_length, entries_looked}
 use Rattle.type_reader.proofs.Enlarged.{looked_extend}
 use Rattle.item_reader.specs.declared.part.Definition.{Definition}
 use Rattle.item_reader.specs.declared.part.Variable.{Variable}
-use Rattle.item_reader.specs.Parts.{nodes_of}
 use Rattle.ir_reader.specs.Gathered.{definition_of}
 use Rattle.ir_reader.specs.Trees.{stands_for, defined_as, symbol_over, variable_symbol}
-use Rattle.ir_reader.specs.Typed.{Stands, Made, StandsBefore, with_types, AreTyped}
+use Rattle.ir_reader.specs.Typed.{Made, StandsBefore, with_types, AreTyped}
 use Rattle.ir_reader.proofs.Making.{all_later}
 use Rattle.ir_reader.proofs.Setting.{with_names, with_front}
 
@@ -98,7 +97,7 @@ all_before n (d ∷ ds) (ty ∷ tys) ns h = (entry_before n d.name ty h.0, all_b
 -- ---- all of them
 
 module _ (ds : List Definition) (vs : List Variable) (start first types : List MemTy) (tys : List NamedType) (symbols : List Symbol) (known names new : List TypeName) (d : Made stands_for defined_as (entries ds) start ds tys known first)
-  (v : Made symbol_over (λ (v : Variable). Some (variable_symbol v)) known first vs symbols names types) where
+    (v : Made symbol_over (λ (v : Variable). Some (variable_symbol v)) known first vs symbols names types) where
   looked : LooksUpSome (entries ds) names
   looked = looks_up_further (entries ds) known names d.names_grow v.names_grow
 

@@ -4,6 +4,7 @@
 
 ghost use Rattle.std.specs.Prelude.{◌≡◌, ◌≤◌, ◌<◌, ◌⊎◌, length, IfOk, OnOk, IfErr};
 ghost use Rattle.forms.specs.declared.Token.{Token};
+ghost use Rattle.forms.specs.declared.cursor.SyntaxFault.TheVariants.{Memory};
 ghost use Rattle.forms.specs.Gives.{left};
 ghost use Rattle.text_lex.specs.Fault.{HasNoneLeftOut};
 ghost use Rattle.ir_reader.specs.Refusal.{IsWithinLimits, IsRefusal, StartsAt};
@@ -23,11 +24,16 @@ use ir_types::Module;
 use std::alloc::Global;
 use text_lex::{Count, TEXT_LIMIT, TextFault, lex};
 
-/// The fault for which a module isn't read whose items stop at a fault: that of a function before it, where there is one.
-fn earlier(alloc: Global, gathered: Gathered<'_>, fault: SyntaxFault) -> SyntaxFault {
-    match module(alloc, gathered) {
-        Ok(_) => fault,
-        Err(earlier) => earlier,
+/// The first fault in reading left to right, where items were gathered up to this one: a function before it may have another.
+fn first_fault(alloc: Global, gathered: Gathered<'_>, fault: SyntaxFault) -> SyntaxFault
+    ensures { fault ≡ Memory → result ≡ Memory }
+{
+    match fault {
+        SyntaxFault::NoReading(place) => match module(alloc, gathered) {
+            Ok(_) => SyntaxFault::NoReading(place),
+            Err(earlier) => earlier,
+        },
+        SyntaxFault::Memory => SyntaxFault::Memory,
     }
 }
 
@@ -39,13 +45,11 @@ fn module_of(
     ensures { GivesModule (module_read (left tokens.entry)) result }
 {
     let mut gathered = Gathered::nothing(alloc);
-    let fault = match gather(alloc, tokens, &mut gathered) {
-        Ok(rest) if rest.rest.is_empty() => return module(alloc, gathered),
-        Ok(rest) => rest.refusal(),
-        Err(SyntaxFault::NoReading(place)) => SyntaxFault::NoReading(place),
-        Err(SyntaxFault::Memory) => return Err(SyntaxFault::Memory),
-    };
-    Err(earlier(alloc, gathered, fault))
+    match gather(alloc, tokens, &mut gathered) {
+        Ok(rest) if rest.rest.is_empty() => module(alloc, gathered),
+        Ok(rest) => Err(first_fault(alloc, gathered, rest.refusal())),
+        Err(fault) => Err(first_fault(alloc, gathered, fault)),
+    }
 }
 
 /// The place, where a token starts there, and else the end.

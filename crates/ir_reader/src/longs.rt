@@ -58,11 +58,7 @@ pub fn long_in(part: &Part<'_>) -> ItemLong
 }
 
 /// The bytes of the first name in the text's order that has too many: in an item, or in the next of these functions.
-pub fn first_long(
-    longs: &[ItemLong],
-    tables: &LongNames<'_>,
-    functions: &[Function],
-) -> Option<u64>
+pub fn first_long(longs: &[ItemLong], tables: &LongNames<'_>, functions: &[Function]) -> Option<u64>
     ensures { result ≡ long_among longs.now (map (function_in tables.now) functions.now) }
 {
     let mut longs_left = longs;

@@ -2,7 +2,7 @@ use Rattle.std.proofs.Common.{◌≡◌, ◌⊎◌, length, Some, None}
 use Rattle.forms.specs.View.{lexemes}
 use Rattle.ir_reader.specs.Reading.{module_read, IsModule}
 use Rattle.ir_reader.specs.Refusal.{StartsAt}
-use Rattle.ir_reader.proofs.Exact.{within_limits, passes_limit, no_reading, bad_token}
+use Rattle.ir_reader.proofs.Exact.{within_limits, passes_limit, no_reading}
 use Rattle.ir_reader.proofs.read_module.Goals as goal
 
 pub returns-in-Ok-default-None-clause-module : goal.returns-in-Ok-default-None-clause-module

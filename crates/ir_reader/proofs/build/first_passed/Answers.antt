@@ -1,5 +1,4 @@
-use Rattle.std.proofs.Common.{◌≡◌, sym, ap, ◌∙◌}
-use Rattle.ir_types.specs.Denotes.{Tables}
+use Rattle.std.proofs.Common.{◌≡◌}
 use Rattle.ir_reader.specs.Trees.{tables_in_parts}
 use Rattle.ir_reader.proofs.Building.{passed_so}
 use Rattle.ir_reader.proofs.build.first_passed.Goals as goal

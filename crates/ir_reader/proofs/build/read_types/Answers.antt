@@ -1,4 +1,4 @@
-use Rattle.std.proofs.Common.{◌≡◌, length, ap, ◌∙◌, arith}
+use Rattle.std.proofs.Common.{length, ap, ◌∙◌, arith}
 use Rattle.ir_reader.specs.Typed.{with_types}
 use Rattle.ir_reader.proofs.Typing.{typed, few}
 use Rattle.ir_reader.proofs.build.read_types.Goals as goal

@@ -1,4 +1,4 @@
-use Rattle.std.proofs.Common.{◌≡◌, length, sym, ap, ◌∙◌, arith}
+use Rattle.std.proofs.Common.{length, sym, ap, ◌∙◌, arith}
 use Rattle.forms.specs.Gives.{left}
 use Rattle.item_reader.specs.Sources.{nodes_read, nodes_or_none}
 use Rattle.ir_reader.proofs.named.type_at.Goals as goal
