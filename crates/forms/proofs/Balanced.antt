@@ -3,7 +3,7 @@ use Rattle.std.proofs.Common.{◌≡◌, ℕ, zero, suc, Bool, true, false, not,
 use Rattle.std.proofs.lemmas.Bool.{and_parts, and_from}
 use Rattle.forms.specs.declared.TokenKind.{TokenKind}
 use Rattle.forms.specs.declared.TokenKind.TheVariants.{Word, RightBracket, RightBrace, Greater}
-use Rattle.forms.specs.Form.{kind_code, closer, is_closer, closed, opened, step, is_empty, for_some, nests, runs, stops_at, Stops, same_text, Lexeme, Form, exactly, one, one_such, ahead, enclosed, up_to, pair, greedy, either, mapped, made, optional, many, by_word, entry, Spells, InOrder, IfThere}
+use Rattle.forms.specs.Form.{kind_code, closer, is_closer, closed, opened, step, is_empty, for_some, nests, runs, stops_at, Stops, same_text, Lexeme, Form, exactly, one, one_such, ahead, enclosed, up_to, pair, either, mapped, made, optional, many, by_word, entry, Spells, InOrder, IfThere}
 use Rattle.forms.specs.Balanced.{steps, same_kinds, agreed, all_agreed, stack_after}
 use Rattle.forms.specs.Nested.{TypeParts, memory, one_deeper, array_of, struct_of}
 use Rattle.forms.proofs.Tokens.{same_kind, kind_is}
@@ -133,9 +133,6 @@ stack_deeper (ahead k f) s u r e =
 stack_deeper (pair f g) s u r e =
     let a = bind_some (stack_after f s) (λ v. stack_after g v) u e in
     rw (stack_deeper f s a.0 r a.1) (stack_deeper g a.0 u r a.2)
-stack_deeper (greedy f g) s u r e =
-    let a = bind_some (stack_after f s) (λ v. stack_after g v) u e in
-    rw (stack_deeper f s a.0 r a.1) (stack_deeper g a.0 u r a.2)
 stack_deeper (either f g) s u r e =
     let p = agreed_some (stack_after f s) (stack_after g s) u e in
     agreed_from _ _ (u ++ r) (stack_deeper f s u r p.0) (stack_deeper g s u r p.1)
@@ -184,9 +181,6 @@ leads (ahead k f) s u e a ts p =
     let b = bind_some (step s k) (λ v. stack_after f v) u e in
     token_leads s b.0 u k a.0 ts p.0 b.1 p.1 (leads f b.0 u b.2 a.1 p.0 p.2)
 leads (pair f g) s u e a ts p =
-    let b = bind_some (stack_after f s) (λ v. stack_after g v) u e in
-    parts_lead s b.0 u p.0 p.1 ts p.2 (leads f s b.0 b.1 a.0 p.0 p.3) (leads g b.0 u b.2 a.1 p.1 p.4)
-leads (greedy f g) s u e a ts p =
     let b = bind_some (stack_after f s) (λ v. stack_after g v) u e in
     parts_lead s b.0 u p.0 p.1 ts p.2 (leads f s b.0 b.1 a.0 p.0 p.3) (leads g b.0 u b.2 a.1 p.1 p.4)
 leads (either f g) s u e a ts p =

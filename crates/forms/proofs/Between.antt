@@ -9,9 +9,8 @@ use Rattle.forms.specs.Combined.{between}
 use Rattle.forms.specs.Gives.{mark}
 use Rattle.forms.specs.Balanced.{inside}
 use Rattle.forms.proofs.Nests.{enclosed_complete}
-use Rattle.forms.proofs.Begins.{test}
+use Rattle.forms.proofs.Begins.{test, nothing_next}
 use Rattle.forms.proofs.Parts.{lexeme, enclosed_sound}
-use Rattle.forms.proofs.Longest.{nothing_next}
 use Rattle.forms.proofs.Sound.{sound, bind_some}
 use Rattle.forms.proofs.Complete.{complete}
 use Rattle.forms.proofs.Exact.{read_spells, spells_read}

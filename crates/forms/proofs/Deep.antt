@@ -4,7 +4,7 @@ use Rattle.forms.specs.declared.TokenKind.TheVariants.{Comma}
 use Rattle.forms.specs.Form.{Lexeme, Form, pair, either, mapped, many}
 use Rattle.forms.specs.Reading.{◌>>=◌, Terminal, next_in, nullable, first, opens, read, read_each}
 use Rattle.forms.proofs.Many.{shorter}
-use Rattle.forms.proofs.Longest.{within}
+use Rattle.forms.proofs.Fronts.{within}
 use Rattle.forms.specs.declared.Around.{Around}
 use Rattle.forms.specs.declared.Around.TheVariants.{InArray, InStruct}
 use Rattle.forms.specs.Nested.{TypeParts, PartsDecide, mark, comma_then, joined, struct_head, struct_end, remainder, struct_of, array_of, one_deeper, memory}

@@ -1,9 +1,9 @@
--- A kept run, as long as it can be, before a value that may be a number.
+-- A kept run before a value that may be a number.
 use Rattle.std.proofs.Common.{◌≡◌, ℕ, true, false, List, [], ◌∷◌, ◌++◌, codes, Option, Some, None, if◌then◌else◌, eqb, refl}
 use Rattle.forms.specs.declared.TokenKind.{TokenKind}
 use Rattle.forms.specs.declared.TokenKind.TheVariants.{Local, Word, Number}
-use Rattle.forms.specs.Form.{Lexeme, Form, exactly, one, pair, greedy, either, mapped}
-use Rattle.forms.specs.Kept.{kept_token, kept_such, kept_unsigned, is_unsigned, perhaps, kept_piece, kept_run}
+use Rattle.forms.specs.Form.{Lexeme, Form, exactly, one, pair, either, mapped}
+use Rattle.forms.specs.Kept.{kept_token, kept_unsigned, perhaps, kept_piece, kept_run}
 use Rattle.forms.specs.Lexical.{kind_of, table}
 use Rattle.forms.specs.Nested.{joined}
 use Rattle.forms.specs.Reading.{decides, read_whole}
@@ -23,16 +23,9 @@ kept_decides : decides kept_then_value ≡ true
 unfolding kept_then_value kept_run kept_piece excluded value
 kept_decides = refl
 
--- were `align` a piece by itself too, a number behind it could be its own or the value: then the run has to take what it can, and a number
--- that may be refused does not decide
+-- were `align` a piece by itself too, a number behind it could be its own or the value
 perhaps_number : decides (pair (joined (kept_token Word (codes "align")) (perhaps kept_unsigned)) (one Number)) ≡ false
 perhaps_number = refl
-
-longest_number : decides (greedy (joined (kept_token Word (codes "align")) (perhaps kept_unsigned)) (one Number)) ≡ true
-longest_number = refl
-
-refused_number : decides (greedy (joined (kept_token Word (codes "align")) (perhaps (kept_such Number is_unsigned))) (one Number)) ≡ false
-refused_number = refl
 
 -- ---- texts, in which a space stands between any two tokens
 

@@ -1,7 +1,7 @@
 -- With which token that begins which is read, whether or not one token ahead decides.
-use Rattle.std.proofs.Common.{false, cond, ◌&&◌, List, [], ◌∷◌, ◌++◌, length, Option, sym, subst, inl, inr}
+use Rattle.std.proofs.Common.{◌≡◌, ◌≤◌, false, cond, ◌&&◌, List, [], ◌∷◌, ◌++◌, length, length-append, Option, Some, ap, sym, subst, arith, inl, inr}
 use Rattle.forms.specs.declared.TokenKind.TheVariants.{Word}
-use Rattle.forms.specs.Form.{Lexeme, Form, exactly, one, one_such, ahead, enclosed, up_to, pair, greedy, either, mapped, made, optional, many, by_word}
+use Rattle.forms.specs.Form.{Lexeme, Form, exactly, one, one_such, ahead, enclosed, up_to, pair, either, mapped, made, optional, many, by_word}
 use Rattle.forms.specs.Reading.{any_of, marks_then, nullable, first, opens, read}
 use Rattle.forms.proofs.Begins.{Begins, begins, by_token, entry_fits, ahead_begins, pair_begins, either_left, either_right, if_begins, each_begins}
 use Rattle.forms.proofs.Parts.{Sound, exactly_sound, one_sound, one_such_sound, enclosed_sound, up_to_sound, ahead_sound, pair_sound, either_sound, mapped_sound, made_sound, by_word_sound, optional_sound, each_sound}
@@ -24,9 +24,6 @@ front (ahead k f) =
 front (pair f g) =
     weaken _ (Front (pair f g)) _ (pair_sound (Front f) (Front g) (read f) (read g) (front f) (front g))
     (λ a used s. subst (λ (w : List Lexeme). Begins (first f ++ cond (nullable f) (first g) []) (nullable f && nullable g) w) (sym s.2) (pair_begins (first f) (first g) (nullable f) (nullable g) s.0 s.1 s.3 s.4))
-front (greedy f g) =
-    weaken _ (Front (greedy f g)) _ (pair_sound (Front f) (Front g) (read f) (read g) (front f) (front g))
-    (λ a used s. subst (λ (w : List Lexeme). Begins (first f ++ cond (nullable f) (first g) []) (nullable f && nullable g) w) (sym s.2) (pair_begins (first f) (first g) (nullable f) (nullable g) s.0 s.1 s.3 s.4))
 front (either f g) =
     weaken _ (Front (either f g)) _ (either_sound (Front f) (Front g) (opens f) (read f) (read g) (front f) (front g))
     (λ a used s. elim s [ inl h ↦ either_left (first f) (first g) (nullable f) (nullable g) used h | inr h ↦ either_right (first f) (first g) (nullable f) (nullable g) used h ])
@@ -37,3 +34,7 @@ front (by_word table f) =
     (λ a used s. by_token (record { kind = Word; text = s.0 }) s.2 s.3 (λ rest. entry_fits table s.0 s.1 (s.2 ++ rest) s.4))
 front (optional f) = weaken _ (Front (optional f)) _ (optional_sound (Front f) (opens f) (read f) (front f)) (if_begins (Front f) (first f) (nullable f) (λ a used b. b))
 front (many f) = weaken _ (Front (many f)) _ (λ ts x e. each_sound (Front f) (opens f) (read f) (front f) (length ts) ts x e) (each_begins (Front f) (first f) (nullable f) (λ a used b. b))
+
+-- reading makes nothing longer
+pub within : {A : Type 0} (f : Form A) (ts : List Lexeme) (x : A × List Lexeme) → read f ts ≡ Some x → length x.1 ≤ length ts
+within f ts x e = let t = front f ts x e in omega (arith, ap length t.parts, length-append t.used x.1)

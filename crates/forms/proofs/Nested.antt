@@ -10,7 +10,7 @@ use Rattle.forms.specs.declared.Around.TheVariants.{InArray, InStruct}
 use Rattle.forms.specs.Nested.{TypeParts, PartsDecide, comma_then, joined, struct_end, remainder, struct_of, array_of, one_deeper, memory, SpellsMemory}
 use Rattle.forms.proofs.NestedDecides.{memory_decides, memory_after}
 use Rattle.forms.proofs.Deep.{deep_enough}
-use Rattle.forms.proofs.Longest.{nothing_next}
+use Rattle.forms.proofs.Begins.{nothing_next}
 
 abbrev Within : {A : Type 0} → Form A → Form A → Type 0
 Within {A} f g = (a : A) (ts : List Lexeme) → Spells f a ts → Spells g a ts

@@ -1,7 +1,7 @@
 -- What is awaited behind the tokens that a form spells.
 use Rattle.std.specs.Prelude.{ℕ, ◌-◌, Bool, true, false, ◌&&◌, ◌==◌, List, [], ◌∷◌, length, take, drop, Option, Some, None, if◌then◌else◌}
 use Rattle.forms.specs.declared.TokenKind.{TokenKind}
-use Rattle.forms.specs.Form.{kind_code, step, Lexeme, Form, exactly, one, one_such, ahead, enclosed, up_to, pair, greedy, either, mapped, made, optional, many, by_word}
+use Rattle.forms.specs.Form.{kind_code, step, Lexeme, Form, exactly, one, one_such, ahead, enclosed, up_to, pair, either, mapped, made, optional, many, by_word}
 use Rattle.forms.specs.Bind.{◌>>=◌}
 
 -- the tokens but for the first and the last
@@ -40,7 +40,6 @@ stack_after (enclosed o c) s = step s o >>= λ u. step u c
 stack_after (up_to st) s = Some s
 stack_after (ahead k f) s = step s k >>= λ u. stack_after f u
 stack_after (pair f g) s = stack_after f s >>= λ u. stack_after g u
-stack_after (greedy f g) s = stack_after f s >>= λ u. stack_after g u
 stack_after (either f g) s = agreed (stack_after f s) (stack_after g s)
 stack_after (mapped h f) s = stack_after f s
 stack_after (made h f) s = stack_after f s

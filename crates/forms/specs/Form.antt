@@ -148,8 +148,6 @@ pub data Form : Type 0 → Type 1 where
   up_to : Stops → Form (List (List ℕ))
   -- one form behind the other
   pair : {A B : Type 0} → Form A → Form B → Form (A × B)
-  -- one form behind the other, where the first takes the longest front that it can
-  greedy : {A B : Type 0} → Form A → Form B → Form (A × B)
   -- the one or the other
   either : {A : Type 0} → Form A → Form A → Form A
   -- what a function makes of it
@@ -173,10 +171,6 @@ abbrev pub IfThere : {A : Type 0} → (A → List Lexeme → Type 0) → Option 
 IfThere P None ts = ts ≡ []
 IfThere P (Some a) ts = P a ts
 
--- no longer front of the tokens is spelled
-abbrev pub IsLongest : {A : Type 0} → (A → List Lexeme → Type 0) → List Lexeme → List Lexeme → Type 0
-IsLongest {A} P front ts = (a : A) (longer more : List Lexeme) → ts ≡ longer ++ more → P a longer → length longer ≤ length front
-
 -- what the table has for a word: its first entry counts
 abbrev pub entry : {K : Type 0} → List (List ℕ × K) → List ℕ → Option K
 entry [] w = None
@@ -191,7 +185,6 @@ Spells (enclosed o c) a ts = (v : List ℕ) × (inner : List Lexeme) × (w : Lis
 Spells (up_to st) a ts = (runs st [] ts ≡ true) × (a ≡ texts ts)
 Spells (ahead k f) a ts = (rest : List Lexeme) × (ts ≡ record { kind = k; text = a.0 } ∷ rest) × Spells f a.1 rest
 Spells (pair f g) a ts = (x : List Lexeme) × (y : List Lexeme) × (ts ≡ x ++ y) × Spells f a.0 x × Spells g a.1 y
-Spells (greedy f g) a ts = (x : List Lexeme) × (y : List Lexeme) × (ts ≡ x ++ y) × Spells f a.0 x × Spells g a.1 y × IsLongest (Spells f) x ts
 Spells (either f g) a ts = Spells f a ts ⊎ Spells g a ts
 Spells (mapped {A} {B} h f) b ts = (a : A) × (h a ≡ b) × Spells f a ts
 Spells (made {A} {B} h f) b ts = (a : A) × (h a ≡ Some b) × Spells f a ts

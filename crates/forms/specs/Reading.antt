@@ -2,7 +2,7 @@
 use Rattle.std.specs.Prelude.{ℕ, zero, suc, Bool, true, false, not, ◌&&◌, ◌||◌, List, [], ◌∷◌, ◌++◌, length, Option, Some, None, ◌==◌, if◌then◌else◌}
 use Rattle.forms.specs.declared.TokenKind.{TokenKind}
 use Rattle.forms.specs.declared.TokenKind.TheVariants.{Word, Equal}
-use Rattle.forms.specs.Form.{kind_code, is_closer, is_empty, step, has_kind, Stops, stops_at, Lexeme, Form, exactly, one, one_such, ahead, enclosed, up_to, pair, greedy, either, mapped, made, optional, many, by_word, same_text, is_one_of, entry}
+use Rattle.forms.specs.Form.{kind_code, is_closer, is_empty, step, has_kind, Stops, stops_at, Lexeme, Form, exactly, one, one_such, ahead, enclosed, up_to, pair, either, mapped, made, optional, many, by_word, same_text, is_one_of, entry}
 pub use Rattle.forms.specs.Bind.{◌>>=◌}
 
 -- what a token can be asked for
@@ -46,7 +46,6 @@ nullable (ahead k f) = false
 nullable (enclosed o c) = false
 nullable (up_to st) = true
 nullable (pair f g) = nullable f && nullable g
-nullable (greedy f g) = nullable f && nullable g
 nullable (either f g) = nullable f || nullable g
 nullable (mapped h f) = nullable f
 nullable (made h f) = nullable f
@@ -87,7 +86,6 @@ first (up_to st) = going_on (at_once st) ∷ []
 first (one_such k p) = any_such k p ∷ []
 first (ahead k f) = if nullable f then any_of k ∷ [] else marks_then k (first f)
 first (pair f g) = first f ++ (if nullable f then first g else [])
-first (greedy f g) = first f ++ (if nullable f then first g else [])
 first (either f g) = first f ++ first g
 first (mapped h f) = first f
 first (made h f) = first f
@@ -104,56 +102,12 @@ after (up_to st) = going_on st ∷ []
 after (one_such k p) = []
 after (ahead k f) = after f
 after (pair f g) = after g ++ (if nullable g then after f else [])
-after (greedy f g) = after g
 after (either f g) = after f ++ after g
 after (mapped h f) = after f
 after (made h f) = after f
 after (by_word table f) = of_all table (λ k. after (f k))
 after (optional f) = first f ++ after f
 after (many f) = first f ++ after f
-
--- with which tokens a value can begin, but for those that are a value alone
-abbrev pub unfinished : {A : Type 0} → Form A → List Terminal
-unfinished (exactly k s) = []
-unfinished (one k) = []
-unfinished (one_such k p) = []
-unfinished (either f g) = unfinished f ++ unfinished g
-unfinished (mapped h f) = unfinished f
-unfinished f = first f
-
--- with which tokens a value could go on, but for one token that would make a longer value
-abbrev pub hard : {A : Type 0} → Form A → List Terminal
-hard (exactly k s) = []
-hard (one k) = []
-hard (enclosed o c) = []
-hard (up_to st) = going_on st ∷ []
-hard (one_such k p) = []
-hard (ahead k f) = hard f
-hard (pair f g) = hard g ++ (if nullable g then hard f else [])
-hard (greedy f g) = after g
-hard (either f g) = hard f ++ hard g
-hard (mapped h f) = hard f
-hard (made h f) = after f
-hard (by_word table f) = of_all table (λ k. hard (f k))
-hard (optional f) = unfinished f ++ hard f
-hard (many f) = first f ++ hard f
-
--- no token behind a value takes from it
-abbrev pub is_steady : {A : Type 0} → Form A → Bool
-is_steady (exactly k s) = true
-is_steady (one k) = true
-is_steady (enclosed o c) = true
-is_steady (up_to st) = is_empty st.before_equal
-is_steady (one_such k p) = true
-is_steady (ahead k f) = is_steady f
-is_steady (pair f g) = is_steady f && is_steady g
-is_steady (greedy f g) = is_steady f && is_steady g
-is_steady (either f g) = is_steady f && is_steady g
-is_steady (mapped h f) = is_steady f
-is_steady (made h f) = is_steady f
-is_steady (by_word table f) = for_all table (λ k. is_steady (f k))
-is_steady (optional f) = is_steady f
-is_steady (many f) = is_steady f
 
 -- the next token can begin a value
 abbrev pub opens : {A : Type 0} → Form A → List Lexeme → Bool
@@ -212,7 +166,6 @@ read (up_to st) ts = read_up_to st [] ts
 read (one_such k p) ts = read_one_such k p ts
 read (ahead k f) ts = read_pair (read_one k) (read f) ts
 read (pair f g) ts = read_pair (read f) (read g) ts
-read (greedy f g) ts = read_pair (read f) (read g) ts
 read (either f g) ts = if opens f ts then read f ts else read g ts
 read (mapped h f) ts = read f ts >>= λ x. Some (h x.0, x.1)
 read (made h f) ts = read f ts >>= λ x. h x.0 >>= λ b. Some (b, x.1)
@@ -264,7 +217,6 @@ decides (up_to st) = not (has_kind st.kinds Equal) && not (has_kind st.before_eq
 decides (one_such k p) = true
 decides (ahead k f) = decides f
 decides (pair f g) = decides f && (decides g && all_apart (after f) (first g))
-decides (greedy f g) = decides f && (decides g && (is_steady f && (not (nullable g) && all_apart (hard f) (first g))))
 decides (either f g) = decides f && (decides g && (not (nullable f || nullable g) && all_apart (first f) (first g)))
 decides (mapped h f) = decides f
 decides (made h f) = decides f

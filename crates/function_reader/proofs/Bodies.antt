@@ -99,3 +99,9 @@ defined_is defs ts =
     ∙ sym (first_apart (λ x. numbered_function (defined_tree (b.0, (t.0, x)))) global_name inner t.1))
     ∙ sym (first_apart (λ x. numbered_function (defined_tree (b.0, x))) return_type named b.1))
     ∙ sym (completed_mapped numbered_function defined_tree (pair kept typed) ts ∙ first_apart (λ x. numbered_function (defined_tree x)) kept typed ts)
+
+-- the parts, where each is read
+pub defined_found : (defs : Definitions) (b : KeptTexts) (t : Ty) (n : Name) (ps : List ParamTree) (next : ℕ) (a : KeptTexts) (k : List BlockTree × ℕ) (ts us vs ws xs ys zs : List Lexeme)
+    → read kept ts ≡ Some (b, us) → read return_type us ≡ Some (t, vs) → read global_name vs ≡ Some (n, ws) → between_read LeftParen RightParen (walk numbered_param 0) (read (list parameter)) ws ≡ Some ((ps, next), xs)
+    → read (joined kept attachments) xs ≡ Some (a, ys) → between_read LeftBrace RightBrace (walk numbered_block next) (read (some (block defs))) ys ≡ Some (k, zs) → defined_read defs ts ≡ Some (defined_of b t n ps a k, zs)
+defined_found defs b t n ps next a k ts us vs ws xs ys zs before ret name params after body = rw (before, ret, name, params, after, body) refl

@@ -3,4 +3,3 @@ pub mod Parts
 pub mod Functions
 pub mod Dotted
 pub mod Bodies
-pub mod Passing

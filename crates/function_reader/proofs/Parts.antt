@@ -76,3 +76,14 @@ pub block_found : (defs : Definitions) (next : ℕ) (n : Name × ℕ) (i : List 
     → completed (named next) (read (optional label) ts) ≡ Some (n, us) → completed (walk numbered_inst n.1) (read (many (line (operation defs))) us) ≡ Some (i, vs) → completed (numbered_inst i.1) (read (line (terminator defs)) vs) ≡ Some (l, ws)
     → block_read defs next ts ≡ Some (block_of n.0 i.0 l, ws)
 block_found defs next n i l ts us vs ws first others last = rw (first, others, last) refl
+
+-- the instructions before the last are not read
+pub insts_refused : (defs : Definitions) (next : ℕ) (n : Name × ℕ) (ts us : List Lexeme)
+    → completed (named next) (read (optional label) ts) ≡ Some (n, us) → completed (walk numbered_inst n.1) (read (many (line (operation defs))) us) ≡ None → block_read defs next ts ≡ None
+insts_refused defs next n ts us first others = rw (first, others) refl
+
+-- the last one is not read
+pub last_refused : (defs : Definitions) (next : ℕ) (n : Name × ℕ) (i : List InstTree × ℕ) (ts us vs : List Lexeme)
+    → completed (named next) (read (optional label) ts) ≡ Some (n, us) → completed (walk numbered_inst n.1) (read (many (line (operation defs))) us) ≡ Some (i, vs) → completed (numbered_inst i.1) (read (line (terminator defs)) vs) ≡ None
+    → block_read defs next ts ≡ None
+last_refused defs next n i ts us vs first others last = rw (first, others, last) refl

@@ -2,4 +2,3 @@ pub mod View
 pub mod Lines
 pub mod Blocks
 pub mod Functions
-pub mod Passing

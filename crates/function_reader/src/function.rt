@@ -113,7 +113,6 @@ fn enclosed_dotted<'t>(
 }
 
 /// The parameters in their parentheses, whose names are those of a scope.
-#[tactic(auto, using(ir_reader_ops::proofs::Widening::names_widen))]
 fn scoped_params<'t>(
     alloc: Global,
     tokens: Cursor<'t>,
@@ -221,6 +220,28 @@ fn with_names(function: Function, names: Names) -> Function
     Function { names, ..function }
 }
 
+/// A function that is read over these tables, and the tables behind it, whether or not one is read.
+#[tactic(auto, unfolding(ir_reader_ops::specs::Seen::definitions))]
+fn defined_over<'t>(
+    alloc: Global,
+    tokens: Cursor<'t>,
+    tables: Tables,
+) -> (Tables, Result<(Function, Cursor<'t>), SyntaxFault>)
+    ensures grows { Grows tables result.0 }
+    ensures reads { Gives (λ x. (function_in (tables_in result.0) x.0, left x.1)) result.1 (defined_read (definitions_of tables) (left tokens.entry)) }
+    ensures stays { IfOk result.1 (λ x. (later : TableLists) → Grows result.0 later → function_in (tables_in later) x.0 ≡ function_in (tables_in result.0) x.0) }
+    ensures table { IfOk result.1 (λ x. IsTable x.0.names) }
+{
+    let names = Names::new(alloc);
+    let mut scope = Scope { names, tables };
+    let read = defined_parts(alloc, tokens, &mut scope);
+    let Scope { names, tables } = scope;
+    match read {
+        Ok((function, rest)) => (tables, Ok((with_names(function, names), rest))),
+        Err(fault) => (tables, Err(fault)),
+    }
+}
+
 /// What is behind the word `define`: a function with its blocks. Names of symbols and of types that the tables lack are added to them, and so
 /// are memory types, whether or not a function is read.
 ///
@@ -238,16 +259,8 @@ pub fn defined<'t>(
     ensures table { IfOk result (λ x. IsTable x.0.names) }
 {
     let none = no_tables(alloc)?;
-    let mut scope = Scope {
-        names: Names::new(alloc),
-        tables: mem::replace(tables, none),
-    };
-    let read = defined_parts(alloc, tokens, &mut scope);
-    let Scope {
-        names,
-        tables: grown,
-    } = scope;
+    let given = mem::replace(tables, none);
+    let (grown, read) = defined_over(alloc, tokens, given);
     *tables = grown;
-    let (function, rest) = read?;
-    Ok((with_names(function, names), rest))
+    read
 }

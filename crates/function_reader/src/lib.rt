@@ -6,10 +6,7 @@ mod function;
 mod line;
 mod numbering;
 mod param;
-mod passing;
 #[cfg(test)]
 mod tests;
 
 pub use function::{declared, defined};
-pub use ir_reader_ops::{excluded_words, kept};
-pub use passing::pass_defined;

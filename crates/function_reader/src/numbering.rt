@@ -73,7 +73,6 @@ pub fn named_id(
 }
 
 /// The same among the names of a scope.
-#[tactic(auto, using(ir_reader_ops::proofs::Widening::names_widen))]
 pub fn scoped_id(
     written: Option<Name>,
     scope: &mut Scope,

@@ -78,7 +78,7 @@ fn comma_param<'t>(
 
 /// Whether a parameter stands next.
 #[tactic(auto, unfolding(ir_types::specs::Grammar::parameter, ir_types::specs::Grammar::value_type, ir_types::specs::Grammar::vector_type, ir_types::specs::Grammar::width))]
-pub fn begins_param(tokens: Cursor<'_>) -> bool
+fn begins_param(tokens: Cursor<'_>) -> bool
     ensures { result ≡ opens parameter (left tokens.entry) }
 {
     begins_type(tokens)
@@ -86,7 +86,7 @@ pub fn begins_param(tokens: Cursor<'_>) -> bool
 
 /// Whether a comma and a parameter stand next.
 #[tactic(auto, unfolding(ir_types::specs::Grammar::parameter, ir_types::specs::Grammar::value_type, ir_types::specs::Grammar::vector_type, ir_types::specs::Grammar::width))]
-pub fn another(tokens: Cursor<'_>) -> bool
+fn another(tokens: Cursor<'_>) -> bool
     ensures { result ≡ opens (marked Comma parameter) (left tokens.entry) }
 {
     match tokens.split_first() {

@@ -1,8 +1,9 @@
 -- The text of an instruction and of a type's definition, and of items that are printed one at a time.
-use Rattle.std.proofs.Common.{◌≡◌, ◌+◌, ◌<◌, ◌≤◌, ℕ, zero, suc, false, eqb, List, [], ◌∷◌, ◌++◌, length, get_or, drop, sym, ap, ◌∙◌, subst, arith, append_assoc, add-one, drop-cons}
-use Rattle.std.specs.Prelude.{codes, map, flat_map}
+use Rattle.std.proofs.Common.{◌≡◌, ◌+◌, ◌<◌, ◌≤◌, ℕ, zero, suc, false, cond, eqb, List, [], ◌∷◌, ◌++◌, length, get_or, drop, sym, ap, ◌∙◌, subst, arith, append_assoc, add-one, drop-cons}
+use Rattle.std.specs.Prelude.{codes, map, flat_map, Result, Ok, Err, OnOk}
 use Rattle.std.specs.List.{AllByRecursion}
 use Rattle.std.specs.Option.{option_map}
+use Rattle.std.specs.Result.{is_ok}
 use Rattle.std.proofs.lemmas.List.{append-nil, drop_all}
 use Rattle.text_lex.specs.Layout.{Piece, text_of}
 use Rattle.text_lex.specs.KeptText.{kept_behind}
@@ -15,8 +16,18 @@ use Rattle.ir_types.specs.declared.module.Block.{Block}
 use Rattle.ir_types.specs.declared.module.Function.{Function}
 use Rattle.ir_types.specs.Denotes.{Tables, name_in, operand_in, param_in}
 use Rattle.ir_types.specs.Tree.{OperandTree}
-use Rattle.type_printer.specs.Pieces.{local_token, global_token, line_feed, separated, with_commas, type_pieces}
+use Rattle.type_printer.specs.Pieces.{word, local_token, global_token, line_feed, separated, with_commas, type_pieces}
 use Rattle.ir_printer.specs.Print.{signature_pieces, arguments_of, call_pieces, opening_pieces, operands_pieces, ending_pieces, result_pieces, inst_pieces, block_pieces, kept_then_blank, blank_then_kept, params_pieces, function_word, head_pieces, body_pieces, function_pieces, parting, functions_behind, definition_pieces}
+
+-- a word is appended where there is room
+pub word_appended : {T E : Type 0} (out w : List ℕ) {out1 : List ℕ} (r : Result T E) → out1 ≡ cond (is_ok r) (out ++ w) out → OnOk r (out1 ≡ out ++ text_of (word w ∷ []))
+word_appended out w (Ok u) e = rw (append-nil w) e
+word_appended out w (Err x) e = tt
+
+-- and more behind it
+pub more_appended : {T E : Type 0} (out w more out2 : List ℕ) {out1 : List ℕ} (r : Result T E) → out1 ≡ out ++ w → OnOk r (out2 ≡ out1 ++ more) → OnOk r (out2 ≡ out ++ (w ++ more))
+more_appended out w more out2 (Ok u) e f = f ∙ rw e (append_assoc out w more)
+more_appended out w more out2 (Err x) e f = tt
 
 pub inst_text : (t : Tables) (ns : List Name) (i : Inst) → text_of (inst_pieces t ns i)
     ≡ text_of (result_pieces (option_map (name_in ns) i.result)) ++ (text_of (opening_pieces i.kind) ++ (text_of (operands_pieces t i.kind i.ty (map (operand_in t ns) i.args) (map (name_in ns) i.labels)) ++ (text_of (ending_pieces i.kind i.ty (map (name_in ns) i.labels)) ++ (text_of (kept_behind [] i.kept) ++ 10 ∷ []))))
@@ -26,7 +37,7 @@ inst_text t ns i = simp (text_of-append, append_assoc)
 pub call_text : (c : Callee) (t : Ty) (args : List OperandTree) → text_of (call_pieces c t args)
     ≡ 32 ∷ (text_of (kept_then_blank c.before) ++ (text_of (type_pieces t) ++ (text_of (signature_pieces c.signature) ++ (32 ∷ ((global_token c.name).text ++ (40 ∷ (text_of (with_commas (arguments_of c.actuals args)) ++ 41 ∷ [])))))))
 unfolding call_pieces
-call_text c t args = simp (text_of-append, append_assoc)
+call_text c t args = simp text_of-append
 
 pub definition_text : (n : Name) (ps : List Piece) → text_of (definition_pieces n ps) ≡ ((local_token n).text ++ codes " = type ") ++ (text_of ps ++ 10 ∷ [])
 definition_text n ps = simp (text_of-append, append_assoc)
@@ -61,7 +72,3 @@ one_printed f xs i x out out1 whole lt e e1 so_far =
     let step : text_of (flat_map f (drop i xs)) ≡ text_of (f x) ++ text_of (flat_map f (drop (i + 1) xs)) =
     ap (λ (ys : List _). text_of (flat_map f ys)) from ∙ text_of-append (f x) _ in
     rw e1 (append_assoc out (text_of (f x)) _ ∙ sym (ap (λ (t : List ℕ). out ++ t) step) ∙ so_far)
-
--- none is left
-pub none_left : {A : Type 0} (f : A → List Piece) (xs : List A) (i : ℕ) (out whole : List ℕ) → length xs ≤ i → out ++ text_of (flat_map f (drop i xs)) ≡ whole → out ≡ whole
-none_left f xs i out whole le so_far = sym (append-nil out) ∙ sym (ap (λ (ys : List _). out ++ text_of (flat_map f ys)) (drop_all i xs le)) ∙ so_far

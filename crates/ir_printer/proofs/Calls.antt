@@ -1,5 +1,5 @@
 -- The pieces that calls and `getelementptr` are printed as write them.
-use Rattle.std.proofs.Common.{◌≡◌, ◌<◌, ℕ, Bool, List, [], ◌∷◌, ◌++◌, length, Option, Some, None, refl, sym, ap, subst, append_assoc, arith}
+use Rattle.std.proofs.Common.{◌≡◌, ◌<◌, ℕ, Bool, List, [], ◌∷◌, ◌++◌, length, Option, Some, None, refl, ap, subst, append_assoc, arith}
 use Rattle.std.specs.Prelude.{map, codes}
 use Rattle.std.specs.List.{AllByRecursion, AllZip}
 use Rattle.forms.specs.declared.TokenKind.TheVariants as kinds
@@ -14,7 +14,7 @@ use Rattle.ir_types.specs.Kinds.{Offset, Call}
 use Rattle.ir_types.specs.Offsets.{Definitions}
 use Rattle.ir_types.specs.TypeNodes.{TypeNode}
 use Rattle.ir_types.specs.Tree.{OperandTree}
-use Rattle.ir_types.specs.Grammar.{value_type, dotted_list, inst_memory, bare_inst, getelementptr, index_value, argument, signature, call, kept}
+use Rattle.ir_types.specs.Grammar.{some, marked, list, value_type, dotted_list, inst_memory, bare_inst, getelementptr, index_value, argument, signature, call, kept}
 use Rattle.ir_shape.specs.Shape.{IsKept, IsReturnType, IsType, IsTyped, IsSignature, IsCallee}
 use Rattle.type_printer.specs.Pieces.{comma, blank, left_paren, right_paren, global_token, each_behind, with_commas, type_pieces}
 use Rattle.type_printer.proofs.Laid.{loose, nothing_behind, mark_laid}
@@ -22,7 +22,7 @@ use Rattle.type_printer.proofs.LaidOut.{bracket_kinds}
 use Rattle.type_printer.proofs.Writes.{Writes, both, spaced, mapped_writes, made_writes, none_writes, there_writes, after_comma, between_writes, EachWrites, list_write, some_commas}
 use Rattle.ir_printer.specs.Print.{typed_operand, each_typed, written_types, signature_pieces, argument_pieces, arguments_of, call_pieces, blank_then_kept, kept_then_blank, offset_flags, listed_pieces}
 use Rattle.ir_printer.proofs.Words.{type_writes, return_writes, global_writes}
-use Rattle.ir_printer.proofs.Values.{IsWritten, operand_written, pointer_writes, index_writes}
+use Rattle.ir_printer.proofs.Values.{operand_written, pointer_writes, index_writes}
 use Rattle.ir_printer.proofs.Parts.{offset_flags_write}
 use Rattle.ir_printer.proofs.Dotted.{dotted_write}
 use Rattle.ir_printer.proofs.KeptWritten.{spaced_kept, kept_before}
@@ -69,7 +69,7 @@ unfolding getelementptr
 steps_write defs nodes widths inbounds nuw nusw pointer args memory m p is lt =
     rw (← is.pieces) (mapped_writes ((inbounds, (nuw, nusw)), (nodes, (pointer, is.items))) _ (rw (is.first, is.second) refl)
     (both (offset_flags_write inbounds nuw nusw) (spaced (both m (both (after_comma (pointer_writes (operand_written defs Ptr pointer p)))
-    (subst (λ (xs : List (ℕ × OperandTree)). Writes open_ _ xs (each_behind (comma ∷ blank ∷ []) (map index_pieces is.items))) (map_same is.items) (some_commas (each_index defs) is.items (omega (arith, is.as_many)) is.known)))))))
+    (subst (λ (xs : List (ℕ × OperandTree)). Writes open_ (some (marked kinds.Comma (index_value defs))) xs (each_behind (comma ∷ blank ∷ []) (map index_pieces is.items))) (map_same is.items) (some_commas (each_index defs) is.items (omega (arith, is.as_many)) is.known)))))))
 
 pub offset_writes : (defs : Definitions) (nodes : List TypeNode) (widths : List ℕ) (inbounds nuw nusw : Bool) (args : List OperandTree) (memory : List Piece) → Writes closed inst_memory nodes memory → AllZip IsTyped (Ptr ∷ map Int widths) args → 0 < length widths
     → Writes open_ (getelementptr defs) (bare_inst (Offset nodes widths inbounds nuw nusw) Ptr args []) (offset_flags inbounds nuw nusw ++ (blank ∷ (memory ++ (comma ∷ listed_pieces (Ptr ∷ map Int widths) args))))
@@ -136,7 +136,7 @@ pub call_writes : (defs : Definitions) (c : Callee) (t : Ty) (args : List Operan
 unfolding call
 call_writes defs c t args k r h =
     let xs = arguments c.actuals args h k.actuals in
-    let inner = subst (λ (ys : List (Actual × OperandTree)). Writes closed _ ys (with_commas (map (λ x. argument_pieces x.0 x.1) xs.items))) (map_same xs.items) (list_write (each_argument defs) xs.items xs.known) in
+    let inner = subst (λ (ys : List (Actual × OperandTree)). Writes closed (list (argument defs)) ys (with_commas (map (λ x. argument_pieces x.0 x.1) xs.items))) (map_same xs.items) (list_write (each_argument defs) xs.items xs.known) in
     rw (call_parts c t args, ← xs.pieces) (mapped_writes (c.before, (t, (c.signature, (c.name, (xs.items, c.after))))) _ (rw (xs.first, xs.second) refl)
     (spaced (kept_before k.before (both (return_writes t r) (both (signature_writes c.signature k.signature) (both (spaced (global_writes c.name k.name))
     (both (between_writes kinds.LeftParen kinds.RightParen (codes "(") (codes ")") (with_commas (map (λ x. argument_pieces x.0 x.1) xs.items)) (right_paren ∷ []) bracket_kinds.0 refl (mark_laid kinds.RightParen (codes ")") refl bracket_kinds.1 (loose nothing_behind)) refl inner) (spaced_kept k.after))))))))

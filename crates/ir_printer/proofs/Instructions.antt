@@ -1,5 +1,5 @@
 -- The pieces that an instruction is printed as, behind its result and before its attachments, write it.
-use Rattle.std.proofs.Common.{◌≡◌, ◌<◌, ℕ, true, Bool, List, [], ◌∷◌, ◌++◌, length, Option, Some, None, refl, sym, ap, subst, arith, eqb, inl}
+use Rattle.std.proofs.Common.{◌≡◌, ◌<◌, ℕ, true, Bool, List, [], ◌∷◌, ◌++◌, length, Some, refl, sym, ap, subst, arith, eqb}
 use Rattle.std.specs.Prelude.{map, codes, replicate}
 use Rattle.std.specs.List.{AllByRecursion, AllZip, list_all, zip}
 use Rattle.std.proofs.lemmas.Bool.{eq-eqb}
@@ -8,7 +8,7 @@ use Rattle.forms.specs.declared.TokenKind.TheVariants as kinds
 use Rattle.forms.specs.Form.{Form, either, by_word}
 use Rattle.forms.specs.Combined.{word as word_form}
 use Rattle.forms.specs.Lexical.{kind_of, table}
-use Rattle.text_lex.specs.Layout.{Piece, gap, lexeme, closed, open_}
+use Rattle.text_lex.specs.Layout.{Piece, closed, open_}
 use Rattle.ir_types.specs.declared.name.Name.{Name}
 use Rattle.ir_types.specs.declared.inst.Ty.{Ty}
 use Rattle.ir_types.specs.declared.inst.Ty.TheVariants.{Int, Ptr, Void}
@@ -30,16 +30,17 @@ use Rattle.ir_types.specs.declared.opcode.Operation.TheVariants as operations
 use Rattle.ir_types.specs.declared.opcode.Terminator.TheVariants as terminators
 use Rattle.ir_types.specs.Written.{number_at}
 use Rattle.ir_types.specs.Tree.{OperandTree, InstTree}
-use Rattle.ir_types.specs.Grammar.{WrittenValue, operand_at, wrap_flags, exact_flag, disjoint_flag, no_flags, bits_for, element_of, shuffled, bare_inst, overflowing, possibly_exact, plain_binary, or_operation, predicates, call, compared, compare, select, freeze, trunc, zext, sext, ptrtoint, entry_of_phi, entries_at, phi, load, store, extractelement, insertelement, shufflevector, branch, case_of_switch, cases_at, switch, void_tree, unreachable_tree, ret, operation_words, operation_behind, terminator_words, terminator_behind}
+use Rattle.ir_types.specs.Grammar.{WrittenValue, wrap_flags, exact_flag, disjoint_flag, no_flags, bits_for, element_of, shuffled, bare_inst, overflowing, possibly_exact, plain_binary, or_operation, predicates, call, compared, compare, select, freeze, trunc, zext, sext, ptrtoint, entry_of_phi, entries_at, phi, load, store, extractelement, insertelement, shufflevector, branch, case_of_switch, switch, void_tree, unreachable_tree, ret, operation_words, operation_behind, terminator_words, terminator_behind}
 use Rattle.ir_shape.specs.Shape.{IsName, IsOneOf, widths, IsType, IsBelow, IsTyped, IsTerminator, HasFlags, IsBody}
 use Rattle.type_printer.specs.Texts.{signed_text}
-use Rattle.type_printer.specs.Pieces.{word, comma, blank, left_bracket, right_bracket, type_pieces, width_word, each_behind, with_commas}
+use Rattle.type_printer.specs.MemoryPieces.{memory_pieces}
+use Rattle.type_printer.specs.Pieces.{word, comma, blank, type_pieces, width_word, each_behind, with_commas}
 use Rattle.type_printer.proofs.Spelled.{decimals}
 use Rattle.type_printer.proofs.Widths.{width_within}
-use Rattle.type_printer.proofs.Laid.{Separates, loose, blank_laid, mark_laid, nothing_behind, gap_laid}
+use Rattle.type_printer.proofs.Laid.{Separates, loose, mark_laid, nothing_behind, gap_laid}
 use Rattle.type_printer.proofs.LaidOut.{bracket_kinds}
 use Rattle.type_printer.proofs.Writes.{Writes, both, spaced, ended, regrouped, left_writes, right_writes, mapped_writes, made_writes, word_writes, behind_writes, by_word_writes, after_comma, between_writes, bracketed, EachWrites, commas_write, many_behind}
-use Rattle.ir_printer.specs.Print.{operator_word, predicate_word, flags_pieces, offset_flags, call_words, typed_operand, typed_pieces, entry_pieces, entries_of, before_case, case_pieces, cases_of, switch_pieces, align_pieces, kind_pieces}
+use Rattle.ir_printer.specs.Print.{operator_word, predicate_word, flags_pieces, call_words, typed_operand, typed_pieces, listed_pieces, entry_pieces, entries_of, before_case, case_pieces, cases_of, switch_pieces, align_pieces, kind_pieces}
 use Rattle.ir_printer.proofs.Numbers.{signed_again}
 use Rattle.type_printer.proofs.InstMemory.{memory_writes}
 use Rattle.ir_printer.proofs.Words.{local_writes, width_writes, type_writes, signed_writes}
@@ -191,7 +192,7 @@ module _ (defs : Definitions) (tables : Tables) where
   unfolding operation_words table
   offset_operation id widths inbounds nuw nusw t args labels listed h =
       let k = Offset id widths inbounds nuw nusw in
-      rw (h.result) (by_no_label (λ ls. WritesOperation k Ptr args ls) h.count (by_word_writes _ operations.GetElementPtr refl refl (subst (λ (ps : List Piece). Writes open_ _ _ (offset_flags inbounds nuw nusw ++ ps)) (sym (append-nil _)) (offset_writes defs _ widths inbounds nuw nusw args _ (memory_writes tables.type_names tables.types id listed h.parts.0) h.args h.parts.1))))
+      rw (h.result) (by_no_label (λ ls. WritesOperation k Ptr args ls) h.count (rw (append-nil (blank ∷ (memory_pieces tables.type_names tables.types id ++ (comma ∷ listed_pieces (Ptr ∷ map Int widths) args)))) (by_word_writes _ operations.GetElementPtr refl refl (offset_writes defs _ widths inbounds nuw nusw args _ (memory_writes tables.type_names tables.types id listed h.parts.0) h.args h.parts.1))))
 
   call_operation : (c : Callee) (t : Ty) (args : List OperandTree) (labels : List Name) → IsBody (bare_inst (kinds_of.Call c) t args labels) → WritesOperation (Call c) t args labels
   call_operation c t args labels h = by_no_label (λ ls. WritesOperation (Call c) t args ls) h.count (tail_writes defs c.tail _ _ (call_writes defs c t args h.parts h.result h.args))

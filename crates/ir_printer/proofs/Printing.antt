@@ -3,7 +3,6 @@ use Rattle.std.proofs.Common.{◌≡◌, ◌≤◌, ◌+◌, ℕ, List, [], ◌�
 use Rattle.std.specs.Prelude.{map, codes, flat_map}
 use Rattle.std.specs.List.{AllByRecursion}
 use Rattle.std.proofs.lemmas.List.{append-nil}
-use Rattle.std.proofs.lemmas.List.Folds.{flat_map-map}
 use Rattle.forms.specs.Form.{Lexeme, Form, many}
 use Rattle.forms.proofs.Begins.{test}
 use Rattle.text_lex.specs.Layout.{Piece, text_of, tokens_of}

@@ -1,5 +1,5 @@
 -- The tokens that a function is printed as spell the function.
-use Rattle.std.proofs.Common.{◌≡◌, ℕ, Bool, true, false, cond, List, [], ◌∷◌, ◌++◌, Some, None, refl, ap, ◌∙◌, subst, append_assoc, arith, inl, inr}
+use Rattle.std.proofs.Common.{◌≡◌, ℕ, Bool, false, List, [], ◌∷◌, ◌++◌, Some, refl, ap, ◌∙◌, subst, append_assoc, arith, inl, inr}
 use Rattle.std.specs.Prelude.{map, codes}
 use Rattle.std.specs.List.{AllByRecursion}
 use Rattle.std.proofs.lemmas.List.{append-nil}
@@ -7,9 +7,8 @@ use Rattle.std.proofs.lemmas.Simd.{map-map}
 use Rattle.forms.specs.declared.TokenKind.TheVariants as kinds
 use Rattle.forms.specs.Form.{Lexeme, Form}
 use Rattle.forms.proofs.Begins.{test}
-use Rattle.text_lex.specs.KeptText.{token_of, kept_pieces}
+use Rattle.text_lex.specs.KeptText.{token_of}
 use Rattle.text_lex.specs.Layout.{Piece, lexeme, tokens_of}
-use Rattle.text_lex.proofs.KeptTexts.{kept_tokens}
 use Rattle.text_lex.proofs.Layouts.{tokens_of-append}
 use Rattle.ir_types.specs.declared.opcode.ItemWord.TheVariants as items
 use Rattle.ir_types.specs.TypeNodes.{TypeNode}
@@ -23,8 +22,8 @@ use Rattle.ir_types.specs.Grammar.{list, parameter, dotted_parameters, declared_
 use Rattle.ir_shape.specs.Shape.{IsKept, before_form, after_form, IsBlock, IsParam, IsFunction}
 use Rattle.type_printer.specs.Pieces as pieces_of
 use Rattle.type_printer.specs.Pieces.{token, global_token, local_token, type_pieces, with_commas}
-use Rattle.type_printer.proofs.Says.{Says, pair_says, left_says, right_says, mapped_says, mark_says, by_word_says, there_says, marked_says, between_says, EachSays, some_says, commas_says, list_says}
-use Rattle.type_printer.proofs.Spelled.{local_says, global_says, type_says, return_type_says}
+use Rattle.type_printer.proofs.Says.{Says, pair_says, left_says, mapped_says, by_word_says, between_says, some_says, list_says}
+use Rattle.type_printer.proofs.Spelled.{global_says, return_type_says}
 use Rattle.type_printer.proofs.Writes.{both, spaced, mapped_writes, there_writes, EachWrites, each_says}
 use Rattle.ir_printer.specs.Print.{kept_then_blank, blank_then_kept, block_pieces, param_pieces, params_pieces, function_word, head_pieces, body_pieces, function_pieces}
 use Rattle.ir_printer.proofs.Numbering.{written_param, written_block, written_function}

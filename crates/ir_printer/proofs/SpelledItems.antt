@@ -81,7 +81,7 @@ word_tokens false = right_says (word_says _ false)
 
 variable_tokens : (m : Module) (s : Symbol) (id : TypeId) (writable : Bool) → tokens_of (variable_pieces m s id writable)
     ≡ global_token s.name ∷ token kinds.Equal (codes "=") ∷ (map token_of s.before ++ (token kinds.Word (print.variable_word writable) ∷ (tokens_of (type_at m id) ++ map token_of s.after)))
-variable_tokens m s id writable = rw (← then_blank_tokens s.before, ← behind_tokens s.after) (simp (tokens_of-append, append_assoc, append-nil))
+variable_tokens m s id writable = rw (← then_blank_tokens s.before, ← behind_tokens s.after) (simp (tokens_of-append, append-nil))
 
 pub variable_says : (defs : Definitions) (m : Module) (s : Symbol) (id : TypeId) (writable : Bool) (f : Form (List TypeNode)) (nodes : List TypeNode) → IsName s.name → IsKept kept s.before → IsKept behind_type s.after → Says f nodes (tokens_of (type_at m id))
     → Says (item defs f) (variable_item (record { name = s.name; before = s.before; writable = writable; ty = nodes; after = s.after })) (tokens_of (variable_pieces m s id writable))

@@ -1,18 +1,17 @@
 -- The constant that steps so many bytes behind a symbol.
-use Rattle.std.proofs.Common.{◌≡◌, ◌+◌, ◌-◌, ◌*◌, ◌%◌, ◌≤◌, ◌^◌, ℕ, true, false, List, [], ◌∷◌, Some, lit<, lit≤, refl, ap, ◌∙◌, arith, inl, inr}
+use Rattle.std.proofs.Common.{◌≡◌, ◌+◌, ◌-◌, ◌*◌, ◌%◌, ◌^◌, ℕ, false, List, [], ◌∷◌, Some, None, lit<, lit≤, refl, ap, ◌∙◌, arith, inl, inr}
 use Rattle.std.specs.Prelude.{nat_lt, codes}
 use Rattle.std.proofs.Math.Nat.{mod-eq_of_lt}
-use Rattle.std.proofs.lemmas.Bool.Decides.{nat_tests}
 use Rattle.forms.specs.declared.TokenKind.TheVariants as kinds
 use Rattle.forms.specs.Form.{Form, many}
 use Rattle.forms.specs.Lexical.{kind_of, table}
 use Rattle.forms.proofs.Begins.{test}
-use Rattle.text_lex.specs.Layout.{Piece, lexeme, Before, closed, open_}
+use Rattle.text_lex.specs.Layout.{lexeme, Before, closed, open_}
 use Rattle.ir_types.specs.declared.name.Name.{Name}
 use Rattle.ir_types.specs.declared.inst.Ty.TheVariants.{Int}
 use Rattle.ir_types.specs.Offsets.{Definitions, scaled, offset_of}
 use Rattle.ir_types.specs.TypeNodes.{TypeNode, scalar}
-use Rattle.ir_types.specs.Grammar.{memory_leaf, inst_memory, three_flags, comma_index, constant_offset}
+use Rattle.ir_types.specs.Grammar.{memory_leaf, inst_memory, three_flags, comma_index, index_of, constant_offset}
 use Rattle.ir_shape.specs.Shape.{IsName, IsBelow}
 use Rattle.type_printer.specs.Texts.{signed_text}
 use Rattle.type_printer.specs.Pieces.{token, word, comma, blank, left_paren, right_paren, global_token, width_word, type_pieces}
@@ -67,8 +66,11 @@ no_flags_write = mapped_writes None _ refl none_writes
 no_others : {A : Type 0} {b : Before} {f : Form A} → Writes b (many f) [] []
 no_others {f = f} = record { says = none_says f; tokens = tt; joined = refl }
 
+index_again : (n : ℕ) → IsBelow 64 n → index_of (64, signed_text 64 n) ≡ (64, n)
+index_again n lt = ap (λ (k : ℕ). (64, k)) (signed_again 64 n (lit< tt) (lit≤ tt) lt)
+
 index_writes : (n : ℕ) → IsBelow 64 n → Writes open_ comma_index (64, n) (comma ∷ blank ∷ word (codes "i64") ∷ blank ∷ lexeme (token kinds.Number (signed_text 64 n)) ∷ [])
-index_writes n lt = rw (← step_word) (after_comma (mapped_writes (64, signed_text 64 n) _ (rw (signed_again 64 n (lit< tt) (lit≤ tt) lt) refl) (both (width_writes 64 (inr (inr (inr (inr (inl refl)))))) (spaced (signed_writes 64 n (lit≤ tt) lt)))))
+index_writes n lt = rw (← step_word) (after_comma (mapped_writes (64, signed_text 64 n) (64, n) (index_again n lt) (both (width_writes 64 (inr (inr (inr (inr (inl refl)))))) (spaced (signed_writes 64 n (lit≤ tt) lt)))))
 
 pub steps_write : (n : Name) (bytes : ℕ) → IsName n → IsBelow 64 bytes
     → Writes closed constant_offset (written_steps n bytes) (word (codes "getelementptr") ∷ blank ∷ left_paren ∷ word (codes "i8") ∷ comma ∷ blank ∷ word (codes "ptr") ∷ blank ∷ lexeme (global_token n) ∷ comma ∷ blank ∷ word (codes "i64") ∷ blank ∷ lexeme (token kinds.Number (signed_text 64 bytes)) ∷ right_paren ∷ [])

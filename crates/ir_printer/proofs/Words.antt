@@ -1,5 +1,5 @@
 -- The pieces that names, types and numbers are printed as write them.
-use Rattle.std.proofs.Common.{◌≡◌, ◌≤◌, ℕ, List, [], ◌∷◌, Some, refl}
+use Rattle.std.proofs.Common.{◌≡◌, ◌≤◌, ℕ, [], ◌∷◌, Some, refl}
 use Rattle.std.specs.Prelude.{codes}
 use Rattle.forms.specs.declared.TokenKind.TheVariants as kinds
 use Rattle.forms.specs.Form.{one}

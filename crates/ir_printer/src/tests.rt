@@ -95,7 +95,13 @@ fn openings(rt: HostRuntime) -> Result<(), Fail> {
         InstKind::Compare(Pred::Sle, Ty::Ptr),
         InstKind::Trunc(Ty::Int(32), false, true),
         InstKind::Zext(Ty::Int(8), true),
-        InstKind::Offset(TypeId(0), Items::from_vec(Vec::new(rt.alloc())), true, true, true),
+        InstKind::Offset(
+            TypeId(0),
+            Items::from_vec(Vec::new(rt.alloc())),
+            true,
+            true,
+            true,
+        ),
         InstKind::Call(callee_of(rt.alloc(), TailKind::MustTail)?),
         InstKind::Unreachable,
     ];

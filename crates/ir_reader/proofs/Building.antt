@@ -1,91 +1,264 @@
--- The module that is built of gathered items denotes what they are collected to.
-use Rattle.std.proofs.Common.{◌≡◌, ℕ, List, [], ◌∷◌, ◌++◌, refl, sym, ap, ◌∙◌, subst}
-use Rattle.std.specs.Prelude.{map}
-use Rattle.std.specs.List.{AllByRecursion, filter_map}
+-- The module of tables and functions denotes what the items are collected to.
+use Rattle.std.proofs.Common.{◌≡◌, ◌≤◌, ◌<◌, ◌⊎◌, ℕ, zero, suc, List, [], ◌∷◌, ◌++◌, length, map, drop, Option, Some, None, Result, Ok, Err, inl, inr, refl, sym, ap, ◌∙◌, subst, arith}
+use Rattle.std.specs.Prelude.{slice_get, IfOk}
+use Rattle.std.specs.declared.alloc.AllocError.{AllocError}
+use Rattle.std.specs.Option.{option_map}
+use Rattle.std.specs.List.{AllByRecursion, filter_map, cons_option}
+use Rattle.std.proofs.Math.Seq.{drop-append_seam}
+use Rattle.std.proofs.lemmas.Bool.{cases_lt}
+use Rattle.std.proofs.lemmas.List.{map-append, length-map, append-nil}
+use Rattle.std.proofs.lemmas.List.Elements.{filter_map-append}
+use Rattle.std.proofs.lemmas.Option.{slice_get-map}
+use Rattle.forms.specs.declared.cursor.SyntaxFault.{SyntaxFault}
+use Rattle.forms.specs.declared.cursor.SyntaxFault.TheVariants.{NoReading, Memory}
+use Rattle.forms.specs.Gives.{Gives}
+use Rattle.forms.specs.Reading.{◌>>=◌}
+use Rattle.text_lex.specs.declared.fault.Count.{Count}
 use Rattle.ir_types.specs.declared.name.Name.{Name}
-use Rattle.ir_types.specs.declared.module.Module.{Module}
 use Rattle.ir_types.specs.declared.module.Function.{Function}
 use Rattle.ir_types.specs.declared.module.Symbol.{Symbol}
-use Rattle.ir_types.specs.declared.module.SymbolKind.{SymbolKind}
-use Rattle.ir_types.specs.declared.module.SymbolKind.TheVariants as symbols
+use Rattle.ir_types.specs.declared.module.SymbolKind.TheVariants as kinds
+use Rattle.ir_types.specs.declared.module.Module.{Module}
 use Rattle.ir_types.specs.declared.memory_type.MemTy.{MemTy}
+use Rattle.ir_types.specs.declared.memory_type.Extent.{Extent}
 use Rattle.ir_types.specs.declared.memory_type.TypeName.{TypeName}
 use Rattle.ir_types.specs.declared.memory_type.NamedType.{NamedType}
 use Rattle.ir_types.specs.declared.memory_type.NamedType.TheVariants.{Defined, Opaque, Missing}
-use Rattle.ir_types.specs.declared.memory_type.Extent.{Extent}
 use Rattle.ir_types.specs.Names.{IsTable}
-use Rattle.ir_types.specs.Sizes.{AreExtents}
-use Rattle.ir_types.specs.Tree.{KeptTexts, FunctionTree, VariableTree, NamedTree, SymbolKindTree, SymbolTree, TypeNameTree, Item, ModuleTree}
-use Rattle.ir_types.specs.Collected.{as_head, as_type, as_variable, as_attributes, with_missing, symbol_of, symbols_from, collected}
-use Rattle.ir_types.specs.Denotes.{tree_of_function, type_names_of, named_in, type_name_in, symbol_kind_in, symbol_in, Denotes}
+use Rattle.ir_types.specs.Tree.{KeptTexts, TypeNameTree, SymbolTree, FunctionTree, ModuleTree, Item}
+use Rattle.ir_types.specs.Offsets.{Definitions, definitions_in}
+use Rattle.ir_types.specs.Skimmed.{Skimmed}
+use Rattle.ir_types.specs.Denotes.{Tables, type_names_of, type_name_in, tables_of, function_in, AreMissingApart, Denotes}
+use Rattle.ir_types.specs.Collected.{as_head, as_comdat, as_type, as_variable, as_function, as_attributes, as_metadata, symbol_of, symbols_from, collected}
+use Rattle.ir_limits.specs.Mentioned.{in_items}
+use Rattle.ir_limits.specs.Limits.{first_long, passed_by, limit_passed}
 use Rattle.type_reader.specs.TypeTable.{names_of}
+use Rattle.type_reader.specs.Tables.{TableLists, tables_in, definition_over, definitions_of, Grows, AreTables}
 use Rattle.item_reader.specs.declared.part.Variable.{Variable}
+use Rattle.item_reader.specs.declared.source.FunctionSource.{FunctionSource}
 use Rattle.item_reader.specs.Parts.{variable_of}
 use Rattle.ir_reader.specs.declared.gather.Gathered.{Gathered}
-use Rattle.ir_reader.specs.Trees.{named_over, type_name_over, symbol_kind_over, symbol_over}
-use Rattle.ir_reader.specs.Typed.{symbol_tree, AreTyped}
-use Rattle.ir_reader.specs.Gathered.{Holds}
+use Rattle.ir_reader.specs.declared.longs.ItemLong.{ItemLong}
+use Rattle.ir_reader.specs.Gathered.{skimmed_of, function_among, long_among, Holds}
+use Rattle.ir_reader.specs.Trees.{symbol_over, variable_symbol, function_symbols, missing_symbol}
+use Rattle.ir_reader.specs.Typed.{all_symbols, ArePrepared}
+use Rattle.ir_reader.specs.Reading.{functions_read, filled_items, IsModule, GivesModule}
+use Rattle.ir_reader.proofs.Filling.{put, filled_is}
+use Rattle.ir_reader.proofs.Groups as groups
+use Rattle.ir_reader.proofs.Outlines.{names_read}
+use Rattle.ir_reader.proofs.Symbolic.{symbols_named}
 
-named_same : (m : Module) (t : NamedType) → named_in m t ≡ named_over (type_names_of m) m.types t
-named_same m (Defined id) = refl
-named_same m Opaque = refl
-named_same m Missing = refl
+-- ---- lists of which some stand for nothing
 
-names_same : (m : Module) (ts : List TypeName) → map (type_name_in m) ts ≡ map (type_name_over (type_names_of m) m.types) ts
-names_same m [] = refl
-names_same m (t ∷ ts) =
-    ap (λ (x : NamedTree). record { name = t.name; ty = x } ∷ map (type_name_in m) ts) (named_same m t.ty)
-    ∙ ap (λ (l : List TypeNameTree). type_name_over (type_names_of m) m.types t ∷ l) (names_same m ts)
+got_first : {A : Type 0} (xs ys : List A) (i : ℕ) (x : A) → i < length xs → slice_get (xs ++ ys) i ≡ Some x → slice_get xs i ≡ Some x
+got_first [] ys i x lt e = absurd (omega arith)
+got_first (z ∷ xs) ys zero x lt e = e
+got_first (z ∷ xs) ys (suc i) x lt e = got_first xs ys i x (omega arith) e
 
-kind_same : (m : Module) (k : SymbolKind) → symbol_kind_in m k ≡ symbol_kind_over (type_names_of m) m.types k
-kind_same m (symbols.Variable id writable) = refl
-kind_same m (symbols.Function f) = refl
-kind_same m symbols.Missing = refl
+all_there : {A B : Type 0} (f : A → Option B) (xs : List A) (ys : List B) → map f xs ≡ map Some ys → filter_map f xs ≡ ys
+all_there f [] [] e = refl
+all_there f [] (y ∷ ys) e = absurd cc
+all_there f (x ∷ xs) [] e = absurd cc
+all_there f (x ∷ xs) (y ∷ ys) e =
+    let here : f x ≡ Some y = cc in
+    let there : map f xs ≡ map Some ys = cc in
+    rw here (ap (λ (l : List _). y ∷ l) (all_there f xs ys there))
 
-symbols_same : (m : Module) (ss : List Symbol) → map (symbol_in m) ss ≡ map (symbol_over (type_names_of m) m.types) ss
-symbols_same m [] = refl
-symbols_same m (s ∷ ss) =
-    ap (λ (x : SymbolKindTree). record { name = s.name; kind = x; before = s.before; after = s.after } ∷ map (symbol_in m) ss) (kind_same m s.kind)
-    ∙ ap (λ (l : List SymbolTree). symbol_over (type_names_of m) m.types s ∷ l) (symbols_same m ss)
+one_there : {A B : Type 0} (f : A → Option B) (xs : List A) (ys : List B) (i : ℕ) (x : A) → map f xs ≡ map Some ys → slice_get xs i ≡ Some x → f x ≡ None → ⊥
+one_there f [] ys i x e at n = cc
+one_there f (y ∷ xs) [] i x e at n = cc
+one_there f (y ∷ xs) (z ∷ ys) zero x e at n =
+    let here : f y ≡ Some z = cc in
+    let same : y ≡ x = cc in
+    let none : f y ≡ None = ap f same ∙ n in
+    cc
+one_there f (y ∷ xs) (z ∷ ys) (suc i) x e at n = let there : map f xs ≡ map Some ys = cc in one_there f xs ys i x there at n
 
-variable_symbols : (vs : List Variable) → map symbol_tree vs ≡ map symbol_of (map variable_of vs)
-variable_symbols [] = refl
-variable_symbols (v ∷ vs) = ap (λ (l : List SymbolTree). symbol_tree v ∷ l) (variable_symbols vs)
+one_mapped : {B C : Type 0} (g : B → C) (o : Option B) (bs : List B) (cs : List C) → cs ≡ map g bs → cons_option (option_map g o) cs ≡ map g (cons_option o bs)
+one_mapped g None bs cs e = e
+one_mapped g (Some b) bs cs e = ap (λ (l : List _). g b ∷ l) e
+
+mapped_there : {A B C : Type 0} (f : A → Option B) (g : B → C) (h : A → Option C) (xs : List A) → ((x : A) → h x ≡ option_map g (f x)) → filter_map h xs ≡ map g (filter_map f xs)
+mapped_there f g h [] e = refl
+mapped_there f g h (x ∷ xs) e = ap (λ (o : Option _). cons_option o (filter_map h xs)) (e x) ∙ one_mapped g (f x) (filter_map f xs) (filter_map h xs) (mapped_there f g h xs e)
+
+-- ---- the parts of a module's tree
+
+-- a module of these symbols, functions and lines, over these tables
+abbrev pub module_over : TableLists → List KeptTexts → List Symbol → List Function → List KeptTexts → Module
+module_over t head symbols functions tail = record { head = head; types = t.types; extents = t.extents; type_names = t.entries; symbols = symbols; functions = functions; tail = tail }
+
+said : (m : Module) (n : Name) (ty : NamedType) → type_name_in m (record { name = n; ty = ty }) ≡ option_map groups.type_tree (definition_over (type_names_of m) m.types (record { name = n; ty = ty }))
+said m n (Defined id) = refl
+said m n Opaque = refl
+said m n Missing = refl
+
+none_said : (names : List Name) (types : List MemTy) (ns : List Name) → filter_map (symbol_over names types) (map missing_symbol ns) ≡ []
+none_said names types [] = refl
+none_said names types (n ∷ ns) = none_said names types ns
+
+missing_named : (ns : List Name) → map (λ (s : Symbol). s.name) (map missing_symbol ns) ≡ ns
+missing_named [] = refl
+missing_named (n ∷ ns) = ap (λ (l : List Name). n ∷ l) (missing_named ns)
+
+symbols_of : (vs : List Variable) → map variable_symbol vs ≡ map symbol_of (map variable_of vs)
+symbols_of [] = refl
+symbols_of (v ∷ vs) = ap (λ (l : List SymbolTree). variable_symbol v ∷ l) (symbols_of vs)
+
+missing_over : (names : List Name) (types : List MemTy) (s : Symbol) → s.kind ≡ kinds.Missing → symbol_over names types s ≡ None
+missing_over names types s e = rw e refl
 
 -- the parts of a module's tree
 abbrev tree_so : List KeptTexts → List TypeNameTree → List SymbolTree → List FunctionTree → List KeptTexts → ModuleTree
 tree_so head names symbols functions tail = record { head = head; type_names = names; symbols = symbols; functions = functions; tail = tail }
 
-same_parts : (h h' : List KeptTexts) (n n' : List TypeNameTree) (s s' : List SymbolTree) (f f' : List FunctionTree) (t t' : List KeptTexts) → h ≡ h' → n ≡ n' → s ≡ s' → f ≡ f' → t ≡ t' → tree_so h n s f t ≡ tree_so h' n' s' f' t'
-same_parts h h' n n' s s' f f' t t' a b c d e = cc
+same_parts : (h i : List KeptTexts) (n o : List TypeNameTree) (s t : List SymbolTree) (f g : List FunctionTree) (u v : List KeptTexts) → h ≡ i → n ≡ o → s ≡ t → f ≡ g → u ≡ v → tree_so h n s f u ≡ tree_so i o t g v
+same_parts h i n o s t f g u v a b c d e = cc
 
-abbrev the_module : List KeptTexts → List MemTy → List Extent → List TypeName → List Symbol → List Function → List KeptTexts → Module
-the_module head types extents names symbols functions tail = record { head = head; types = types; extents = extents; type_names = names; symbols = symbols; functions = functions; tail = tail }
+-- ---- the module
 
-pub built : (g : Gathered) (items : List (Item FunctionTree)) (head tail : List KeptTexts) (types : List MemTy) (extents : List Extent) (names : List TypeName) (before symbols : List Symbol) (functions : List Function)
-    → Holds g items → AreTyped g.definitions.items g.variables.items types names before
-    → ((ns : List Name) (ts : List MemTy) → map (symbol_over ns ts) symbols ≡ map (symbol_over ns ts) before ++ symbols_from 0 (map tree_of_function g.functions.items))
-    → functions ≡ g.functions.items → head ≡ g.head.items ++ g.comdats.items → tail ≡ g.attributes.items ++ g.metadata.items → AreExtents types names extents
-    → Denotes (record { head = head; types = types; extents = extents; type_names = names; symbols = symbols; functions = functions; tail = tail }) (collected items)
-built g items head tail types extents names before symbols functions h t s f a b x =
-    let m = the_module head types extents names symbols functions tail in
-    let vs = g.variables.items in
-    let fs = map tree_of_function g.functions.items in
-    let heads = a ∙ ap (λ (l : List KeptTexts). l ++ g.comdats.items) h.head ∙ ap (λ (l : List KeptTexts). filter_map as_head items ++ l) h.comdats in
-    let tails = b ∙ ap (λ (l : List KeptTexts). l ++ g.metadata.items) h.attributes ∙ ap (λ (l : List KeptTexts). filter_map as_attributes items ++ l) h.metadata in
-    let type_names = names_same m names ∙ t.named ∙ ap (λ (l : List TypeNameTree). with_missing l (map variable_of vs)) h.definitions ∙ ap (λ (l : List VariableTree). with_missing (filter_map as_type items) l) h.variables in
-    let all_symbols = symbols_same m symbols ∙ s (names_of names) types ∙ ap (λ (l : List SymbolTree). l ++ symbols_from 0 fs) (t.symbols_are ∙ variable_symbols vs ∙ ap (map symbol_of) h.variables)
-    ∙ ap (λ (l : List FunctionTree). map symbol_of (filter_map as_variable items) ++ symbols_from 0 l) h.functions in
-    let all_functions = ap (map tree_of_function) f ∙ h.functions in
-    record {
-      says = same_parts _ _ _ _ _ _ _ _ _ _ heads type_names all_symbols all_functions tails;
-      tables = subst (λ (l : List Function). AllByRecursion (λ (f : Function). IsTable f.names) l) (sym f) h.tables;
-      types = t.are;
-      extents = x;
-    }
+module _ (g : Gathered) (items : List (Item Skimmed)) (h : Holds g items) (old t : TableLists) (symbols : List Symbol) (fs : List Function) (p : ArePrepared g.definitions.items g.variables.items g.functions.items old symbols) (grows : Grows old t)
+    (reads : functions_read (definitions_of old) (map skimmed_of g.functions.items) ≡ Some (map (function_in (tables_in t)) fs)) where
+  abbrev trees : List FunctionTree
+  trees = map (function_in (tables_in t)) fs
+
+  abbrev numbered : List (Item FunctionTree)
+  numbered = put items trees
+
+  -- the names of types stand for what they stand for in the items
+  defined : definitions_of old ≡ definitions_in items
+  defined = p.defined ∙ h.definitions
+
+  functions_are : functions_read (definitions_in items) (filter_map function_among items) ≡ Some trees
+  functions_are = ap (λ (d : Definitions). functions_read d (filter_map function_among items)) (sym defined) ∙ ap (functions_read (definitions_of old)) (sym h.functions) ∙ reads
+
+  pub filled : filled_items items ≡ Some numbered
+  filled = filled_is (definitions_in items) items ∙ ap (λ (o : Option (List FunctionTree)). o >>= λ l. Some (put items l)) functions_are
+
+  same_names : map (λ (f : FunctionTree). f.name) trees ≡ map (λ (s : FunctionSource). s.name) g.functions.items
+  same_names = names_read (definitions_of old) g.functions.items trees reads
+
+  as_many : length trees ≡ length (filter_map function_among items)
+  as_many =
+      let names : length (map (λ (f : FunctionTree). f.name) trees) ≡ length (map (λ (s : FunctionSource). s.name) g.functions.items) = ap length same_names in
+      sym (length-map trees (λ (f : FunctionTree). f.name)) ∙ names ∙ length-map g.functions.items (λ (s : FunctionSource). s.name) ∙ sym (length-map g.functions.items skimmed_of) ∙ ap length h.functions
+
+  all_functions : filter_map as_function numbered ≡ trees
+  all_functions = groups.functions items trees as_many
+
+  -- those that are only used
+  abbrev used : List Name
+  used = drop t.known t.symbols
+
+  abbrev all : List Symbol
+  all = symbols ++ map missing_symbol used
+
+  known_names : length old.symbols ≡ length symbols
+  known_names = ap length p.named ∙ length-map symbols (λ (s : Symbol). s.name)
+
+  only_used : used ≡ grows.symbols.more
+  only_used =
+      let count : t.known ≡ length old.symbols = grows.known ∙ p.known ∙ sym known_names in
+      ap (λ (k : ℕ). drop k t.symbols) count ∙ ap (drop (length old.symbols)) grows.symbols.parts ∙ drop-append_seam old.symbols grows.symbols.more
+
+  named : map (λ (s : Symbol). s.name) all ≡ t.symbols
+  named =
+      map-append (λ (s : Symbol). s.name) symbols (map missing_symbol used)
+      ∙ ap (λ (l : List Name). l ++ map (λ (s : Symbol). s.name) (map missing_symbol used)) (sym p.named)
+      ∙ ap (λ (l : List Name). old.symbols ++ l) (missing_named used ∙ only_used)
+      ∙ sym grows.symbols.parts
+
+  all_types : (m : Module) → m ≡ module_over t m.head m.symbols m.functions m.tail → filter_map (type_name_in m) t.entries ≡ filter_map as_type numbered
+  all_types m e =
+      let same : filter_map (definition_over (type_names_of m) m.types) t.entries ≡ definitions_of t = rw e refl in
+      mapped_there (definition_over (type_names_of m) m.types) groups.type_tree (type_name_in m) t.entries (λ n. said m n.name n.ty)
+      ∙ ap (map groups.type_tree) (same ∙ grows.definitions ∙ defined)
+      ∙ sym (groups.types items trees)
+
+  symbols_are : map (symbol_over (names_of t.entries) t.types) symbols ≡ map Some (all_symbols g.variables.items g.functions.items)
+  symbols_are = p.stand t grows
+
+  all_symbols_are : filter_map (symbol_over (names_of t.entries) t.types) all ≡ map symbol_of (filter_map as_variable numbered) ++ symbols_from 0 (filter_map as_function numbered)
+  all_symbols_are =
+      let over = symbol_over (names_of t.entries) t.types in
+      let vs = g.variables.items in
+      let variables : map variable_symbol vs ≡ map symbol_of (filter_map as_variable numbered) = symbols_of vs ∙ ap (map symbol_of) (h.variables ∙ sym (groups.variables items trees)) in
+      let functions : function_symbols 0 (map (λ (s : FunctionSource). s.name) g.functions.items) ≡ symbols_from 0 (filter_map as_function numbered) =
+      ap (function_symbols 0) (sym same_names) ∙ sym (symbols_named 0 trees) ∙ ap (symbols_from 0) (sym all_functions) in
+      filter_map-append over symbols (map missing_symbol used)
+      ∙ ap (λ (l : List SymbolTree). filter_map over symbols ++ l) (none_said (names_of t.entries) t.types used)
+      ∙ append-nil (filter_map over symbols)
+      ∙ all_there over symbols (all_symbols vs g.functions.items) symbols_are
+      ∙ ap (λ (l : List SymbolTree). l ++ function_symbols 0 (map (λ (s : FunctionSource). s.name) g.functions.items)) variables
+      ∙ ap (λ (l : List SymbolTree). map symbol_of (filter_map as_variable numbered) ++ l) functions
+
+  -- a symbol that is missing stands behind those that are defined or declared
+  missing_behind : (i : ℕ) (x : Symbol) → slice_get all i ≡ Some x → x.kind ≡ kinds.Missing → length symbols ≤ i
+  missing_behind i x at m = by (cases_lt i (length symbols))
+    where
+      by : (i < length symbols) ⊎ (length symbols ≤ i) → length symbols ≤ i
+      by (inl lt) = absurd (one_there (symbol_over (names_of t.entries) t.types) symbols (all_symbols g.variables.items g.functions.items) i x symbols_are (got_first symbols (map missing_symbol used) i x lt at) (missing_over (names_of t.entries) t.types x m))
+      by (inr le) = le
+
+  got_name : (i : ℕ) (x : Symbol) → slice_get all i ≡ Some x → slice_get t.symbols i ≡ Some x.name
+  got_name i x e =
+      let name = λ (s : Symbol). s.name in
+      subst (λ (l : List Name). slice_get l i ≡ Some x.name) named (slice_get-map name all i ∙ ap (option_map name) e)
+
+  apart : AreTables t → AreMissingApart (λ (s : Symbol). s.name) (λ (s : Symbol). s.kind ≡ kinds.Missing) all
+  apart are = λ i j x y a b m d e.
+      let behind = missing_behind i x a m in
+      let le : t.known ≤ i = omega (arith, behind, grows.known, p.known) in
+      d (are.symbols_apart i j x.name le (got_name i x a) (got_name j y b ∙ ap (λ (n : Name). Some n) (sym e)))
+
+  denotes : (head tail : List KeptTexts) → head ≡ g.head.items ++ g.comdats.items → tail ≡ g.attributes.items ++ g.metadata.items → AreTables t → AllByRecursion (λ (f : Function). IsTable f.names) fs → Denotes (module_over t head all fs tail) (collected numbered)
+  denotes head tail a b are tables =
+      let m = module_over t head all fs tail in
+      let heads : head ≡ filter_map as_head numbered ++ filter_map as_comdat numbered =
+      a ∙ ap (λ (l : List KeptTexts). l ++ g.comdats.items) (h.head ∙ sym (groups.heads items trees)) ∙ ap (λ (l : List KeptTexts). filter_map as_head numbered ++ l) (h.comdats ∙ sym (groups.comdats items trees)) in
+      let tails : tail ≡ filter_map as_attributes numbered ++ filter_map as_metadata numbered =
+      b ∙ ap (λ (l : List KeptTexts). l ++ g.metadata.items) (h.attributes ∙ sym (groups.attributes items trees)) ∙ ap (λ (l : List KeptTexts). filter_map as_attributes numbered ++ l) (h.metadata ∙ sym (groups.metadata items trees)) in
+      let seen : map (function_in (tables_of m)) fs ≡ filter_map as_function numbered = ap (λ (l : List Name). map (function_in (record { symbols = l; type_names = names_of t.entries; types = t.types })) fs) named ∙ sym all_functions in
+      record {
+        says = same_parts _ _ _ _ _ _ _ _ _ _ heads (all_types m refl) all_symbols_are seen tails;
+        tables = tables;
+        types = are.types_are;
+        extents = are.extents_are;
+        missing_types = are.entries_apart;
+        missing_symbols = apart are;
+      }
+
+  limit : passed_by trees (long_among g.longs.items trees) ≡ limit_passed numbered
+  limit =
+      ap (λ (l : List ItemLong). passed_by trees (long_among l trees)) h.longs
+      ∙ ap (passed_by trees) (groups.longs items trees)
+      ∙ ap (λ (l : List FunctionTree). passed_by l (first_long (in_items numbered))) (sym all_functions)
+
+  -- the module that is made of all
+  pub module_is : (head tail : List KeptTexts) (passed : Option (Count × ℕ)) → head ≡ g.head.items ++ g.comdats.items → tail ≡ g.attributes.items ++ g.metadata.items → AreTables t → AllByRecursion (λ (f : Function). IsTable f.names) fs → passed ≡ passed_by trees (long_among g.longs.items trees)
+      → IsModule (filled_items items) (module_over t head all fs tail) passed
+  module_is head tail passed a b are tables c = record { items = numbered; are = filled; denotes = denotes head tail a b are tables; limit = c ∙ limit }
+
+-- Where a function is not read, no items are.
+pub none_filled : (g : Gathered) (items : List (Item Skimmed)) (old : TableLists) (symbols : List Symbol) → Holds g items → ArePrepared g.definitions.items g.variables.items g.functions.items old symbols → functions_read (definitions_of old) (map skimmed_of g.functions.items) ≡ None → filled_items items ≡ None
+none_filled g items old symbols h p e =
+    filled_is (definitions_in items) items
+    ∙ ap (λ (o : Option (List FunctionTree)). o >>= λ l. Some (put items l)) (ap (λ (d : Definitions). functions_read d (filter_map function_among items)) (sym (p.defined ∙ h.definitions)) ∙ ap (functions_read (definitions_of old)) (sym h.functions) ∙ e)
+
+-- a refusal of functions is one of the module
+pub refused : {X : Type 0} (view : X → List FunctionTree) (g : Gathered) (items : List (Item Skimmed)) (old : TableLists) (symbols : List Symbol) (fault : SyntaxFault) → Holds g items → ArePrepared g.definitions.items g.variables.items g.functions.items old symbols
+    → Gives view (Err fault) (functions_read (definitions_of old) (map skimmed_of g.functions.items)) → GivesModule (filled_items items) (Err fault)
+refused view g items old symbols (NoReading place) h p e = none_filled g items old symbols h p e
+refused view g items old symbols Memory h p e = tt
 
 -- the same module, whose lists are named otherwise
-pub built_so : (head tail : List KeptTexts) (types types1 : List MemTy) (extents extents1 : List Extent) (names names1 : List TypeName) (symbols symbols1 : List Symbol) (functions functions1 : List Function) (tree : ModuleTree)
-    → types1 ≡ types → extents1 ≡ extents → names1 ≡ names → symbols1 ≡ symbols → functions1 ≡ functions
-    → Denotes (the_module head types extents names symbols functions tail) tree → Denotes (the_module head types1 extents1 names1 symbols1 functions1 tail) tree
-built_so head tail types types1 extents extents1 names names1 symbols symbols1 functions functions1 tree a b c d e h = rw (a, b, c, d, e) h
+pub module_so : (items_are : Option (List (Item FunctionTree))) (t : TableLists) (head tail : List KeptTexts) (symbols symbols1 : List Symbol) (fs fs1 : List Function) (types : List MemTy) (extents : List Extent) (names : List TypeName) (passed : Option (Count × ℕ))
+    → types ≡ t.types → extents ≡ t.extents → names ≡ t.entries → symbols1 ≡ symbols → fs1 ≡ fs → IsModule items_are (module_over t head symbols fs tail) passed
+    → IsModule items_are (record { head = head; types = types; extents = extents; type_names = names; symbols = symbols1; functions = fs1; tail = tail }) passed
+module_so items_are t head tail symbols symbols1 fs fs1 types extents names passed a b c d e h = rw (a, b, c, d, e) h
+
+-- the first limit, where the tables are these
+pub passed_so : (r : Result (Option (Count × ℕ)) AllocError) (fs : List Function) (longs : List ItemLong) (long : Option ℕ) (seen t : Tables) → IfOk r (λ (p : Option (Count × ℕ)). (u : Tables) → p ≡ passed_by (map (function_in u) fs) long) → long ≡ long_among longs (map (function_in seen) fs) → seen ≡ t
+    → IfOk r (λ (p : Option (Count × ℕ)). p ≡ passed_by (map (function_in t) fs) (long_among longs (map (function_in t) fs)))
+passed_so (Ok p) fs longs long seen t h l e = h t ∙ ap (passed_by (map (function_in t) fs)) (l ∙ ap (λ (u : Tables). long_among longs (map (function_in u) fs)) e)
+passed_so (Err x) fs longs long seen t h l e = tt

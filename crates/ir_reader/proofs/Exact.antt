@@ -1,59 +1,44 @@
 -- What the reader gives is what the text reads as.
-use Rattle.std.proofs.Common.{◌≡◌, ℕ, List, length, Option, Some, None, refl, sym, ap, ◌∙◌}
+use Rattle.std.proofs.Common.{◌≡◌, ℕ, List, Option, Some, None, sym, ap, ◌∙◌}
 use Rattle.forms.specs.Form.{Lexeme}
 use Rattle.forms.specs.Lexical.{Lexes}
-use Rattle.forms.specs.Reading.{◌>>=◌, read_whole}
-use Rattle.forms.proofs.Exact.{read_spells, spells_read}
-use Rattle.forms.proofs.Sound.{bind_some}
+use Rattle.forms.specs.Reading.{◌>>=◌}
+use Rattle.forms.proofs.Parts.{bind_some}
 use Rattle.text_lex.specs.declared.fault.Count.{Count}
 use Rattle.text_lex.specs.declared.fault.TextFault.{TextFault}
-use Rattle.text_lex.specs.declared.fault.TextFault.TheVariants.{BadToken, LeftOut, TextLimit, NoReading, CountLimit, Memory}
+use Rattle.text_lex.specs.declared.fault.TextFault.TheVariants.{BadToken, LeftOut, TextLimit, NoReading as TextNoReading, CountLimit, Memory as TextMemory}
 use Rattle.text_lex.specs.Fault.{IsFaultOf}
 use Rattle.text_lex.proofs.Unique.{lexes_unique}
 use Rattle.ir_types.specs.declared.module.Module.{Module}
-use Rattle.ir_types.specs.Grammar.{module_form}
+use Rattle.ir_types.specs.Skimmed.{items_read}
 use Rattle.ir_types.specs.Numbered.{numbered_module}
-use Rattle.ir_types.specs.Collected.{collected}
 use Rattle.ir_types.specs.Reads.{Reads}
-use Rattle.ir_types.proofs.Decides.{module_decides}
+use Rattle.ir_types.proofs.Skimming.{spelled_found, found_spelled}
 use Rattle.ir_limits.specs.Limits.{limit_passed}
 use Rattle.ir_reader.specs.Reading.{module_read, IsModule}
 use Rattle.ir_reader.specs.Refusal.{IsWithinLimits, PassesLimit, HasNoReading, IsRefusal}
 
-reads_from : (text : List ℕ) (ts : List Lexeme) (m : Module) (passed : Option (Count × ℕ)) → Lexes text ts → IsModule ts m passed → (r : Reads text m) × (passed ≡ limit_passed r.numbered)
+reads_from : (text : List ℕ) (ts : List Lexeme) (m : Module) (passed : Option (Count × ℕ)) → Lexes text ts → IsModule (module_read ts) m passed → (r : Reads text m) × (passed ≡ limit_passed r.numbered)
 reads_from text ts m passed lexes h =
-    let w = bind_some (read_whole (module_form (length ts)) ts) numbered_module h.items h.read in (
-      record {
-        tokens = ts;
-        written = w.0;
-        numbered = h.items;
-        resolved = collected h.items;
-        lexes = lexes;
-        spelled = read_spells (module_form (length ts)) (module_decides (length ts)) w.0 ts w.1;
-        numbers = w.2;
-        resolves = refl;
-        denotes = h.denotes;
-      },
-      h.limit,
-    )
+    let w = bind_some (items_read ts) numbered_module h.items h.are in
+    (record { tokens = ts; written = w.0; numbered = h.items; lexes = lexes; spelled = found_spelled w.0 ts w.1; numbers = w.2; denotes = h.denotes }, h.limit)
 
-pub within_limits : (text : List ℕ) (ts : List Lexeme) (m : Module) → Lexes text ts → IsModule ts m None → IsWithinLimits text m
+pub within_limits : (text : List ℕ) (ts : List Lexeme) (m : Module) → Lexes text ts → IsModule (module_read ts) m None → IsWithinLimits text m
 within_limits text ts m lexes h = let r = reads_from text ts m None lexes h in record { reads = r.0; within = sym r.1 }
 
-pub passes_limit : (text : List ℕ) (ts : List Lexeme) (m : Module) (count : Count) (n : ℕ) → Lexes text ts → IsModule ts m (Some (count, n)) → PassesLimit text count n
+pub passes_limit : (text : List ℕ) (ts : List Lexeme) (m : Module) (count : Count) (n : ℕ) → Lexes text ts → IsModule (module_read ts) m (Some (count, n)) → PassesLimit text count n
 passes_limit text ts m count n lexes h = let r = reads_from text ts m (Some (count, n)) lexes h in record { read_as = m; reads = r.0; passed = sym r.1 }
 
 pub no_reading : (text : List ℕ) (ts : List Lexeme) → Lexes text ts → module_read ts ≡ None → HasNoReading text
 no_reading text ts lexes e m r =
     let same : r.tokens ≡ ts = lexes_unique text r.tokens ts r.lexes lexes in
-    let read : read_whole (module_form (length r.tokens)) r.tokens ≡ Some r.written = spells_read (module_form (length r.tokens)) (module_decides (length r.tokens)) r.written r.tokens r.spelled in
-    let found : module_read r.tokens ≡ Some r.numbered = ap (λ (o : Option _). o >>= numbered_module) read ∙ r.numbers in
+    let found : module_read r.tokens ≡ Some r.numbered = ap (λ (o : Option _). o >>= numbered_module) (spelled_found r.written r.tokens r.spelled) ∙ r.numbers in
     absurd (cc (sym (ap module_read same) ∙ found))
 
 pub bad_token : (text : List ℕ) (f : TextFault) → IsFaultOf text f → IsRefusal text f
 bad_token text (BadToken place) h = h
 bad_token text (LeftOut word offset) h = h
 bad_token text (TextLimit n) h = h
-bad_token text (NoReading place) h = absurd h
+bad_token text (TextNoReading place) h = absurd h
 bad_token text (CountLimit count n) h = absurd h
-bad_token text Memory h = tt
+bad_token text TextMemory h = tt

@@ -1,9 +1,12 @@
+pub mod Filling
+pub mod Groups
+pub mod Gathering
+pub mod Adding
 pub mod Making
 pub mod Setting
 pub mod Typing
-pub mod Adding
-pub mod Gathering
 pub mod Symbolic
+pub mod Outlines
+pub mod Preparing
 pub mod Building
-pub mod Whole
 pub mod Exact

@@ -1,101 +1,144 @@
--- The names of types say what the definitions say, and behind them stand the names that are used and not defined.
-use Rattle.std.proofs.Common.{◌≡◌, ℕ, suc, ◌≤◌, List, [], ◌∷◌, ◌++◌, length, refl, sym, ap, ◌∙◌, subst, arith, length-append}
-use Rattle.std.specs.Prelude.{map}
-use Rattle.std.proofs.lemmas.List.{map-append, length-map}
-use Rattle.forms.specs.Nested.{concat}
+-- The names of types stand for what the definitions say, and behind them stand the names that are used and not defined.
+use Rattle.std.proofs.Common.{◌≡◌, ◌≤◌, ℕ, zero, suc, List, [], ◌∷◌, ◌++◌, length, map, Option, Some, refl, sym, ap, ◌∙◌, subst, arith}
+use Rattle.std.specs.Prelude.{slice_get}
+use Rattle.std.specs.List.{AllByRecursion, filter_map}
+use Rattle.std.specs.Option.{option_map}
+use Rattle.std.proofs.lemmas.List.{length-map, append-nil}
+use Rattle.std.proofs.lemmas.List.Elements.{filter_map-append}
 use Rattle.forms.specs.View.{Extends}
 use Rattle.ir_types.specs.declared.name.Name.{Name}
 use Rattle.ir_types.specs.declared.module.Symbol.{Symbol}
 use Rattle.ir_types.specs.declared.memory_type.MemTy.{MemTy}
 use Rattle.ir_types.specs.declared.memory_type.TypeName.{TypeName}
 use Rattle.ir_types.specs.declared.memory_type.NamedType.{NamedType}
+use Rattle.ir_types.specs.declared.memory_type.NamedType.TheVariants.{Defined, Opaque, Missing}
+use Rattle.ir_types.specs.Names.{unknown}
 use Rattle.ir_types.specs.Types.{AreTypes}
-use Rattle.ir_types.specs.Tree.{NamedTree, TypeNameTree, VariableTree}
-use Rattle.ir_types.specs.Collected.{names_used, nodes_of_named, all_used, unknown, missing_name, with_missing}
-use Rattle.ir_types.proofs.NameAt.{extends_refl, extends_trans}
-use Rattle.type_reader.specs.TypeTable.{names_of, missing_entry}
-use Rattle.type_reader.proofs.LookUps.{looked_up}
+use Rattle.ir_types.specs.TypeNodes.{TypeNode}
+use Rattle.type_reader.specs.TypeTable.{names_of, missing_entry, LooksUpSome}
+use Rattle.type_reader.specs.Tables.{definition_over, IsDefinedBefore, AreEntriesApart}
+use Rattle.type_reader.proofs.LookUps.{looks_up_further}
 use Rattle.type_reader.proofs.Holding.{names_extend}
+use Rattle.type_reader.proofs.Growth.{extends_length, entries_looked}
+use Rattle.type_reader.proofs.Enlarged.{looked_extend}
 use Rattle.item_reader.specs.declared.part.Definition.{Definition}
 use Rattle.item_reader.specs.declared.part.Variable.{Variable}
-use Rattle.item_reader.specs.Parts.{variable_of}
-use Rattle.ir_reader.specs.Trees.{named_tree, definition_tree, named_over, type_name_over, symbol_over}
-use Rattle.ir_reader.specs.Typed.{used_in_definition, used_in_variable, symbol_tree, Made, with_types, AreTyped}
-use Rattle.ir_reader.proofs.Making.{looked_extends}
+use Rattle.ir_reader.specs.Gathered.{definition_of}
+use Rattle.ir_reader.specs.Trees.{stands_for, defined_as, symbol_over, variable_symbol}
+use Rattle.ir_reader.specs.Typed.{Made, StandsBefore, with_types, AreTyped}
+use Rattle.ir_reader.proofs.Making.{all_later}
 use Rattle.ir_reader.proofs.Setting.{with_names, with_front}
 
 abbrev pub entries : List Definition → List TypeName
-entries ds = map (λ d. missing_entry d.name) ds
+entries ds = map (λ (d : Definition). missing_entry d.name) ds
 
--- the same names, and the same names used
-known_names : (ds : List Definition) → map (λ (t : TypeNameTree). t.name) (map definition_tree ds) ≡ names_of (entries ds)
-known_names [] = refl
-known_names (d ∷ ds) = ap (λ (l : List Name). d.name ∷ l) (known_names ds)
+-- ---- what the names stand for
 
-used_names : (ds : List Definition) → concat (map (λ (t : TypeNameTree). names_used (nodes_of_named t.ty)) (map definition_tree ds)) ≡ concat (map used_in_definition ds)
-used_names [] = refl
-used_names (d ∷ ds) = ap (λ (l : List Name). used_in_definition d ++ l) (used_names ds)
+module _ (names : List Name) (types : List MemTy) where
+  abbrev said : Name → Option (Option (List TypeNode)) → Option (Name × Option (List TypeNode))
+  said n o = option_map (λ (t : Option (List TypeNode)). (n, t)) o
 
-variable_names : (vs : List Variable) → concat (map (λ (v : VariableTree). names_used v.ty) (map variable_of vs)) ≡ concat (map used_in_variable vs)
-variable_names [] = refl
-variable_names (v ∷ vs) = ap (λ (l : List Name). used_in_variable v ++ l) (variable_names vs)
+  said_so : (n : Name) (ty : NamedType) → definition_over names types (record { name = n; ty = ty }) ≡ said n (stands_for names types ty)
+  said_so n (Defined id) = refl
+  said_so n Opaque = refl
+  said_so n Missing = refl
 
--- names with what they stand for
-defined_trees : (names : List Name) (types : List MemTy) (ds : List Definition) (tys : List NamedType) → map (named_over names types) tys ≡ map named_tree ds → map (type_name_over names types) (with_types (entries ds) tys) ≡ map definition_tree ds
-defined_trees names types [] [] e = refl
-defined_trees names types [] (ty ∷ tys) e = absurd cc
-defined_trees names types (d ∷ ds) [] e = absurd cc
-defined_trees names types (d ∷ ds) (ty ∷ tys) e =
-    let here : named_over names types ty ≡ named_tree d = cc in
-    let later : map (named_over names types) tys ≡ map named_tree ds = cc in
-    ap (λ (t : NamedTree). record { name = d.name; ty = t } ∷ map (type_name_over names types) (with_types (entries ds) tys)) here
-    ∙ ap (λ (l : List TypeNameTree). definition_tree d ∷ l) (defined_trees names types ds tys later)
+  -- the definitions of names that stand for what the definitions say
+  pub definitions_are : (ds : List Definition) (tys : List NamedType) → map (stands_for names types) tys ≡ map defined_as ds → filter_map (definition_over names types) (with_types (entries ds) tys) ≡ map definition_of ds
+  definitions_are [] [] e = refl
+  definitions_are [] (ty ∷ tys) e = absurd cc
+  definitions_are (d ∷ ds) [] e = absurd cc
+  definitions_are (d ∷ ds) (ty ∷ tys) e =
+      let here : stands_for names types ty ≡ defined_as d = cc in
+      let there : map (stands_for names types) tys ≡ map defined_as ds = cc in
+      let one : definition_over names types (record { name = d.name; ty = ty }) ≡ Some (definition_of d) = said_so d.name ty ∙ ap (said d.name) here in
+      rw one (ap (λ (l : List (Name × Option (List TypeNode))). definition_of d ∷ l) (definitions_are ds tys there))
 
-missing_trees : (names : List Name) (types : List MemTy) (ns : List Name) → map (type_name_over names types) (map missing_entry ns) ≡ map missing_name ns
-missing_trees names types [] = refl
-missing_trees names types (n ∷ ns) = ap (λ (l : List TypeNameTree). missing_name n ∷ l) (missing_trees names types ns)
+  stands_nowhere : (d : Definition) (ty : NamedType) → stands_for names types ty ≡ defined_as d → ty ≡ Missing → ⊥
+  stands_nowhere d ty e m = let f : stands_for names types Missing ≡ defined_as d = sym (ap (stands_for names types) m) ∙ e in cc
 
-pub entry_count : (ds : List Definition) → length (entries ds) ≡ length ds
-entry_count [] = refl
-entry_count (d ∷ ds) = ap suc (entry_count ds)
+  none_missing : (ds : List Definition) (tys : List NamedType) → map (stands_for names types) tys ≡ map defined_as ds → (i : ℕ) (x : TypeName) → slice_get (with_types (entries ds) tys) i ≡ Some x → x.ty ≡ Missing → ⊥
+  none_missing [] tys e i x at m = cc
+  none_missing (d ∷ ds) [] e i x at m = cc
+  none_missing (d ∷ ds) (ty ∷ tys) e zero x at m =
+      let here : stands_for names types ty ≡ defined_as d = cc in
+      let first : TypeName = record { name = d.name; ty = ty } in
+      let same : first ≡ x = cc in
+      stands_nowhere d ty here (ap (λ (t : TypeName). t.ty) same ∙ m)
+  none_missing (d ∷ ds) (ty ∷ tys) e (suc i) x at m = let there : map (stands_for names types) tys ≡ map defined_as ds = cc in none_missing ds tys there i x at m
 
-pub as_many : {A B C : Type 0} (f : A → C) (g : B → C) (xs : List A) (ys : List B) → map f xs ≡ map g ys → length xs ≡ length ys
-as_many f g xs ys e = simp length-map at (ap length e)
+  pub all_apart : (ds : List Definition) (tys : List NamedType) → map (stands_for names types) tys ≡ map defined_as ds → AreEntriesApart (with_types (entries ds) tys)
+  all_apart ds tys e = λ i j x y a b m d. absurd (none_missing ds tys e i x a m)
 
--- no more names are made to stand for something than there are
-pub few_named : (ds : List Definition) (vs : List Variable) (start mid types : List MemTy) (tys : List NamedType) (symbols : List Symbol) (first second : List TypeName)
-    → Made named_over named_tree used_in_definition (entries ds) start ds tys first mid → Made symbol_over symbol_tree used_in_variable first mid vs symbols second types → length tys ≤ length second
-few_named ds vs start mid types tys symbols first second d v =
-    let made = d.stands (names_of first) mid (extends_refl (names_of first)) (extends_refl mid) in
-    let n = as_many (named_over (names_of first) mid) named_tree tys ds made in
-    let a = length-append (entries ds) (map missing_entry (unknown (names_of (entries ds)) (concat (map used_in_definition ds)))) in
-    let b = length-append first (map missing_entry (unknown (names_of first) (concat (map used_in_variable vs)))) in
-    omega (arith, n, entry_count ds, a, b, ap length d.names_grow, ap length v.names_grow)
+  no_definitions : (ns : List Name) → filter_map (definition_over names types) (map missing_entry ns) ≡ []
+  no_definitions [] = refl
+  no_definitions (n ∷ ns) = no_definitions ns
 
-pub typed : (ds : List Definition) (vs : List Variable) (start mid types : List MemTy) (tys : List NamedType) (symbols : List Symbol) (first second last : List TypeName)
-    → Made named_over named_tree used_in_definition (entries ds) start ds tys first mid → Made symbol_over symbol_tree used_in_variable first mid vs symbols second types
-    → last ≡ with_types second tys → AreTyped ds vs types last symbols
-typed ds vs start mid types tys symbols first second last d v e =
-    let base = entries ds in
-    let used = concat (map used_in_definition ds) in
-    let more = concat (map used_in_variable vs) in
-    let missing = unknown (names_of base) (used ++ more) in
-    let grown : second ≡ base ++ map missing_entry missing = looked_up base first second used more d.names_grow v.names_grow in
-    let same : names_of last ≡ names_of second = ap names_of e ∙ with_names second tys in
-    let names = names_of second in
-    let made : map (named_over names types) tys ≡ map named_tree ds = d.stands names types (names_extend first second (looked_extends first second more v.names_grow)) v.types_grow in
-    let few : length tys ≤ length base = omega (arith, as_many (named_over names types) named_tree tys ds made, entry_count ds) in
-    let whole : last ≡ with_types base tys ++ map missing_entry missing = e ∙ ap (λ (l : List TypeName). with_types l tys) grown ∙ with_front base (map missing_entry missing) tys few in
-    let trees : map (type_name_over names types) last ≡ map definition_tree ds ++ map missing_name missing =
-    ap (map (type_name_over names types)) whole ∙ map-append (type_name_over names types) (with_types base tys) (map missing_entry missing)
-    ∙ ap (λ (l : List TypeNameTree). l ++ map (type_name_over names types) (map missing_entry missing)) (defined_trees names types ds tys made)
-    ∙ ap (λ (l : List TypeNameTree). map definition_tree ds ++ l) (missing_trees names types missing) in
-    let collected : map definition_tree ds ++ map missing_name missing ≡ with_missing (map definition_tree ds) (map variable_of vs) =
-    ap (λ (l : List Name). map definition_tree ds ++ map missing_name (unknown l (used ++ more))) (sym (known_names ds))
-    ∙ ap (λ (l : List Name). map definition_tree ds ++ map missing_name (unknown (map (λ (t : TypeNameTree). t.name) (map definition_tree ds)) (l ++ more))) (sym (used_names ds))
-    ∙ ap (λ (l : List Name). map definition_tree ds ++ map missing_name (unknown (map (λ (t : TypeNameTree). t.name) (map definition_tree ds)) (concat (map (λ (t : TypeNameTree). names_used (nodes_of_named t.ty)) (map definition_tree ds)) ++ l))) (sym (variable_names vs)) in
-    record {
-      are = subst (λ (ns : List Name). AreTypes ns 0 types) (sym same) v.are;
-      named = ap (λ (ns : List Name). map (type_name_over ns types) last) same ∙ trees ∙ collected;
-      symbols_are = ap (λ (ns : List Name). map (symbol_over ns types) symbols) same ∙ v.stands names types (extends_refl names) (extends_refl types);
-    }
+-- ---- places of types
+
+missing_before : (n : ℕ) (ns : List Name) → AllByRecursion (IsDefinedBefore n) (map missing_entry ns)
+missing_before n [] = tt
+missing_before n (m ∷ ns) = (tt, missing_before n ns)
+
+entry_before : (n : ℕ) (name : Name) (ty : NamedType) → StandsBefore n ty → IsDefinedBefore n (record { name = name; ty = ty })
+entry_before n name (Defined id) h = h
+entry_before n name Opaque h = tt
+entry_before n name Missing h = tt
+
+all_before : (n : ℕ) (ds : List Definition) (tys : List NamedType) (ns : List Name) → AllByRecursion (StandsBefore n) tys → AllByRecursion (IsDefinedBefore n) (with_types (entries ds) tys ++ map missing_entry ns)
+all_before n [] tys ns h = missing_before n ns
+all_before n (d ∷ ds) [] ns h = (tt, entries_before ds)
+  where
+    entries_before : (es : List Definition) → AllByRecursion (IsDefinedBefore n) (entries es ++ map missing_entry ns)
+    entries_before [] = missing_before n ns
+    entries_before (e ∷ es) = (tt, entries_before es)
+all_before n (d ∷ ds) (ty ∷ tys) ns h = (entry_before n d.name ty h.0, all_before n ds tys ns h.1)
+
+-- ---- all of them
+
+module _ (ds : List Definition) (vs : List Variable) (start first types : List MemTy) (tys : List NamedType) (symbols : List Symbol) (known names new : List TypeName) (d : Made stands_for defined_as (entries ds) start ds tys known first)
+    (v : Made symbol_over (λ (v : Variable). Some (variable_symbol v)) known first vs symbols names types) where
+  looked : LooksUpSome (entries ds) names
+  looked = looks_up_further (entries ds) known names d.names_grow v.names_grow
+
+  ns : List Name
+  ns = unknown (names_of (entries ds)) looked.used
+
+  said_of_all : map (stands_for (names_of names) types) tys ≡ map defined_as ds
+  said_of_all = d.stands (names_of names) types (names_extend known names (looked_extend known names v.names_grow)) v.types_grow
+
+  as_many : length tys ≡ length (entries ds)
+  as_many =
+      let e : length (map (stands_for (names_of names) types) tys) ≡ length (map defined_as ds) = ap length said_of_all in
+      sym (length-map tys (stands_for (names_of names) types)) ∙ e ∙ length-map ds defined_as ∙ sym (length-map ds (λ (d : Definition). missing_entry d.name))
+
+  pub few : length tys ≤ length names
+  few = omega (arith, as_many, extends_length (entries ds) names (looked_extend (entries ds) names looked))
+
+  new_are : new ≡ with_types names tys → new ≡ with_types (entries ds) tys ++ map missing_entry ns
+  unfolding ns
+  new_are e = e ∙ ap (λ (l : List TypeName). with_types l tys) looked.parts ∙ with_front (entries ds) (map missing_entry ns) tys (omega (arith, as_many))
+
+  same : new ≡ with_types names tys → names_of new ≡ names_of names
+  same e = ap names_of e ∙ with_names names tys
+
+  apart : AreEntriesApart (with_types (entries ds) tys ++ map missing_entry ns)
+  unfolding ns
+  apart = subst (λ (l : List Name). AreEntriesApart (with_types (entries ds) tys ++ map missing_entry (unknown l looked.used))) (with_names (entries ds) tys) (entries_looked (with_types (entries ds) tys) looked.used (all_apart (names_of names) types ds tys said_of_all))
+
+  defined : filter_map (definition_over (names_of names) types) (with_types (entries ds) tys ++ map missing_entry ns) ≡ map definition_of ds
+  defined =
+      let over = definition_over (names_of names) types in
+      filter_map-append over (with_types (entries ds) tys) (map missing_entry ns)
+      ∙ ap (λ (l : List (Name × Option (List TypeNode))). filter_map over (with_types (entries ds) tys) ++ l) (no_definitions (names_of names) types ns)
+      ∙ append-nil (filter_map over (with_types (entries ds) tys))
+      ∙ definitions_are (names_of names) types ds tys said_of_all
+
+  pub typed : AllByRecursion (StandsBefore (length first)) tys → new ≡ with_types names tys → AreTyped ds vs types new symbols
+  typed within e = record {
+    are = subst (λ (l : List Name). AreTypes l 0 types) (sym (same e)) v.are;
+    before = subst (AllByRecursion (IsDefinedBefore (length types))) (sym (new_are e)) (all_before (length types) ds tys ns (all_later (length first) (length types) tys (extends_length first types v.types_grow) within));
+    apart = subst AreEntriesApart (sym (new_are e)) apart;
+    defined = ap (λ (l : List Name). filter_map (definition_over l types) new) (same e) ∙ ap (filter_map (definition_over (names_of names) types)) (new_are e) ∙ defined;
+    stand = λ later others n t. v.stands later others (subst (λ (l : List Name). Extends l later) (same e) n) t;
+  }

@@ -1,48 +1,61 @@
 -- What is made of a module's parts, as parts of its tree, over a list of names and a list of types.
-use Rattle.std.specs.Prelude.{ℕ, List, []}
+use Rattle.std.specs.Prelude.{ℕ, suc, List, [], ◌∷◌, Option, Some, None}
 use Rattle.std.specs.Option.{option_map}
 use Rattle.ir_types.specs.declared.name.Name.{Name}
 use Rattle.ir_types.specs.declared.module.Symbol.{Symbol}
-use Rattle.ir_types.specs.declared.module.SymbolKind.{SymbolKind}
 use Rattle.ir_types.specs.declared.module.SymbolKind.TheVariants as symbols
 use Rattle.ir_types.specs.declared.memory_type.MemTy.{MemTy}
-use Rattle.ir_types.specs.declared.memory_type.TypeName.{TypeName}
 use Rattle.ir_types.specs.declared.memory_type.NamedType.{NamedType}
 use Rattle.ir_types.specs.declared.memory_type.NamedType.TheVariants.{Defined, Opaque, Missing}
-use Rattle.ir_types.specs.TypeNodes.{type_nodes}
-use Rattle.ir_types.specs.Tree.{FunctionTree, NamedTree, defined, opaque, missing, TypeNameTree, SymbolKindTree, variable, function, missing_symbol, SymbolTree}
-use Rattle.ir_types.specs.Collected.{of_definition}
+use Rattle.ir_types.specs.TypeNodes.{TypeNode, type_nodes}
+use Rattle.ir_types.specs.Tree.{variable, function, SymbolTree}
+use Rattle.ir_types.specs.Collected.{symbol_of}
 use Rattle.item_reader.specs.declared.part.Definition.{Definition}
-use Rattle.item_reader.specs.Parts.{nodes_of}
+use Rattle.item_reader.specs.declared.part.Variable.{Variable}
+use Rattle.type_reader.specs.declared.tables.TableParts.{TableParts}
+use Rattle.type_reader.specs.TypeTable.{names_of}
+use Rattle.ir_types.specs.Denotes.{Tables}
+use Rattle.item_reader.specs.Parts.{nodes_of, variable_of}
 
--- what a name stands for, where it is defined so
-abbrev pub named_tree : Definition → NamedTree
-named_tree d = of_definition (option_map nodes_of d.ty)
+-- ---- names of types
 
--- a name, with what it stands for, where it is defined so
-abbrev pub definition_tree : Definition → TypeNameTree
-definition_tree d = record { name = d.name; ty = named_tree d }
+-- what a name stands for, where it is defined: a type by its nodes, or none where it is opaque
+abbrev pub stands_for : List Name → List MemTy → NamedType → Option (Option (List TypeNode))
+stands_for names types (Defined id) = Some (Some (type_nodes names types id))
+stands_for names types Opaque = Some None
+stands_for names types Missing = None
 
--- what a name stands for
-abbrev pub named_over : List Name → List MemTy → NamedType → NamedTree
-named_over names types (Defined id) = defined (type_nodes names types id)
-named_over names types Opaque = opaque
-named_over names types Missing = missing
+-- the same, as the definition says it
+abbrev pub defined_as : Definition → Option (Option (List TypeNode))
+defined_as d = Some (option_map nodes_of d.ty)
 
--- a name, with what it stands for
-abbrev pub type_name_over : List Name → List MemTy → TypeName → TypeNameTree
-type_name_over names types n = record { name = n.name; ty = named_over names types n.ty }
+-- ---- symbols
 
--- what a symbol stands for
-abbrev pub symbol_kind_over : List Name → List MemTy → SymbolKind → SymbolKindTree
-symbol_kind_over names types (symbols.Variable id writable) = variable (type_nodes names types id) writable
-symbol_kind_over names types (symbols.Function f) = function f.0
-symbol_kind_over names types symbols.Missing = missing_symbol
+-- a symbol with what it stands for, where it is defined or declared
+abbrev pub symbol_over : List Name → List MemTy → Symbol → Option SymbolTree
+symbol_over names types s = elim s.kind [
+  | symbols.Variable id writable ↦ Some (record { name = s.name; kind = variable (type_nodes names types id) writable; before = s.before; after = s.after })
+  | symbols.Function f ↦ Some (record { name = s.name; kind = function f.0; before = s.before; after = s.after })
+  | symbols.Missing ↦ None
+]
 
--- a symbol, with what it stands for
-abbrev pub symbol_over : List Name → List MemTy → Symbol → SymbolTree
-symbol_over names types s = record { name = s.name; kind = symbol_kind_over names types s.kind; before = s.before; after = s.after }
+-- a variable's
+abbrev pub variable_symbol : Variable → SymbolTree
+variable_symbol v = symbol_of (variable_of v)
 
--- the symbol of a function at a place
-abbrev pub function_symbol : ℕ → FunctionTree → SymbolTree
-function_symbol place f = record { name = f.name; kind = function place; before = []; after = [] }
+-- that of the function at a place, by its name
+abbrev pub function_symbol : ℕ → Name → SymbolTree
+function_symbol place name = record { name = name; kind = function place; before = []; after = [] }
+
+-- those of functions from a place on, by their names
+abbrev pub function_symbols : ℕ → List Name → List SymbolTree
+function_symbols place [] = []
+function_symbols place (n ∷ names) = function_symbol place n ∷ function_symbols (suc place) names
+
+-- that of a name that is only used
+abbrev pub missing_symbol : Name → Symbol
+missing_symbol n = record { name = n; kind = symbols.Missing; before = []; after = [] }
+
+-- what places in functions stand for, by the parts of the tables
+abbrev pub tables_in_parts : TableParts → Tables
+tables_in_parts p = record { symbols = p.symbols; type_names = names_of p.type_names; types = p.types }

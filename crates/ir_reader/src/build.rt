@@ -1,21 +1,28 @@
 // A module of its gathered items.
 
-ghost use Rattle.std.specs.Prelude.{◌≡◌, ◌++◌, List, IfOk};
-ghost use Rattle.ir_types.specs.Tree.{FunctionTree, Item};
-ghost use Rattle.ir_types.specs.Collected.{collected};
-ghost use Rattle.ir_types.specs.Denotes.{Denotes};
-ghost use Rattle.ir_reader.specs.Gathered.{Holds};
-ghost use Rattle.ir_reader.specs.Typed.{AreTyped};
+ghost use Rattle.std.specs.Prelude.{◌≡◌, ◌++◌, List, map, IfOk};
+ghost use Rattle.ir_types.specs.Tree.{Item};
+ghost use Rattle.ir_types.specs.Skimmed.{Skimmed};
+ghost use Rattle.ir_types.specs.Denotes.{function_in};
+ghost use Rattle.ir_limits.specs.Limits.{passed_by};
+ghost use Rattle.ir_reader.specs.Gathered.{Holds, long_among};
+ghost use Rattle.ir_reader.specs.Typed.{AreTyped, ArePrepared};
+ghost use Rattle.ir_reader.specs.Reading.{filled_items, GivesModule};
+ghost use Rattle.ir_reader.specs.Trees.{tables_in_parts};
 
+use crate::functions::functions;
 use crate::gather::Gathered;
+use crate::longs::{ItemLong, first_long};
 use crate::named::{named_types, names_of, set_types};
-use crate::symbols::{add_functions, variable_symbols};
-use ir_sizes::extents_of;
-use ir_types::{Kept, MemTy, Module, Symbol};
-use item_reader::{Definition, Variable};
+use crate::symbols::{add_functions, symbol_names, variable_symbols, with_missing};
+use forms::SyntaxFault;
+use ir_limits::{LongNames, passed};
+use ir_types::{Function, Kept, MemTy, Module, Symbol};
+use item_reader::{Definition, FunctionSource, Variable};
 use lists::Items;
 use std::alloc::{AllocError, Global};
-use type_reader::TypeNames;
+use text_lex::Count;
+use type_reader::{TableParts, Tables, TypeNames};
 
 /// The types, their names, and the symbols of variables.
 #[derive(Drop)]
@@ -45,6 +52,51 @@ fn read_types(
     })
 }
 
+/// What functions are read with, and the symbols that are defined or declared.
+#[derive(Drop)]
+struct Prepared {
+    tables: Tables,
+    symbols: Vec<Symbol>,
+}
+
+/// The tables before functions are read.
+fn prepare(
+    alloc: Global,
+    definitions: &[Definition<'_>],
+    variables: Vec<Variable<'_>>,
+    functions: &[FunctionSource<'_>],
+) -> Result<Prepared, AllocError>
+    ensures { IfOk result (λ b. ArePrepared definitions.now variables.entry.items functions.now b.tables b.symbols.items) }
+{
+    let Typed {
+        types,
+        names,
+        mut symbols,
+    } = read_types(alloc, definitions, variables)?;
+    add_functions(alloc, functions, &mut symbols)?;
+    let symbol_names = symbol_names(alloc, symbols.as_slice())?;
+    let tables = Tables::new(alloc, types, names, symbol_names)?;
+    Ok(Prepared { tables, symbols })
+}
+
+/// The first limit that functions and names pass.
+fn first_passed(
+    alloc: Global,
+    longs: &[ItemLong],
+    parts: &TableParts,
+    functions: &[Function],
+) -> Result<Option<(Count, u64)>, AllocError>
+    ensures { IfOk result (λ p. let fs = map (function_in (tables_in_parts parts.now)) functions.now in p ≡ passed_by fs (long_among longs.now fs)) }
+{
+    let tables = LongNames::new(
+        alloc,
+        parts.symbols.as_slice(),
+        parts.type_names.as_slice(),
+        parts.types.as_slice(),
+    )?;
+    passed(functions, first_long(longs, &tables, functions))
+}
+
 /// The items of one list behind those of the other.
 fn joined(mut first: Vec<Kept>, second: Vec<Kept>) -> Result<Items<Kept>, AllocError>
     ensures { IfOk result (λ all. all ≡ first.items ++ second.items) }
@@ -55,35 +107,45 @@ fn joined(mut first: Vec<Kept>, second: Vec<Kept>) -> Result<Items<Kept>, AllocE
     Ok(Items::from_vec(first))
 }
 
-/// The module of the items.
-pub fn module(alloc: Global, gathered: Gathered<'_>) -> Result<Module, AllocError>
-    ensures { IfOk result (λ m. (items : List (Item FunctionTree)) → Holds gathered.entry items → Denotes m (collected items)) }
+/// The module of the items, and the first limit that it passes.
+pub fn module(
+    alloc: Global,
+    gathered: Gathered<'_>,
+) -> Result<(Module, Option<(Count, u64)>), SyntaxFault>
+    ensures { (items : List (Item Skimmed)) → Holds gathered.entry items → GivesModule (filled_items items) result }
 {
     let Gathered {
         head,
         comdats,
         definitions,
         variables,
-        functions,
+        functions: sources,
         attributes,
         metadata,
-        long: _,
+        longs,
     } = gathered;
-    let Typed {
+    let Prepared {
+        mut tables,
+        symbols,
+    } = prepare(alloc, definitions.as_slice(), variables, sources.as_slice())?;
+    let functions = functions(alloc, sources.as_slice(), &mut tables)?;
+    let parts = tables.into_parts();
+    let passed = first_passed(alloc, longs.as_slice(), &parts, functions.as_slice())?;
+    let TableParts {
         types,
-        names,
-        mut symbols,
-    } = read_types(alloc, definitions.as_slice(), variables)?;
-    add_functions(alloc, functions.as_slice(), &mut symbols)?;
-    let type_names = names.into_items();
-    let extents = extents_of(alloc, types.as_slice(), type_names.as_slice())?;
-    Ok(Module {
-        head: joined(head, comdats)?,
-        types: Items::from_vec(types),
         extents,
         type_names,
-        symbols: Items::from_vec(symbols),
+        symbols: names,
+        known,
+    } = parts;
+    let module = Module {
+        head: joined(head, comdats)?,
+        types,
+        extents,
+        type_names,
+        symbols: with_missing(alloc, symbols, names.as_slice(), known)?,
         functions: Items::from_vec(functions),
         tail: joined(attributes, metadata)?,
-    })
+    };
+    Ok((module, passed))
 }

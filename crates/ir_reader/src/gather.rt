@@ -2,15 +2,16 @@
 
 ghost use Rattle.std.specs.Prelude.{◌≡◌, ◌++◌, ◌∷◌, [], List, OnOk};
 ghost use Rattle.forms.specs.Gives.{left};
-ghost use Rattle.ir_types.specs.Tree.{FunctionTree, Item};
-ghost use Rattle.item_reader.specs.Parts.{item_of, HasTable};
+ghost use Rattle.ir_types.specs.Tree.{Item};
+ghost use Rattle.ir_types.specs.Skimmed.{Skimmed};
+ghost use Rattle.item_reader.specs.Parts.{item_of};
 ghost use Rattle.ir_reader.specs.Gathered.{Holds};
 ghost use Rattle.ir_reader.specs.Reading.{GivesItems};
 
-use crate::longs::{first_of, long_in};
+use crate::longs::{ItemLong, long_in};
 use forms::{Cursor, SyntaxFault};
-use ir_types::{Function, Kept};
-use item_reader::{Definition, Part, Variable, begins_item, item};
+use ir_types::Kept;
+use item_reader::{Definition, FunctionSource, Part, Variable, begins_item, item};
 use std::alloc::{AllocError, Global};
 
 /// The items of a module by their kinds, each kind in the text's order.
@@ -24,19 +25,19 @@ pub struct Gathered<'t> {
     pub definitions: Vec<Definition<'t>>,
     /// The variables.
     pub variables: Vec<Variable<'t>>,
-    /// The functions.
-    pub functions: Vec<Function>,
+    /// The functions, whose inner parts are left to be read.
+    pub functions: Vec<FunctionSource<'t>>,
     /// The groups of attributes.
     pub attributes: Vec<Kept>,
     /// The metadata.
     pub metadata: Vec<Kept>,
-    /// The bytes of the first name that has too many.
-    pub long: Option<u64>,
+    /// What is known of each item's names.
+    pub longs: Vec<ItemLong>,
 }
 
 impl<'t> Gathered<'t> {
     /// No items.
-    fn nothing(alloc: Global) -> Gathered<'t>
+    pub fn nothing(alloc: Global) -> Gathered<'t>
         ensures { Holds result [] }
     {
         Gathered {
@@ -47,16 +48,15 @@ impl<'t> Gathered<'t> {
             functions: Vec::new(alloc),
             attributes: Vec::new(alloc),
             metadata: Vec::new(alloc),
-            long: None,
+            longs: Vec::new(alloc),
         }
     }
 
     /// Adds an item behind the others.
     fn add(&mut self, part: Part<'t>) -> Result<(), AllocError>
-        requires { HasTable part }
-        ensures ok { OnOk result ((items : List (Item FunctionTree)) → Holds self.old items → Holds self.new (items ++ item_of part.entry ∷ [])) }
+        ensures ok { OnOk result ((items : List (Item Skimmed)) → Holds self.old items → Holds self.new (items ++ item_of part.entry ∷ [])) }
     {
-        self.long = first_of(self.long, long_in(&part));
+        self.longs.push(long_in(&part))?;
         match part {
             Part::Head(kept) => self.head.push(kept)?,
             Part::Comdat(kept) => self.comdats.push(kept)?,
@@ -70,26 +70,20 @@ impl<'t> Gathered<'t> {
     }
 }
 
-/// No items, before the tokens. (A loop whose rest begins as a parameter isn't covered.)
-fn no_items<'t>(alloc: Global, tokens: Cursor<'t>) -> (Gathered<'t>, Cursor<'t>)
-    ensures none { Holds result.0 [] }
-    ensures rest { result.1 ≡ tokens.entry }
-{
-    (Gathered::nothing(alloc), tokens)
-}
-
-/// The items, up to what begins none.
+/// Gathers items, up to what begins none. Where one can't be read, those before it are there.
 pub fn gather<'t>(
     alloc: Global,
     tokens: Cursor<'t>,
-) -> Result<(Gathered<'t>, Cursor<'t>), SyntaxFault>
-    ensures { GivesItems (left tokens.entry) result }
+    gathered: &mut Gathered<'t>,
+) -> Result<Cursor<'t>, SyntaxFault>
+    requires { Holds gathered.old [] }
+    ensures { GivesItems (left tokens.entry) gathered.new result }
 {
-    let (mut gathered, mut rest) = no_items(alloc, tokens);
+    let mut rest = tokens;
     'more: while begins_item(rest) {
         let (part, after) = item(alloc, rest)?;
         gathered.add(part)?;
         rest = after;
     }
-    Ok((gathered, rest))
+    Ok(rest)
 }

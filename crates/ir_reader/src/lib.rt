@@ -1,44 +1,55 @@
-//! Reads a module from a text, exactly as the grammar says: from left to right, with one place in the tokens, and each memory type once
-//! more, when the names of all types have their places.
+//! Reads a module from a text, exactly as the grammar says: its items from left to right, with one place in the tokens; then their memory
+//! types, when the names of all types have their places; and then its functions, when it is known what these stand for.
 #![tactic(auto)]
 
 ghost use Rattle.std.specs.Prelude.{◌≡◌, ◌≤◌, ◌<◌, ◌⊎◌, length, IfOk, OnOk, IfErr};
 ghost use Rattle.forms.specs.declared.Token.{Token};
+ghost use Rattle.forms.specs.declared.cursor.SyntaxFault.TheVariants.{Memory};
 ghost use Rattle.forms.specs.Gives.{left};
 ghost use Rattle.text_lex.specs.Fault.{HasNoneLeftOut};
 ghost use Rattle.ir_reader.specs.Refusal.{IsWithinLimits, IsRefusal, StartsAt};
-ghost use Rattle.ir_reader.specs.Reading.{GivesModule};
+ghost use Rattle.ir_reader.specs.Reading.{module_read, GivesModule};
 
 mod build;
+mod functions;
 mod gather;
 mod longs;
 mod named;
 mod symbols;
-#[cfg(test)]
-mod tests;
 
 use crate::build::module;
-use crate::gather::gather;
+use crate::gather::{Gathered, gather};
 use forms::{Cursor, SyntaxFault, Token};
-use ir_limits::passed;
 use ir_types::Module;
 use std::alloc::Global;
 use text_lex::{Count, TEXT_LIMIT, TextFault, lex};
+
+/// The first fault in reading left to right, where items were gathered up to this one: a function before it may have another.
+fn first_fault(alloc: Global, gathered: Gathered<'_>, fault: SyntaxFault) -> SyntaxFault
+    ensures { fault ≡ Memory → result ≡ Memory }
+{
+    match fault {
+        SyntaxFault::NoReading(place) => match module(alloc, gathered) {
+            Ok(_) => SyntaxFault::NoReading(place),
+            Err(earlier) => earlier,
+        },
+        SyntaxFault::Memory => SyntaxFault::Memory,
+    }
+}
 
 /// The module that all of the tokens spell, and the first limit that it passes.
 fn module_of(
     alloc: Global,
     tokens: Cursor<'_>,
 ) -> Result<(Module, Option<(Count, u64)>), SyntaxFault>
-    ensures { GivesModule (left tokens.entry) result }
+    ensures { GivesModule (module_read (left tokens.entry)) result }
 {
-    let (gathered, rest) = gather(alloc, tokens)?;
-    if !rest.rest.is_empty() {
-        return Err(rest.refusal());
+    let mut gathered = Gathered::nothing(alloc);
+    match gather(alloc, tokens, &mut gathered) {
+        Ok(rest) if rest.rest.is_empty() => module(alloc, gathered),
+        Ok(rest) => Err(first_fault(alloc, gathered, rest.refusal())),
+        Err(fault) => Err(first_fault(alloc, gathered, fault)),
     }
-    let passed = passed(gathered.functions.as_slice(), gathered.long)?;
-    let module = module(alloc, gathered)?;
-    Ok((module, passed))
 }
 
 /// The place, where a token starts there, and else the end.

@@ -1,22 +1,23 @@
-// The symbols of variables and of functions.
+// The symbols of variables and of functions, and those that are only used.
 
-ghost use Rattle.std.specs.Prelude.{◌≡◌, ◌++◌, List, map, IfOk, OnOk};
+ghost use Rattle.std.specs.Prelude.{◌≡◌, ◌≤◌, ◌++◌, List, length, map, drop, Some, IfOk, OnOk};
 ghost use Rattle.forms.specs.View.{Extends};
 ghost use Rattle.ir_types.specs.declared.name.Name.{Name};
+ghost use Rattle.ir_types.specs.declared.module.Symbol.{Symbol};
 ghost use Rattle.ir_types.specs.declared.memory_type.MemTy.{MemTy};
 ghost use Rattle.ir_types.specs.Types.{AreTypes};
-ghost use Rattle.ir_types.specs.Denotes.{tree_of_function};
-ghost use Rattle.ir_types.specs.Collected.{symbols_from};
-ghost use Rattle.type_reader.specs.TypeTable.{names_of};
-ghost use Rattle.ir_reader.specs.Trees.{symbol_over, function_symbol};
-ghost use Rattle.ir_reader.specs.Typed.{symbol_tree, used_in_variable, LooksUpNames, Stands, Made};
+ghost use Rattle.type_reader.specs.TypeTable.{names_of, LooksUpSome};
+ghost use Rattle.item_reader.specs.declared.part.Variable.{Variable};
+ghost use Rattle.item_reader.specs.declared.source.FunctionSource.{FunctionSource};
+ghost use Rattle.ir_reader.specs.Trees.{symbol_over, variable_symbol, function_symbol, function_symbols, missing_symbol};
+ghost use Rattle.ir_reader.specs.Typed.{Stands, Made};
 
 use crate::named::type_at;
-use ir_types::{FuncId, Function, MemTy, Symbol, SymbolKind};
-use item_reader::Variable;
-use lists::{Copies, Texts};
+use ir_types::{FuncId, MemTy, Name, Symbol, SymbolKind};
+use item_reader::{FunctionSource, Variable};
+use lists::{Copies, Items, Texts};
 use std::alloc::{AllocError, Global};
-use type_reader::TypeNames;
+use type_reader::{SymbolNames, TypeNames};
 
 /// The symbol of a variable.
 fn variable_symbol(
@@ -28,8 +29,8 @@ fn variable_symbol(
     requires { AreTypes (names_of names.old) 0 types.old.items }
     ensures types_grow { Extends types.old.items types.new.items }
     ensures are { OnOk result (AreTypes (names_of names.new) 0 types.new.items) }
-    ensures names_grow { OnOk result (LooksUpNames names.old (used_in_variable variable.entry) names.new) }
-    ensures stands { IfOk result (λ s. Stands symbol_over names.new types.new.items s (symbol_tree variable.entry)) }
+    ensures names_grow { LooksUpSome names.old names.new }
+    ensures stands { IfOk result (λ s. Stands symbol_over names.new types.new.items s (Some (variable_symbol variable.entry))) }
 {
     let Variable {
         name,
@@ -55,7 +56,7 @@ pub fn variable_symbols(
     names: &mut TypeNames,
 ) -> Result<Vec<Symbol>, AllocError>
     requires { AreTypes (names_of names.old) 0 types.old.items }
-    ensures { IfOk result (λ symbols. Made symbol_over symbol_tree used_in_variable names.old types.old.items variables.entry.items symbols.items names.new types.new.items) }
+    ensures { IfOk result (λ symbols. Made symbol_over (λ (v : Variable). Some (variable_symbol v)) names.old types.old.items variables.entry.items symbols.items names.new types.new.items) }
 {
     let mut symbols = Vec::with_capacity(alloc, variables.len())?;
     for variable in variables {
@@ -66,11 +67,11 @@ pub fn variable_symbols(
 }
 
 /// The symbol of the function at a place.
-fn function_symbol(alloc: Global, place: u32, function: &Function) -> Result<Symbol, AllocError>
-    ensures { IfOk result (λ s. (names : List Name) (types : List MemTy) → symbol_over names types s ≡ function_symbol place (tree_of_function function.now)) }
+fn function_symbol(alloc: Global, place: u32, name: &Name) -> Result<Symbol, AllocError>
+    ensures { IfOk result (λ s. (names : List Name) (types : List MemTy) → symbol_over names types s ≡ Some (function_symbol place name.now)) }
 {
     Ok(Symbol {
-        name: function.name.copy()?,
+        name: name.copy()?,
         kind: SymbolKind::Function(FuncId(place)),
         before: Texts::new(alloc),
         after: Texts::new(alloc),
@@ -80,17 +81,57 @@ fn function_symbol(alloc: Global, place: u32, function: &Function) -> Result<Sym
 /// Adds the symbols of functions.
 pub fn add_functions(
     alloc: Global,
-    functions: &[Function],
+    functions: &[FunctionSource<'_>],
     symbols: &mut Vec<Symbol>,
 ) -> Result<(), AllocError>
-    ensures { OnOk result ((names : List Name) (types : List MemTy) → map (symbol_over names types) symbols.new.items ≡ map (symbol_over names types) symbols.old.items ++ symbols_from 0 (map tree_of_function functions.now)) }
+    ensures { OnOk result ((names : List Name) (types : List MemTy) → map (symbol_over names types) symbols.new.items ≡ map (symbol_over names types) symbols.old.items ++ map Some (function_symbols 0 (map (λ (f : FunctionSource). f.name) functions.now))) }
 {
     for (place, function) in functions.iter().enumerate() {
         let Ok(place) = u32::try_from(place) else {
             return Err(AllocError);
         };
-        let symbol = function_symbol(alloc, place, function)?;
+        let symbol = function_symbol(alloc, place, &function.name)?;
         symbols.push(symbol)?;
     }
     Ok(())
+}
+
+/// The names of symbols.
+pub fn symbol_names(alloc: Global, symbols: &[Symbol]) -> Result<SymbolNames, AllocError>
+    ensures { IfOk result (λ names. names ≡ map (λ (s : Symbol). s.name) symbols.now) }
+{
+    let mut names = SymbolNames::new(alloc);
+    for symbol in symbols {
+        names.define(symbol.name.copy()?)?;
+    }
+    Ok(names)
+}
+
+/// The symbol of a name that is only used.
+fn missing_symbol(alloc: Global, name: &Name) -> Result<Symbol, AllocError>
+    ensures { IfOk result (λ s. s ≡ missing_symbol name.now) }
+{
+    Ok(Symbol {
+        name: name.copy()?,
+        kind: SymbolKind::Missing,
+        before: Texts::new(alloc),
+        after: Texts::new(alloc),
+    })
+}
+
+/// The symbols, and behind them those of names that are only used: those behind the known ones.
+pub fn with_missing(
+    alloc: Global,
+    mut symbols: Vec<Symbol>,
+    names: &[Name],
+    known: usize,
+) -> Result<Items<Symbol>, AllocError>
+    requires { known ≤ length names.now }
+    ensures { IfOk result (λ all. all ≡ symbols.items ++ map missing_symbol (drop known names.now)) }
+{
+    for name in &names[known..] {
+        let symbol = missing_symbol(alloc, name)?;
+        symbols.push(symbol)?;
+    }
+    Ok(Items::from_vec(symbols))
 }

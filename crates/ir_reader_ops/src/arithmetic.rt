@@ -8,9 +8,9 @@ ghost use Rattle.ir_reader_ops.specs.Seen.{operand_seen, inst_seen, definitions,
 
 use crate::flags::{one_flag, two_flags};
 use crate::making::{applied, binary, one_operand, three_operands, two_operands};
+use crate::scope::Scope;
 use crate::typed::{three_values, typed_pair, typed_value};
 use crate::words::predicate_of;
-use crate::scope::Scope;
 use forms::{Cursor, SyntaxFault, TokenKind};
 use ir_types::{BinOp, Flags, Inst, InstKind, Pred, Ty};
 use std::alloc::Global;

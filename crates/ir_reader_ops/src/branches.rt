@@ -11,9 +11,9 @@ ghost use Rattle.ir_reader_ops.specs.Seen.{name_seen, operand_seen, inst_seen, d
 
 use crate::making::{applied, bare, one_label, one_operand, two_labels};
 use crate::operand::value_at;
+use crate::scope::Scope;
 use crate::typed::typed_value;
 use crate::value::local_id;
-use crate::scope::Scope;
 use forms::{Cursor, SyntaxFault, TokenKind};
 use ir_types::{Inst, InstKind, Ty, ValueId};
 use lists::Few;

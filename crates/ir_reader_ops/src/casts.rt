@@ -8,8 +8,8 @@ ghost use Rattle.ir_reader_ops.specs.Seen.{operand_seen, inst_seen, definitions,
 
 use crate::flags::{one_flag, two_flags};
 use crate::making::{applied, one_operand};
-use crate::typed::{pointer_value, typed_value};
 use crate::scope::Scope;
+use crate::typed::{pointer_value, typed_value};
 use forms::{Cursor, SyntaxFault};
 use ir_types::{Inst, InstKind, Ty};
 use std::alloc::Global;

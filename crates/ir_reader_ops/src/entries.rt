@@ -12,8 +12,8 @@ ghost use Rattle.ir_reader_ops.specs.Seen.{inst_seen, definitions, Widens, Stays
 
 use crate::making::{bare, one_label, one_operand};
 use crate::operand::value_at;
-use crate::value::comma_local;
 use crate::scope::Scope;
+use crate::value::comma_local;
 use forms::{Cursor, SyntaxFault, TokenKind};
 use ir_types::{Inst, InstKind, Labels, Operand, Operands, Ty, ValueId};
 use std::alloc::Global;

@@ -12,8 +12,8 @@ ghost use Rattle.ir_reader_ops.specs.Seen.{inst_seen, definitions, Widens, Stays
 
 use crate::making::{applied, one_operand, two_operands};
 use crate::numbers::number_of;
-use crate::typed::{comma_pointer, typed_value};
 use crate::scope::Scope;
+use crate::typed::{comma_pointer, typed_value};
 use forms::{Cursor, SyntaxFault, TokenKind};
 use ir_types::{Inst, InstKind, Ty};
 use std::alloc::Global;

@@ -17,8 +17,8 @@ ghost use Rattle.ir_reader_ops.specs.View.{lane_in, lanes_in, written_in, AreInd
 
 use crate::lanes::Lane;
 use crate::numbers::number_at;
-use crate::value::{Written, written_value};
 use crate::scope::Scope;
+use crate::value::{Written, written_value};
 use forms::{Cursor, SyntaxFault};
 use ir_sizes::Index;
 use ir_types::{Operand, Ty, TypeId};
@@ -49,11 +49,7 @@ fn is_int(width: u32, ty: Ty) -> bool
 }
 
 /// `zeroinitializer` at a type.
-fn zeros_at(
-    alloc: Global,
-    ty: Ty,
-    tokens: Cursor<'_>,
-) -> Result<Items<Option<u64>>, SyntaxFault>
+fn zeros_at(alloc: Global, ty: Ty, tokens: Cursor<'_>) -> Result<Items<Option<u64>>, SyntaxFault>
     ensures { Gives (λ held. lane_operand held) result (zeros_at ty) }
 {
     match ty {

@@ -12,8 +12,8 @@ ghost use Rattle.ir_reader_ops.specs.Seen.{name_seen, inst_seen, definitions, Wi
 use crate::branches::comma_target;
 use crate::making::{bare, one_label, one_operand};
 use crate::numbers::number_at;
-use crate::typed::index_value;
 use crate::scope::Scope;
+use crate::typed::index_value;
 use forms::{Cursor, SyntaxFault, TokenKind};
 use ir_types::{Inst, InstKind, Labels, Operand, Ty, ValueId};
 use lists::Items;

@@ -9,8 +9,8 @@ ghost use Rattle.ir_reader_ops.specs.declared.scope.Scope.{Scope};
 ghost use Rattle.ir_reader_ops.specs.Seen.{name_seen, Widens, Stays};
 ghost use Rattle.ir_reader_ops.specs.View.{written_in, AreIndexed};
 
-use crate::lanes::{Lane, lane_in_parens, lane_list};
 use crate::constant::{constant_offset, symbol};
+use crate::lanes::{Lane, lane_in_parens, lane_list};
 use crate::scope::Scope;
 use forms::{Cursor, SyntaxFault, TokenKind};
 use ir_sizes::Index;

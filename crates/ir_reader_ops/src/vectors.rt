@@ -7,8 +7,8 @@ ghost use Rattle.ir_types.specs.Grammar.{element_of, extractelement, inserteleme
 ghost use Rattle.ir_reader_ops.specs.Seen.{inst_seen, definitions, Widens, Stays};
 
 use crate::making::{applied, three_operands, two_operands};
-use crate::typed::{comma_index, comma_typed, three_values, typed_value};
 use crate::scope::Scope;
+use crate::typed::{comma_index, comma_typed, three_values, typed_value};
 use forms::{Cursor, SyntaxFault};
 use ir_types::{Inst, InstKind, Ty};
 use std::alloc::Global;

@@ -9,7 +9,7 @@ use Rattle.forms.proofs.Balanced.{balanced}
 use Rattle.forms.proofs.Between.{same_values}
 use Rattle.forms.proofs.Complete.{complete}
 use Rattle.forms.proofs.Exact.{read_spells}
-use Rattle.forms.proofs.Longest.{nothing_next}
+use Rattle.forms.proofs.Begins.{nothing_next}
 use Rattle.forms.proofs.Nested.{memory_read, memory_spelled}
 use Rattle.forms.proofs.NestedDecides.{memory_decides}
 use Rattle.forms.proofs.NestedTokens.{enclosed_is, BeginsArray, memory_tokens}

@@ -6,4 +6,5 @@ pub mod InstMemory
 pub mod Later
 pub mod Skimming
 mod Examples
+mod ModuleExample
 pub mod Copying

@@ -4,33 +4,34 @@ use Rattle.forms.proofs.Tables.{word_next}
 use Rattle.std.proofs.Common.{eqb, ◌&&◌, ◌≡◌, Bool, true, false, List, [], ◌∷◌, ◌++◌, ◌||◌, ℕ, refl, sym, ap, ◌∙◌}
 use Rattle.forms.specs.declared.TokenKind.{TokenKind}
 use Rattle.forms.specs.declared.TokenKind.TheVariants.{Word, Local, Global, Comdat, Metadata, Equal}
-use Rattle.forms.specs.Form.{Lexeme, Form, kind_code, entry, either, mapped, by_word}
+use Rattle.forms.specs.Form.{Lexeme, Form, kind_code, entry, mapped, by_word}
 use Rattle.forms.specs.Reading.{Terminal, mark_then, any_of, fits, fits_one, words_of, next_in, opens, read}
 use Rattle.ir_types.specs.TypeNodes.{TypeNode}
 use Rattle.ir_types.specs.Tree.{comdat_line, metadata_line}
-use Rattle.ir_types.specs.Grammar.{memory_type, item_words, item_behind, comdat, metadata, type_definition, variable_definition, item}
+use Rattle.ir_types.specs.Grammar.{memory_type, item_words, comdat, metadata, type_definition, variable_definition}
+use Rattle.ir_types.specs.Skimmed.{as_it_is, skimmed_behind, skimmed_item}
 
 abbrev pub named : TokenKind → List Lexeme → Bool
 named k ts = next_in (mark_then k (any_of Equal) ∷ []) ts
 
-pub word_item : (m : Form (List TypeNode)) (ts : List Lexeme) → opens (by_word item_words item_behind) ts ≡ true → read (item m) ts ≡ read (by_word item_words item_behind) ts
-unfolding item
+pub word_item : (m : Form (List TypeNode)) (ts : List Lexeme) → opens (by_word item_words skimmed_behind) ts ≡ true → read (skimmed_item m) ts ≡ read (by_word item_words skimmed_behind) ts
+unfolding skimmed_item
 word_item m ts e = rw e refl
 
-pub comdat_item : (m : Form (List TypeNode)) (ts : List Lexeme) → opens (by_word item_words item_behind) ts ≡ false → named Comdat ts ≡ true → read (item m) ts ≡ read (mapped comdat_line comdat) ts
-unfolding item comdat
+pub comdat_item : (m : Form (List TypeNode)) (ts : List Lexeme) → opens (by_word item_words skimmed_behind) ts ≡ false → named Comdat ts ≡ true → read (skimmed_item m) ts ≡ read (mapped as_it_is (mapped comdat_line comdat)) ts
+unfolding skimmed_item comdat
 comdat_item m ts e f = rw (e, f) refl
 
-pub metadata_item : (m : Form (List TypeNode)) (ts : List Lexeme) → opens (by_word item_words item_behind) ts ≡ false → named Comdat ts ≡ false → named Metadata ts ≡ true → read (item m) ts ≡ read (mapped metadata_line metadata) ts
-unfolding item comdat metadata
+pub metadata_item : (m : Form (List TypeNode)) (ts : List Lexeme) → opens (by_word item_words skimmed_behind) ts ≡ false → named Comdat ts ≡ false → named Metadata ts ≡ true → read (skimmed_item m) ts ≡ read (mapped as_it_is (mapped metadata_line metadata)) ts
+unfolding skimmed_item comdat metadata
 metadata_item m ts e f g = rw (e, f, g) refl
 
-pub type_item : (m : Form (List TypeNode)) (ts : List Lexeme) → opens (by_word item_words item_behind) ts ≡ false → named Comdat ts ≡ false → named Metadata ts ≡ false → named Local ts ≡ true → read (item m) ts ≡ read (type_definition m) ts
-unfolding item comdat metadata type_definition
+pub type_item : (m : Form (List TypeNode)) (ts : List Lexeme) → opens (by_word item_words skimmed_behind) ts ≡ false → named Comdat ts ≡ false → named Metadata ts ≡ false → named Local ts ≡ true → read (skimmed_item m) ts ≡ read (mapped as_it_is (type_definition m)) ts
+unfolding skimmed_item comdat metadata type_definition
 type_item m ts e f g h = rw (e, f, g, h) refl
 
-pub variable_item : (m : Form (List TypeNode)) (ts : List Lexeme) → opens (by_word item_words item_behind) ts ≡ false → named Comdat ts ≡ false → named Metadata ts ≡ false → named Local ts ≡ false → read (item m) ts ≡ read (variable_definition m) ts
-unfolding item comdat metadata type_definition
+pub variable_item : (m : Form (List TypeNode)) (ts : List Lexeme) → opens (by_word item_words skimmed_behind) ts ≡ false → named Comdat ts ≡ false → named Metadata ts ≡ false → named Local ts ≡ false → read (skimmed_item m) ts ≡ read (mapped as_it_is (variable_definition m)) ts
+unfolding skimmed_item comdat metadata type_definition
 variable_item m ts e f g h = rw (e, f, g, h) refl
 
 -- ---- which begin an item
@@ -60,9 +61,9 @@ names_begin ts =
     next_append (c ∷ []) (m ∷ l ∷ g ∷ []) ts
     ∙ ap (λ (b : Bool). named Comdat ts || b) (next_append (m ∷ []) (l ∷ g ∷ []) ts ∙ ap (λ (b : Bool). named Metadata ts || b) (next_append (l ∷ []) (g ∷ []) ts))
 
-pub opens_item : (d : ℕ) (ts : List Lexeme) → opens (item (memory_type d)) ts ≡ (opens (by_word item_words item_behind) ts || (named Comdat ts || (named Metadata ts || (named Local ts || named Global ts))))
-unfolding item comdat metadata type_definition variable_definition others
-opens_item d ts = next_append (words_of item_words) others ts ∙ ap (λ (b : Bool). opens (by_word item_words item_behind) ts || b) (names_begin ts)
+pub opens_item : (d : ℕ) (ts : List Lexeme) → opens (skimmed_item (memory_type d)) ts ≡ (opens (by_word item_words skimmed_behind) ts || (named Comdat ts || (named Metadata ts || (named Local ts || named Global ts))))
+unfolding skimmed_item comdat metadata type_definition variable_definition others
+opens_item d ts = next_append (words_of item_words) others ts ∙ ap (λ (b : Bool). opens (by_word item_words skimmed_behind) ts || b) (names_begin ts)
 
-pub word_begins : (t : Lexeme) (ts : List Lexeme) → opens (by_word item_words item_behind) (t ∷ ts) ≡ (eqb (kind_code t.kind) (kind_code Word) && is_some (entry item_words t.text))
+pub word_begins : (t : Lexeme) (ts : List Lexeme) → opens (by_word item_words skimmed_behind) (t ∷ ts) ≡ (eqb (kind_code t.kind) (kind_code Word) && is_some (entry item_words t.text))
 word_begins t ts = word_next item_words t ts

@@ -1,5 +1,5 @@
 -- Memory types are read alike at each depth that is at least the number of the tokens.
-use Rattle.std.proofs.Common.{◌≡◌, ℕ, zero, suc, ◌≤◌, ◌<◌, true, false, cond, List, [], ◌∷◌, codes, length, Option, Some, None, refl, sym, ap, ◌∙◌, arith}
+use Rattle.std.proofs.Common.{◌≡◌, ℕ, zero, suc, ◌≤◌, true, cond, List, [], ◌∷◌, codes, length, Option, Some, None, refl, sym, ap, ◌∙◌, arith}
 use Rattle.forms.specs.declared.TokenKind.TheVariants.{Word}
 use Rattle.forms.specs.Form.{Lexeme, Form, mapped, either}
 use Rattle.forms.specs.Reading.{this, first, all_apart, opens, read, ◌>>=◌}

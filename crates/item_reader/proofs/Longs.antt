@@ -2,12 +2,11 @@
 use Rattle.std.proofs.Common.{◌≡◌, ℕ, Bool, true, false, cond, ◌||◌, List, [], ◌∷◌, ◌++◌, Option, Some, None, refl, sym, ap, ◌∙◌}
 use Rattle.ir_types.specs.declared.name.Name.{Name}
 use Rattle.ir_types.specs.declared.memory_type.TypeName.{TypeName}
-use Rattle.ir_types.specs.Names.{same_name}
-use Rattle.ir_types.specs.TypeNodes.{TypeNode}
-use Rattle.ir_types.specs.Collected.{names_used, has_name, unknown}
+use Rattle.ir_types.specs.Names.{same_name, has_name, unknown}
+use Rattle.ir_types.specs.TypeNodes.{TypeNode, names_used}
 use Rattle.type_reader.specs.TypeTable.{names_of, LooksUpAll}
 use Rattle.type_reader.proofs.LookUps.{missing_names}
-use Rattle.type_reader.proofs.Places.{same_name-Decides}
+use Rattle.type_reader.proofs.FirstPlaces.{same_name-Decides}
 use Rattle.ir_limits.specs.Limits.{long_name, or_else, first_long}
 use Rattle.ir_limits.proofs.Firsts.{first_of_both}
 

@@ -1,5 +1,5 @@
 -- Two forms of which the one begins where the other doesn't.
-use Rattle.std.proofs.Common.{◌≡◌, Bool, true, false, cond, List, [], ◌∷◌, ◌++◌, Option, Some, None, refl, sym, ap, ◌∙◌, true≢false}
+use Rattle.std.proofs.Common.{◌≡◌, Bool, true, false, cond, List, [], ◌∷◌, Option, Some, None, refl, sym, ap, ◌∙◌, true≢false}
 use Rattle.forms.specs.Form.{Lexeme, Form, either}
 use Rattle.forms.specs.Reading.{Terminal, next_in, nullable, first, opens, read, all_apart}
 use Rattle.forms.proofs.Begins.{opened, all_apart_none}

@@ -1,18 +1,18 @@
 -- Reading definitions and variables part after part is reading them whole.
-use Rattle.std.proofs.Common.{◌≡◌, ℕ, ◌≤◌, ◌<◌, Bool, List, [], codes, length, Option, Some, None, refl, sym, ap, ◌∙◌, arith}
+use Rattle.std.proofs.Common.{◌≡◌, ℕ, ◌≤◌, Bool, List, codes, length, Option, Some, None, refl, sym, ap, ◌∙◌, arith}
 use Rattle.forms.specs.declared.TokenKind.TheVariants.{Local, Global, Equal, Word}
-use Rattle.forms.specs.Form.{Lexeme, Form, exactly, one, ahead, pair, either, mapped, made}
+use Rattle.forms.specs.Form.{Lexeme, Form, exactly, one, ahead, pair, either, mapped}
 use Rattle.forms.specs.Gives.{mark}
 use Rattle.forms.specs.Reading.{◌>>=◌, read}
 use Rattle.forms.specs.Walk.{completed}
-use Rattle.forms.proofs.Longest.{within}
-use Rattle.function_reader.proofs.Chains.{alike, first_apart}
+use Rattle.forms.proofs.Fronts.{within}
+use Rattle.ir_reader_ops.proofs.Chains.{alike, first_apart}
 use Rattle.ir_types.specs.declared.name.Name.{Name}
 use Rattle.ir_types.specs.TypeNodes.{TypeNode}
-use Rattle.ir_types.specs.Tree.{KeptTexts, VariableTree, Item, FunctionTree, WrittenFunction, type_item, variable_item}
+use Rattle.ir_types.specs.Tree.{KeptTexts, VariableTree, Item, WrittenFunction, type_item, variable_item}
 use Rattle.ir_types.specs.Written.{name_behind}
 use Rattle.ir_types.specs.Grammar.{memory_type, after_mark, behind, kept, variable_word, behind_type, named_type, named_variable, type_definition, variable_definition}
-use Rattle.ir_types.specs.Numbered.{numbered_item}
+use Rattle.ir_types.specs.Skimmed.{Skimmed, as_it_is}
 use Rattle.item_reader.specs.Sources.{type_read}
 use Rattle.item_reader.specs.Typed.{defined_read, definition_read, variable_read}
 use Rattle.item_reader.proofs.Depths.{type_is, defined_is, opaque_word}
@@ -48,8 +48,12 @@ completed_twice {A} {B} {C} {R} f g (Some x) = by (f x.0)
     by None = refl
     by (Some b) = refl
 
-abbrev NumberedItem : Type 0
-NumberedItem = Item FunctionTree × Unit {0}
+abbrev SkimmedItem : Type 0
+SkimmedItem = Item Skimmed
+
+-- an item, which has no inner parts
+abbrev as_skimmed : Item WrittenFunction → Option SkimmedItem
+as_skimmed i = Some (as_it_is i)
 
 -- ---- definitions
 
@@ -57,17 +61,17 @@ abbrev Defined : Type 0
 Defined = Option (List TypeNode)
 
 -- a definition, where its name is one
-abbrev definition_so : List ℕ → Defined → Option NumberedItem
-definition_so t d = named_type (t, d) >>= numbered_item tt
+abbrev definition_so : List ℕ → Defined → Option SkimmedItem
+definition_so t d = named_type (t, d) >>= as_skimmed
 
-abbrev named_so : List ℕ → Option (Defined × List Lexeme) → Option (NumberedItem × List Lexeme)
-named_so t r = r >>= λ d. name_behind t >>= λ n. Some ((type_item n d.0, tt), d.1)
+abbrev named_so : List ℕ → Option (Defined × List Lexeme) → Option (SkimmedItem × List Lexeme)
+named_so t r = r >>= λ d. name_behind t >>= λ n. Some (type_item n d.0, d.1)
 
-abbrev with_rest : List Lexeme → Option NumberedItem → Option (NumberedItem × List Lexeme)
+abbrev with_rest : List Lexeme → Option SkimmedItem → Option (SkimmedItem × List Lexeme)
 with_rest us o = o >>= λ b. Some (b, us)
 
-abbrev type_so : Defined → List Lexeme → Name → Option (NumberedItem × List Lexeme)
-type_so d us n = Some ((type_item n d, tt), us)
+abbrev type_so : Defined → List Lexeme → Name → Option (SkimmedItem × List Lexeme)
+type_so d us n = Some (type_item n d, us)
 
 abbrev written_type : Defined → Name → Option (Item WrittenFunction)
 written_type d n = Some (type_item n d)
@@ -76,7 +80,7 @@ definition_named : (t : List ℕ) (r : Option (Defined × List Lexeme)) → name
 definition_named t None = refl
 definition_named t (Some d) = by (name_behind t)
   where
-    by : (o : Option Name) → (o >>= type_so d.0 d.1) ≡ with_rest d.1 ((o >>= written_type d.0) >>= numbered_item tt)
+    by : (o : Option Name) → (o >>= type_so d.0 d.1) ≡ with_rest d.1 ((o >>= written_type d.0) >>= as_skimmed)
     by None = refl
     by (Some n) = refl
 
@@ -95,26 +99,26 @@ behind_name d t ts le =
     ∙ sym (behind_apart (definition_so t) (exactly Word (codes "type")) (defined_form d) e.1))
     ∙ sym (behind_apart (definition_so t) (mark Equal) (behind (codes "type") (defined_form d)) ts)
 
-pub definition_is : (d : ℕ) (ts : List Lexeme) → length ts ≤ d → definition_read ts ≡ completed (numbered_item tt) (read (type_definition (memory_type d)) ts)
+pub definition_is : (d : ℕ) (ts : List Lexeme) → length ts ≤ d → definition_read ts ≡ read (mapped as_it_is (type_definition (memory_type d))) ts
 unfolding type_definition
 definition_is d ts le =
     let inner = after_mark Equal (behind (codes "type") (defined_form d)) in
     then_same (read (one Local) ts) _ _ (λ t e. let l = within (one Local) ts t e in behind_name d t.0 t.1 (omega arith))
-    ∙ sym (completed_twice named_type (numbered_item tt) (read (ahead Local inner) ts) ∙ first_apart (λ x. named_type x >>= numbered_item tt) (one Local) inner ts)
+    ∙ sym (completed_twice named_type as_skimmed (read (ahead Local inner) ts) ∙ first_apart (λ x. named_type x >>= as_skimmed) (one Local) inner ts)
 
 -- ---- variables
 
-abbrev variable_so : List ℕ → KeptTexts → Bool → List TypeNode → KeptTexts → Option NumberedItem
-variable_so t k w m b = named_variable (t, (k, (w, (m, b)))) >>= numbered_item tt
+abbrev variable_so : List ℕ → KeptTexts → Bool → List TypeNode → KeptTexts → Option SkimmedItem
+variable_so t k w m b = named_variable (t, (k, (w, (m, b)))) >>= as_skimmed
 
 abbrev the_variable : KeptTexts → Bool → List TypeNode → KeptTexts → Name → VariableTree
 the_variable k w m b n = record { name = n; before = k; writable = w; ty = m; after = b }
 
-abbrev behind_read : List ℕ → KeptTexts → Bool → List TypeNode → Option (KeptTexts × List Lexeme) → Option (NumberedItem × List Lexeme)
-behind_read t k w m r = r >>= λ b. name_behind t >>= λ n. Some ((variable_item (the_variable k w m b.0 n), tt), b.1)
+abbrev behind_read : List ℕ → KeptTexts → Bool → List TypeNode → Option (KeptTexts × List Lexeme) → Option (SkimmedItem × List Lexeme)
+behind_read t k w m r = r >>= λ b. name_behind t >>= λ n. Some (variable_item (the_variable k w m b.0 n), b.1)
 
-abbrev variable_made : VariableTree → List Lexeme → Option (NumberedItem × List Lexeme)
-variable_made v us = Some ((variable_item v, tt), us)
+abbrev variable_made : VariableTree → List Lexeme → Option (SkimmedItem × List Lexeme)
+variable_made v us = Some (variable_item v, us)
 
 abbrev written_variable : VariableTree → Option (Item WrittenFunction)
 written_variable v = Some (variable_item v)
@@ -123,23 +127,23 @@ variable_named : (t : List ℕ) (k : KeptTexts) (w : Bool) (m : List TypeNode) (
 variable_named t k w m None = refl
 variable_named t k w m (Some b) = by (name_behind t)
   where
-    by : (o : Option Name) → (o >>= λ n. variable_made (the_variable k w m b.0 n) b.1) ≡ with_rest b.1 ((o >>= λ n. written_variable (the_variable k w m b.0 n)) >>= numbered_item tt)
+    by : (o : Option Name) → (o >>= λ n. variable_made (the_variable k w m b.0 n) b.1) ≡ with_rest b.1 ((o >>= λ n. written_variable (the_variable k w m b.0 n)) >>= as_skimmed)
     by None = refl
     by (Some n) = refl
 
-abbrev type_behind : List ℕ → KeptTexts → Bool → Option (List TypeNode × List Lexeme) → Option (NumberedItem × List Lexeme)
+abbrev type_behind : List ℕ → KeptTexts → Bool → Option (List TypeNode × List Lexeme) → Option (SkimmedItem × List Lexeme)
 type_behind t k w r = r >>= λ m. behind_read t k w m.0 (read behind_type m.1)
 
 behind_word : (d : ℕ) (t : List ℕ) (k : KeptTexts) (w : Bool) (ts : List Lexeme) → length ts ≤ d
-    → type_behind t k w (type_read ts) ≡ completed (λ x. named_variable (t, (k, (w, x))) >>= numbered_item tt) (read (pair (memory_type d) behind_type) ts)
+    → type_behind t k w (type_read ts) ≡ completed (λ x. named_variable (t, (k, (w, x))) >>= as_skimmed) (read (pair (memory_type d) behind_type) ts)
 behind_word d t k w ts le =
     ap (type_behind t k w) (type_is d ts le)
     ∙ alike (read (memory_type d) ts) _ _ (λ m. variable_named t k w m.0 (read behind_type m.1))
-    ∙ sym (first_apart (λ x. named_variable (t, (k, (w, x))) >>= numbered_item tt) (memory_type d) behind_type ts)
+    ∙ sym (first_apart (λ x. named_variable (t, (k, (w, x))) >>= as_skimmed) (memory_type d) behind_type ts)
 
 behind_equal : (d : ℕ) (t : List ℕ) (ts : List Lexeme) → length ts ≤ d
     → (read kept ts >>= λ k. read variable_word k.1 >>= λ w. type_behind t k.0 w.0 (type_read w.1))
-    ≡ completed (λ x. named_variable (t, x) >>= numbered_item tt) (read (pair kept (pair variable_word (pair (memory_type d) behind_type))) ts)
+    ≡ completed (λ x. named_variable (t, x) >>= as_skimmed) (read (pair kept (pair variable_word (pair (memory_type d) behind_type))) ts)
 behind_equal d t ts le =
     let inner = pair (memory_type d) behind_type in
     then_same (read kept ts) _ _ (λ k e1.
@@ -147,10 +151,10 @@ behind_equal d t ts le =
     let l1 = within kept ts k e1 in
     let l2 = within variable_word k.1 w e2 in
     behind_word d t k.0 w.0 w.1 (omega arith))
-    ∙ sym (first_apart (λ x. named_variable (t, (k.0, x)) >>= numbered_item tt) variable_word inner k.1))
-    ∙ sym (first_apart (λ x. named_variable (t, x) >>= numbered_item tt) kept (pair variable_word inner) ts)
+    ∙ sym (first_apart (λ x. named_variable (t, (k.0, x)) >>= as_skimmed) variable_word inner k.1))
+    ∙ sym (first_apart (λ x. named_variable (t, x) >>= as_skimmed) kept (pair variable_word inner) ts)
 
-pub variable_is : (d : ℕ) (ts : List Lexeme) → length ts ≤ d → variable_read ts ≡ completed (numbered_item tt) (read (variable_definition (memory_type d)) ts)
+pub variable_is : (d : ℕ) (ts : List Lexeme) → length ts ≤ d → variable_read ts ≡ read (mapped as_it_is (variable_definition (memory_type d))) ts
 unfolding variable_definition
 variable_is d ts le =
     let parts = pair kept (pair variable_word (pair (memory_type d) behind_type)) in
@@ -160,5 +164,5 @@ variable_is d ts le =
     let l1 = within (one Global) ts t e1 in
     let l2 = within (mark Equal) t.1 e e2 in
     behind_equal d t.0 e.1 (omega arith))
-    ∙ sym (behind_apart (λ x. named_variable (t.0, x) >>= numbered_item tt) (mark Equal) parts t.1))
-    ∙ sym (completed_twice named_variable (numbered_item tt) (read (ahead Global inner) ts) ∙ first_apart (λ x. named_variable x >>= numbered_item tt) (one Global) inner ts)
+    ∙ sym (behind_apart (λ x. named_variable (t.0, x) >>= as_skimmed) (mark Equal) parts t.1))
+    ∙ sym (completed_twice named_variable as_skimmed (read (ahead Global inner) ts) ∙ first_apart (λ x. named_variable x >>= as_skimmed) (one Global) inner ts)

@@ -1,5 +1,5 @@
 -- What stands behind a variable's initialiser, one after another.
-use Rattle.std.specs.Prelude.{ℕ, true, false, List, [], ◌++◌, Option, Some, None, if◌then◌else◌}
+use Rattle.std.specs.Prelude.{true, false, List, ◌++◌, Option, Some, None, if◌then◌else◌}
 use Rattle.forms.specs.Form.{Lexeme}
 use Rattle.forms.specs.Reading.{◌>>=◌}
 use Rattle.ir_types.specs.declared.opcode.Extra.{Extra}

@@ -1,4 +1,5 @@
 pub mod Sources
 pub mod Parts
 pub mod Typed
+pub mod Passed
 pub mod Extras

@@ -5,9 +5,10 @@ use Rattle.forms.specs.Form.{Lexeme, exactly, one}
 use Rattle.forms.specs.Gives.{mark}
 use Rattle.forms.specs.Reading.{◌>>=◌, this, next_in, read}
 use Rattle.ir_types.specs.TypeNodes.{TypeNode}
-use Rattle.ir_types.specs.Tree.{Item, FunctionTree, type_item, variable_item}
+use Rattle.ir_types.specs.Tree.{Item, type_item, variable_item}
 use Rattle.ir_types.specs.Written.{name_behind}
 use Rattle.ir_types.specs.Grammar.{word, kept, variable_word, behind_type}
+use Rattle.ir_types.specs.Skimmed.{Skimmed}
 use Rattle.item_reader.specs.Sources.{type_read}
 
 -- what a name of a type is defined as
@@ -15,17 +16,17 @@ abbrev pub defined_read : List Lexeme → Option (Option (List TypeNode) × List
 defined_read ts = if next_in (this Word (codes "opaque") ∷ []) ts then read (word (codes "opaque") None) ts else (type_read ts >>= λ x. Some (Some x.0, x.1))
 
 -- the definition of a name of a type
-abbrev pub definition_read : List Lexeme → Option ((Item FunctionTree × Unit {0}) × List Lexeme)
+abbrev pub definition_read : List Lexeme → Option (Item Skimmed × List Lexeme)
 definition_read ts =
     read (one Local) ts >>= λ t.
     read (mark Equal) t.1 >>= λ e.
     read (exactly Word (codes "type")) e.1 >>= λ w.
     defined_read w.1 >>= λ d.
     name_behind t.0 >>= λ n.
-    Some ((type_item n d.0, tt), d.1)
+    Some (type_item n d.0, d.1)
 
 -- a variable
-abbrev pub variable_read : List Lexeme → Option ((Item FunctionTree × Unit {0}) × List Lexeme)
+abbrev pub variable_read : List Lexeme → Option (Item Skimmed × List Lexeme)
 variable_read ts =
     read (one Global) ts >>= λ t.
     read (mark Equal) t.1 >>= λ e.
@@ -34,4 +35,4 @@ variable_read ts =
     type_read w.1 >>= λ m.
     read behind_type m.1 >>= λ b.
     name_behind t.0 >>= λ n.
-    Some ((variable_item (record { name = n; before = k.0; writable = w.0; ty = m.0; after = b.0 }), tt), b.1)
+    Some (variable_item (record { name = n; before = k.0; writable = w.0; ty = m.0; after = b.0 }), b.1)

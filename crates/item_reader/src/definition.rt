@@ -1,12 +1,12 @@
 // Definitions of names of types.
 
-ghost use Rattle.std.specs.Prelude.{◌≡◌, ◌≤◌, ℕ, length, IfOk};
+ghost use Rattle.std.specs.Prelude.{◌≡◌, ◌≤◌, ℕ, length};
+ghost use Rattle.forms.specs.Form.{mapped};
 ghost use Rattle.forms.specs.Gives.{Gives, left};
 ghost use Rattle.forms.specs.Reading.{read};
-ghost use Rattle.forms.specs.Walk.{completed};
-ghost use Rattle.ir_types.specs.Numbered.{numbered_item};
 ghost use Rattle.ir_types.specs.Grammar.{memory_type, type_definition};
-ghost use Rattle.item_reader.specs.Parts.{item_of, HasTable};
+ghost use Rattle.ir_types.specs.Skimmed.{as_it_is};
+ghost use Rattle.item_reader.specs.Parts.{item_of};
 ghost use Rattle.item_reader.specs.Typed.{definition_read};
 
 use crate::part::{Definition, Part};
@@ -17,8 +17,7 @@ use type_reader::name_behind;
 
 /// The parts of a definition.
 fn parts<'t>(alloc: Global, tokens: Cursor<'t>) -> Result<(Part<'t>, Cursor<'t>), SyntaxFault>
-    ensures reads { Gives (λ x. ((item_of x.0, tt), left x.1)) result (definition_read (left tokens.entry)) }
-    ensures table { IfOk result (λ x. HasTable x.0) }
+    ensures { Gives (λ x. (item_of x.0, left x.1)) result (definition_read (left tokens.entry)) }
 {
     let (token, rest) = tokens.one(TokenKind::Local)?;
     let rest = rest.mark(TokenKind::Equal)?;
@@ -35,8 +34,7 @@ pub fn definition<'t>(
     alloc: Global,
     tokens: Cursor<'t>,
 ) -> Result<(Part<'t>, Cursor<'t>), SyntaxFault>
-    ensures reads { (d : ℕ) → length (left tokens.entry) ≤ d → Gives (λ x. ((item_of x.0, tt), left x.1)) result (completed (numbered_item tt) (read (type_definition (memory_type d)) (left tokens.entry))) }
-    ensures table { IfOk result (λ x. HasTable x.0) }
+    ensures { (d : ℕ) → length (left tokens.entry) ≤ d → Gives (λ x. (item_of x.0, left x.1)) result (read (mapped as_it_is (type_definition (memory_type d))) (left tokens.entry)) }
 {
     parts(alloc, tokens)
 }

@@ -1,23 +1,22 @@
 // Items of every kind.
 
-ghost use Rattle.std.specs.Prelude.{◌≡◌, ◌≤◌, ◌∷◌, [], ℕ, length, IfOk};
+ghost use Rattle.std.specs.Prelude.{◌≡◌, ◌≤◌, ◌∷◌, [], ℕ, length};
 ghost use Rattle.forms.specs.declared.TokenKind.TheVariants.{Equal};
 ghost use Rattle.forms.specs.Form.{by_word, mapped};
 ghost use Rattle.forms.specs.Gives.{Gives, left};
 ghost use Rattle.forms.specs.Reading.{read, opens, next_in, mark_then, any_of};
-ghost use Rattle.forms.specs.Walk.{completed};
 ghost use Rattle.ir_types.specs.Tree.{comdat_line, metadata_line};
-ghost use Rattle.ir_types.specs.Grammar.{memory_type, item_words, item_behind, item, comdat, metadata};
-ghost use Rattle.ir_types.specs.Numbered.{numbered_item};
-ghost use Rattle.item_reader.specs.Parts.{item_of, HasTable};
+ghost use Rattle.ir_types.specs.Grammar.{memory_type, item_words, comdat, metadata};
+ghost use Rattle.ir_types.specs.Skimmed.{as_it_is, skimmed_behind, skimmed_item};
+ghost use Rattle.item_reader.specs.Parts.{item_of};
 
 use crate::definition::definition;
 use crate::lines::{attributes, comdat, metadata, source_filename, target};
 use crate::part::Part;
+use crate::passing::function_source;
 use crate::variable::variable;
 use crate::words::item_word;
 use forms::{Cursor, SyntaxFault, TokenKind};
-use function_reader::{declared, defined};
 use ir_types::ItemWord;
 use std::alloc::Global;
 
@@ -34,7 +33,7 @@ fn begins_named(tokens: Cursor<'_>, kind: TokenKind) -> bool
 /// Whether an item that begins with a word is next.
 #[tactic(auto, using(crate::proofs::Branches::word_begins))]
 fn begins_with_word(tokens: Cursor<'_>) -> bool
-    ensures { result ≡ opens (by_word item_words item_behind) (left tokens.entry) }
+    ensures { result ≡ opens (by_word item_words skimmed_behind) (left tokens.entry) }
 {
     match tokens.split_first() {
         Some((TokenKind::Word, word, _)) => item_word(word).is_some(),
@@ -45,7 +44,7 @@ fn begins_with_word(tokens: Cursor<'_>) -> bool
 /// Whether an item is next.
 #[tactic(auto, using(crate::proofs::Branches::opens_item))]
 pub fn begins_item(tokens: Cursor<'_>) -> bool
-    ensures { (d : ℕ) → result ≡ opens (item (memory_type d)) (left tokens.entry) }
+    ensures { (d : ℕ) → result ≡ opens (skimmed_item (memory_type d)) (left tokens.entry) }
 {
     begins_with_word(tokens)
         || begins_named(tokens, TokenKind::Comdat)
@@ -61,8 +60,7 @@ fn behind_word<'t>(
     tokens: Cursor<'t>,
     word: ItemWord,
 ) -> Result<(Part<'t>, Cursor<'t>), SyntaxFault>
-    ensures reads { Gives (λ x. ((item_of x.0, tt), left x.1)) result (completed (numbered_item tt) (read (item_behind word) (left tokens.entry))) }
-    ensures table { IfOk result (λ x. HasTable x.0) }
+    ensures { Gives (λ x. (item_of x.0, left x.1)) result (read (skimmed_behind word) (left tokens.entry)) }
 {
     match word {
         ItemWord::SourceFilename => {
@@ -74,12 +72,12 @@ fn behind_word<'t>(
             Ok((Part::Head(kept), rest))
         }
         ItemWord::Declare => {
-            let (function, rest) = declared(alloc, tokens)?;
-            Ok((Part::Function(function), rest))
+            let (source, rest) = function_source(alloc, tokens, false)?;
+            Ok((Part::Function(source), rest))
         }
         ItemWord::Define => {
-            let (function, rest) = defined(alloc, tokens)?;
-            Ok((Part::Function(function), rest))
+            let (source, rest) = function_source(alloc, tokens, true)?;
+            Ok((Part::Function(source), rest))
         }
         ItemWord::Attributes => {
             let (kept, rest) = attributes(alloc, tokens)?;
@@ -90,8 +88,7 @@ fn behind_word<'t>(
 
 /// An item that begins with a word.
 fn with_word<'t>(alloc: Global, tokens: Cursor<'t>) -> Result<(Part<'t>, Cursor<'t>), SyntaxFault>
-    ensures reads { Gives (λ x. ((item_of x.0, tt), left x.1)) result (completed (numbered_item tt) (read (by_word item_words item_behind) (left tokens.entry))) }
-    ensures table { IfOk result (λ x. HasTable x.0) }
+    ensures { Gives (λ x. (item_of x.0, left x.1)) result (read (by_word item_words skimmed_behind) (left tokens.entry)) }
 {
     let (text, rest) = tokens.one(TokenKind::Word)?;
     match item_word(text) {
@@ -102,8 +99,7 @@ fn with_word<'t>(alloc: Global, tokens: Cursor<'t>) -> Result<(Part<'t>, Cursor<
 
 /// A comdat.
 fn comdat_item<'t>(alloc: Global, tokens: Cursor<'t>) -> Result<(Part<'t>, Cursor<'t>), SyntaxFault>
-    ensures reads { Gives (λ x. ((item_of x.0, tt), left x.1)) result (completed (numbered_item tt) (read (mapped comdat_line comdat) (left tokens.entry))) }
-    ensures table { IfOk result (λ x. HasTable x.0) }
+    ensures { Gives (λ x. (item_of x.0, left x.1)) result (read (mapped as_it_is (mapped comdat_line comdat)) (left tokens.entry)) }
 {
     let (kept, rest) = comdat(alloc, tokens)?;
     Ok((Part::Comdat(kept), rest))
@@ -114,8 +110,7 @@ fn metadata_item<'t>(
     alloc: Global,
     tokens: Cursor<'t>,
 ) -> Result<(Part<'t>, Cursor<'t>), SyntaxFault>
-    ensures reads { Gives (λ x. ((item_of x.0, tt), left x.1)) result (completed (numbered_item tt) (read (mapped metadata_line metadata) (left tokens.entry))) }
-    ensures table { IfOk result (λ x. HasTable x.0) }
+    ensures { Gives (λ x. (item_of x.0, left x.1)) result (read (mapped as_it_is (mapped metadata_line metadata)) (left tokens.entry)) }
 {
     let (kept, rest) = metadata(alloc, tokens)?;
     Ok((Part::Metadata(kept), rest))
@@ -127,8 +122,7 @@ fn metadata_item<'t>(
 ///
 /// Where none stands next, with the place at which reading from left to right stops, or there is no room.
 pub fn item<'t>(alloc: Global, tokens: Cursor<'t>) -> Result<(Part<'t>, Cursor<'t>), SyntaxFault>
-    ensures reads { (d : ℕ) → length (left tokens.entry) ≤ d → Gives (λ x. ((item_of x.0, tt), left x.1)) result (completed (numbered_item tt) (read (item (memory_type d)) (left tokens.entry))) }
-    ensures table { IfOk result (λ x. HasTable x.0) }
+    ensures { (d : ℕ) → length (left tokens.entry) ≤ d → Gives (λ x. (item_of x.0, left x.1)) result (read (skimmed_item (memory_type d)) (left tokens.entry)) }
 {
     if begins_with_word(tokens) {
         return with_word(alloc, tokens);

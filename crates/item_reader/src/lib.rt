@@ -1,4 +1,4 @@
-//! Reads one item of a module, exactly as the grammar says. A memory type in it is passed over, and left to be read again.
+//! Reads one item of a module, exactly as the grammar says. A memory type in it is passed over, and so are the parameters and the body of a function: they are left to be read again.
 #![tactic(auto)]
 
 mod definition;
@@ -13,4 +13,4 @@ mod words;
 
 pub use items::{begins_item, item};
 pub use part::{Definition, Part, Variable};
-pub use source::TypeSource;
+pub use source::{FunctionSource, TypeSource};

@@ -1,7 +1,7 @@
 // Items as they are read.
 
-use crate::source::TypeSource;
-use ir_types::{Function, Kept, Name};
+use crate::source::{FunctionSource, TypeSource};
+use ir_types::{Kept, Name};
 
 /// The definition of a name of a type.
 #[derive(Debug, Drop)]
@@ -39,7 +39,7 @@ pub enum Part<'t> {
     /// A variable.
     Variable(Variable<'t>),
     /// A function, defined or declared.
-    Function(Function),
+    Function(FunctionSource<'t>),
     /// A group of attributes, as its tokens.
     Attributes(Kept),
     /// Metadata, as its tokens.

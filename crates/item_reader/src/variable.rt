@@ -1,19 +1,19 @@
 // Variables.
 
-ghost use Rattle.std.specs.Prelude.{◌≡◌, ◌≤◌, ℕ, length, IfOk};
+ghost use Rattle.std.specs.Prelude.{◌≡◌, ◌≤◌, ℕ, length};
+ghost use Rattle.forms.specs.Form.{mapped};
 ghost use Rattle.forms.specs.Gives.{Gives, left};
 ghost use Rattle.forms.specs.Reading.{read};
-ghost use Rattle.forms.specs.Walk.{completed};
-ghost use Rattle.ir_types.specs.Numbered.{numbered_item};
 ghost use Rattle.ir_types.specs.Grammar.{memory_type, variable_word, variable_definition};
-ghost use Rattle.item_reader.specs.Parts.{item_of, HasTable};
+ghost use Rattle.ir_types.specs.Skimmed.{as_it_is};
+ghost use Rattle.item_reader.specs.Parts.{item_of};
 ghost use Rattle.item_reader.specs.Typed.{variable_read};
 
 use crate::extras::kept_behind_type;
 use crate::part::{Part, Variable};
 use crate::passing::type_source;
 use forms::{Cursor, SyntaxFault, TokenKind};
-use function_reader::kept;
+use ir_reader_ops::kept;
 use std::alloc::Global;
 use type_reader::name_behind;
 
@@ -33,8 +33,7 @@ fn writable<'t>(tokens: Cursor<'t>) -> Result<(bool, Cursor<'t>), SyntaxFault>
 
 /// The parts of a variable.
 fn parts<'t>(alloc: Global, tokens: Cursor<'t>) -> Result<(Part<'t>, Cursor<'t>), SyntaxFault>
-    ensures reads { Gives (λ x. ((item_of x.0, tt), left x.1)) result (variable_read (left tokens.entry)) }
-    ensures table { IfOk result (λ x. HasTable x.0) }
+    ensures { Gives (λ x. (item_of x.0, left x.1)) result (variable_read (left tokens.entry)) }
 {
     let (token, rest) = tokens.one(TokenKind::Global)?;
     let rest = rest.mark(TokenKind::Equal)?;
@@ -60,8 +59,7 @@ pub fn variable<'t>(
     alloc: Global,
     tokens: Cursor<'t>,
 ) -> Result<(Part<'t>, Cursor<'t>), SyntaxFault>
-    ensures reads { (d : ℕ) → length (left tokens.entry) ≤ d → Gives (λ x. ((item_of x.0, tt), left x.1)) result (completed (numbered_item tt) (read (variable_definition (memory_type d)) (left tokens.entry))) }
-    ensures table { IfOk result (λ x. HasTable x.0) }
+    ensures { (d : ℕ) → length (left tokens.entry) ≤ d → Gives (λ x. (item_of x.0, left x.1)) result (read (mapped as_it_is (variable_definition (memory_type d))) (left tokens.entry)) }
 {
     parts(alloc, tokens)
 }

@@ -18,7 +18,7 @@ pub use attachments::{
     keep_comma_attachments, keep_node,
 };
 pub use enclosed::{keep_braces, keep_parens};
-pub use passing::pass_braces;
+pub use passing::{pass_braces, pass_parens};
 pub use pieces::{begins_run, keep_run, keep_unsigned};
 pub use tokens::{keep, keep_word};
 pub use up_to::{Stops, keep_up_to};

@@ -1,7 +1,7 @@
 // Balanced lists that are passed over.
 
 ghost use Rattle.std.specs.Prelude.{[]};
-ghost use Rattle.forms.specs.declared.TokenKind.TheVariants.{LeftBrace, RightBrace};
+ghost use Rattle.forms.specs.declared.TokenKind.TheVariants.{LeftParen, RightParen, LeftBrace, RightBrace};
 ghost use Rattle.forms.specs.Form.{enclosed};
 ghost use Rattle.forms.specs.Gives.{Gives, left};
 ghost use Rattle.forms.specs.Reading.{read, read_inside};
@@ -31,6 +31,18 @@ fn pass_inside<'t>(
         rest = after;
     }
     Err(rest.refusal())
+}
+
+/// What is behind `(`, a balanced list and `)`.
+///
+/// # Errors
+///
+/// Where none stands next, or there is no room.
+pub fn pass_parens<'t>(alloc: Global, tokens: Cursor<'t>) -> Result<Cursor<'t>, SyntaxFault>
+    ensures { Gives (λ rest. left rest) result (passed (read (enclosed LeftParen RightParen) (left tokens.entry))) }
+{
+    let (_, rest) = tokens.one(TokenKind::LeftParen)?;
+    pass_inside(alloc, rest, TokenKind::RightParen)
 }
 
 /// What is behind `{`, a balanced list and `}`.

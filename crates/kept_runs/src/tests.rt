@@ -3,7 +3,7 @@
 use crate::{
     Stops, begins_attachment, begins_comma_attachment, begins_run, keep, keep_attachment,
     keep_attachments, keep_braces, keep_comma_attachments, keep_node, keep_parens, keep_run,
-    keep_unsigned, keep_up_to, keep_word,
+    keep_unsigned, keep_up_to, keep_word, pass_braces, pass_parens,
 };
 use forms::{Cursor, SyntaxFault, Token, TokenKind};
 use lists::Texts;
@@ -113,6 +113,9 @@ fn keeps_balanced_lists(rt: HostRuntime) -> Result<(), SyntaxFault> {
     let rest = keep_braces(rt.alloc(), rest, &mut texts)?;
     assert!(rt; are_kept(&texts, &words[..9]));
     assert!(rt; keep_parens(rt.alloc(), rest, &mut texts).is_err());
+    let behind = pass_parens(rt.alloc(), cursor)?;
+    let behind = pass_braces(rt.alloc(), behind)?;
+    assert_eq!(rt; behind.rest.len(), 2);
     Ok(())
 }
 
@@ -165,20 +168,13 @@ fn keeps_runs(rt: HostRuntime) -> Result<(), SyntaxFault> {
 
 #[test]
 fn refuses_signed_numbers(rt: HostRuntime) -> Result<(), SyntaxFault> {
-    let words = [ALIGN, FOUR, ALIGN, SIGNED];
-    let (text, tokens) = written(rt.alloc(), &words)?;
+    let (text, tokens) = written(rt.alloc(), &[SIGNED])?;
     let cursor = Cursor {
         text: text.as_slice(),
         rest: tokens.as_slice(),
     };
-    let excluded: [&[u8]; 1] = [b"align"];
     let mut texts = Texts::new(rt.alloc());
-    assert!(rt; keep_run(rt.alloc(), cursor, &excluded, &mut texts).is_err());
-    let signed = Cursor {
-        text: text.as_slice(),
-        rest: &tokens[3..],
-    };
-    assert!(rt; keep_unsigned(signed, &mut texts).is_err());
+    assert!(rt; keep_unsigned(cursor, &mut texts).is_err());
     Ok(())
 }
 

@@ -81,6 +81,6 @@ are_definitions entries types h =
     record {
       as_many = as_many names types entries;
       each = λ k e at first.
-      let same : name_at names k ≡ e.name = name_got names k e.name (got_name entries k e at) in
-      found names types entries k e at (λ j lt s. first.first j lt (s ∙ sym same)) (λ m j x g d. h k j e x at g m d) ∙ stands_for types entries e.ty;
+          let same : name_at names k ≡ e.name = name_got names k e.name (got_name entries k e at) in
+          found names types entries k e at (λ j lt s. first.first j lt (s ∙ sym same)) (λ m j x g d. h k j e x at g m d) ∙ stands_for types entries e.ty;
     }

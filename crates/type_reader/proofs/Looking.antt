@@ -1,5 +1,5 @@
 -- Which names were looked up while a memory type is read.
-use Rattle.std.proofs.Common.{◌≡◌, ℕ, ◌<◌, true, List, [], ◌∷◌, ◌++◌, length, Option, Some, None, refl, sym, ap, ◌∙◌, subst, append_assoc}
+use Rattle.std.proofs.Common.{◌≡◌, true, List, [], ◌∷◌, ◌++◌, length, Some, None, refl, sym, ap, ◌∙◌, subst, append_assoc}
 use Rattle.std.proofs.lemmas.List.{append-nil}
 use Rattle.std.specs.Prelude.{map}
 use Rattle.forms.specs.declared.Around.{Around}
@@ -18,7 +18,7 @@ use Rattle.ir_types.specs.declared.memory_type.MemTy.{MemTy}
 use Rattle.ir_types.specs.TypeNodes.{TypeNode, opening, nodes_from, all_nodes, type_nodes, names_used}
 use Rattle.ir_types.proofs.NameAt.{extends_refl}
 use Rattle.type_reader.specs.TypeTable.{names_of, LooksUpAll}
-use Rattle.type_reader.specs.Frames.{Frame, innermost, in_array, in_struct, frame_nodes, opened_nodes, nodes_so_far, closed, around_of, end_nodes, AreBefore, Holds, Looked}
+use Rattle.type_reader.specs.Frames.{Frame, innermost, in_array, in_struct, frame_nodes, opened_nodes, nodes_so_far, closed, around_of, end_nodes, Holds, Looked}
 use Rattle.type_reader.specs.Levels.{Adds, Closes}
 use Rattle.type_reader.specs.Heads.{next_nodes}
 use Rattle.type_reader.proofs.Holding.{not_in_array, outer_before}

@@ -1,10 +1,13 @@
-use Rattle.std.proofs.Common.{◌≡◌, sym, ap, ◌∙◌, arith}
+use Rattle.std.proofs.Common.{sym, ap, ◌∙◌, arith}
+use Rattle.std.proofs.lemmas.Result.{err_from_is_err_and}
 use Rattle.forms.specs.Form.{many}
 use Rattle.forms.specs.Reading.{read}
 use Rattle.forms.specs.Walk.{walk, completed}
 use Rattle.forms.specs.Gives.{left}
-use Rattle.forms.proofs.Walks.{goes_completed, shorter_completed}
+use Rattle.forms.specs.declared.cursor.Cursor.{Cursor}
+use Rattle.forms.proofs.Walks.{goes_completed, shorter_completed, walk_fails, walk_ends}
 use Rattle.forms.proofs.Viewed.{count_viewed}
+use Rattle.ir_types.specs.declared.inst.Inst.{Inst}
 use Rattle.ir_types.specs.Offsets.{Definitions}
 use Rattle.ir_types.specs.Grammar.{line, operation}
 use Rattle.ir_types.specs.Numbered.{numbered_inst}
@@ -12,6 +15,7 @@ use Rattle.ir_types.proofs.Decides.{line_takes}
 use Rattle.ir_reader_ops.specs.Seen.{definitions, inst_seen}
 use Rattle.ir_reader_ops.proofs.Widening.{widens_trans}
 use Rattle.ir_reader_ops.proofs.Pushing.{push_seen, push_steady}
+use Rattle.type_reader.proofs.Same.{gives_failed}
 use Rattle.function_reader.specs.Blocks.{insts_in}
 use Rattle.function_reader.proofs.block.operations.Goals as goal
 
@@ -38,3 +42,21 @@ more-preserved c =
           (completed (walk numbered_inst c.args.numbering.now.next) (read (many form) (left c.args.tokens))) (line_takes defs) (sym (c.begins_line.ensures defs) ∙ c.more-test.true) same c.more.invariant.reads);
       stays = push_steady inst_seen before now insts c.push.new.self.items inst c.in_ok-push.ensures.items grows c.more.invariant.stays c.in_ok-inst.ensures.stays;
     }
+
+pub returns-in_err-inst-clause-reads : goal.returns-in_err-inst-clause-reads
+returns-in_err-inst-clause-reads c =
+    let p = err_from_is_err_and c.from_residual.result c.from_residual.ensures.1 in
+    let before = c.more.scope in
+    let now = c.line.new in
+    let defs = definitions c.args.scope.now in
+    let same = ap (λ (d : Definitions). completed (numbered_inst c.more.numbering.next) (read (line (operation d)) (left c.more.rest))) (sym c.more.invariant.grows.definitions) in
+    rw (p.1, p.2) (gives_failed (λ (x : Inst × Cursor). ((inst_seen now.scope x.0, now.numbering.next), left x.1)) (λ x. x) c.in_err-inst.field-0.0 _
+    (completed (walk numbered_inst c.args.numbering.now.next) (read (many (line (operation defs))) (left c.args.tokens)))
+    (λ e. walk_fails (line (operation defs)) numbered_inst (insts_in before c.more.insts.items) c.more.numbering.next (left c.more.rest) _ (line_takes defs) (sym (c.begins_line.ensures defs) ∙ c.more-test.true) (same ∙ e) c.more.invariant.reads)
+    c.in_err-inst.ensures.reads)
+
+pub returns-clause-reads : goal.returns-clause-reads
+returns-clause-reads c =
+    let defs = definitions c.args.scope.now in
+    walk_ends (line (operation defs)) numbered_inst (insts_in c.more.scope c.more.insts.items) c.more.numbering.next (left c.more.rest) (completed (walk numbered_inst c.args.numbering.now.next) (read (many (line (operation defs))) (left c.args.tokens)))
+    (sym (c.begins_line.ensures defs) ∙ c.more-test.false) c.more.invariant.reads

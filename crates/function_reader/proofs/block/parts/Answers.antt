@@ -1,17 +1,20 @@
-use Rattle.std.proofs.Common.{◌≡◌, [], ◌∷◌, ◌++◌, refl, sym, ap, ◌∙◌}
-use Rattle.std.proofs.lemmas.List.{map_push}
+use Rattle.std.proofs.Common.{◌≡◌, [], ◌∷◌, ◌++◌, refl, sym, ap, ◌∙◌, Vec, Global}
+use Rattle.std.proofs.lemmas.Result.{err_from_is_err_and}
 use Rattle.forms.specs.Form.{many}
 use Rattle.forms.specs.Reading.{read}
 use Rattle.forms.specs.Walk.{walk, completed}
 use Rattle.forms.specs.Gives.{left}
+use Rattle.forms.specs.declared.cursor.Cursor.{Cursor}
+use Rattle.ir_types.specs.declared.inst.Inst.{Inst}
 use Rattle.ir_types.specs.Offsets.{Definitions}
 use Rattle.ir_types.specs.Grammar.{line, operation, terminator}
 use Rattle.ir_types.specs.Numbered.{numbered_inst}
 use Rattle.ir_reader_ops.specs.Seen.{definitions, name_seen, inst_seen}
 use Rattle.ir_reader_ops.proofs.Widening.{widens_trans}
 use Rattle.ir_reader_ops.proofs.Pushing.{push_seen, push_steady}
-use Rattle.function_reader.specs.Blocks.{insts_in}
-use Rattle.function_reader.proofs.Parts.{block_found}
+use Rattle.type_reader.proofs.Same.{gives_failed}
+use Rattle.function_reader.specs.Blocks.{insts_in, block_read}
+use Rattle.function_reader.proofs.Parts.{block_found, insts_refused, last_refused}
 use Rattle.function_reader.proofs.block.parts.Goals as goal
 
 pub returns-clause-reads : goal.returns-clause-reads
@@ -45,3 +48,29 @@ returns-clause-stays c = λ later e.
     let all : c.from_vec.result ≡ before ++ last ∷ [] = c.from_vec.ensures ∙ c.in_ok-push.ensures.items in
     let insts : insts_in later c.from_vec.result ≡ insts_in n c.from_vec.result = push_steady inst_seen b n before c.from_vec.result last all c.in_ok-last.ensures.grows c.in_ok-insts.ensures.stays c.in_ok-last.ensures.stays later e in
     rw (name, insts) refl
+
+pub returns-in_err-insts-clause-reads : goal.returns-in_err-insts-clause-reads
+returns-in_err-insts-clause-reads c =
+    let p = err_from_is_err_and c.from_residual-in_err-insts.result c.from_residual-in_err-insts.ensures.1 in
+    let a = c.block_name.new in
+    let b = c.operations.new in
+    let defs = definitions c.args.scope.now in
+    let same = ap (λ (d : Definitions). completed (walk numbered_inst a.numbering.next) (read (many (line (operation d))) (left c.in_ok-name.rest))) (sym c.in_ok-name.ensures.grows.definitions) in
+    rw (p.1, p.2) (gives_failed (λ (x : Vec Inst Global × Cursor). ((insts_in b.scope x.0.items, b.numbering.next), left x.1)) (λ x. x) c.in_err-insts.field-0.0 _ (block_read defs c.args.numbering.now.next (left c.args.tokens))
+    (λ e. insts_refused defs c.args.numbering.now.next (name_seen a.scope c.in_ok-name.name, a.numbering.next) (left c.args.tokens) (left c.in_ok-name.rest) c.in_ok-name.ensures.reads (same ∙ e))
+    c.in_err-insts.ensures.reads)
+
+pub returns-in_err-last-clause-reads : goal.returns-in_err-last-clause-reads
+returns-in_err-last-clause-reads c =
+    let p = err_from_is_err_and c.from_residual-in_err-last.result c.from_residual-in_err-last.ensures.1 in
+    let a = c.block_name.new in
+    let b = c.operations.new in
+    let n = c.line.new in
+    let defs = definitions c.args.scope.now in
+    let in-a : definitions a.scope ≡ defs = c.in_ok-name.ensures.grows.definitions in
+    let in-b : definitions b.scope ≡ defs = c.in_ok-insts.ensures.grows.definitions ∙ in-a in
+    let insts-read = ap (λ (d : Definitions). completed (walk numbered_inst a.numbering.next) (read (many (line (operation d))) (left c.in_ok-name.rest))) (sym in-a) ∙ c.in_ok-insts.ensures.reads in
+    let same = ap (λ (d : Definitions). completed (numbered_inst b.numbering.next) (read (line (terminator d)) (left c.in_ok-insts.rest))) (sym in-b) in
+    rw (p.1, p.2) (gives_failed (λ (x : Inst × Cursor). ((inst_seen n.scope x.0, n.numbering.next), left x.1)) (λ x. x) c.in_err-last.field-0.0 _ (block_read defs c.args.numbering.now.next (left c.args.tokens))
+    (λ e. last_refused defs c.args.numbering.now.next (name_seen a.scope c.in_ok-name.name, a.numbering.next) (insts_in b.scope c.in_ok-insts.insts.items, b.numbering.next) (left c.args.tokens) (left c.in_ok-name.rest) (left c.in_ok-insts.rest) c.in_ok-name.ensures.reads insts-read (same ∙ e))
+    c.in_err-last.ensures.reads)

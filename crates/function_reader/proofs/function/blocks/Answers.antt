@@ -1,9 +1,12 @@
-use Rattle.std.proofs.Common.{◌≡◌, sym, ap, ◌∙◌, arith}
+use Rattle.std.proofs.Common.{sym, ap, ◌∙◌, arith}
+use Rattle.std.proofs.lemmas.Result.{err_from_is_err_and}
 use Rattle.forms.specs.Reading.{read}
 use Rattle.forms.specs.Walk.{walk, completed}
 use Rattle.forms.specs.Gives.{left}
-use Rattle.forms.proofs.Walks.{goes_completed, shorter_completed}
+use Rattle.forms.specs.declared.cursor.Cursor.{Cursor}
+use Rattle.forms.proofs.Walks.{goes_completed, shorter_completed, walk_fails, walk_ends}
 use Rattle.forms.proofs.Viewed.{count_viewed}
+use Rattle.ir_types.specs.declared.module.Block.{Block}
 use Rattle.ir_types.specs.Offsets.{Definitions}
 use Rattle.ir_types.specs.Grammar.{block, some}
 use Rattle.ir_types.specs.Numbered.{numbered_block}
@@ -11,6 +14,7 @@ use Rattle.ir_types.proofs.Decides.{block_takes}
 use Rattle.ir_reader_ops.specs.Seen.{definitions}
 use Rattle.ir_reader_ops.proofs.Widening.{widens_trans}
 use Rattle.ir_reader_ops.proofs.Pushing.{push_seen, push_steady}
+use Rattle.type_reader.proofs.Same.{gives_failed}
 use Rattle.function_reader.specs.Blocks.{block_seen}
 use Rattle.function_reader.specs.Functions.{blocks_in}
 use Rattle.function_reader.proofs.function.blocks.Goals as goal
@@ -37,3 +41,21 @@ more-preserved c =
           (completed (walk numbered_block c.args.numbering.now.next) (read (some (block defs)) (left c.args.tokens))) (block_takes defs) (sym (c.begins_block.ensures defs) ∙ c.more-test.true) same c.more.invariant.reads);
       stays = push_steady block_seen before now body c.push-in-more.new.self.items next c.in_ok-push-2.ensures.items grows c.more.invariant.stays c.in_ok-next.ensures.stays;
     }
+
+pub returns-in_err-next-clause-reads : goal.returns-in_err-next-clause-reads
+returns-in_err-next-clause-reads c =
+    let p = err_from_is_err_and c.from_residual-in_err-next.result c.from_residual-in_err-next.ensures.1 in
+    let before = c.more.scope in
+    let now = c.block-in-more.new in
+    let defs = definitions c.args.scope.now in
+    let same = ap (λ (d : Definitions). completed (numbered_block c.more.numbering.next) (read (block d) (left c.more.rest))) (sym c.more.invariant.grows.definitions) in
+    rw (p.1, p.2) (gives_failed (λ (x : Block × Cursor). ((block_seen now.scope x.0, now.numbering.next), left x.1)) (λ x. x) c.in_err-next.field-0.0 _
+    (completed (walk numbered_block c.args.numbering.now.next) (read (some (block defs)) (left c.args.tokens)))
+    (λ e. walk_fails (block defs) numbered_block (blocks_in before c.more.body.items) c.more.numbering.next (left c.more.rest) _ (block_takes defs) (sym (c.begins_block.ensures defs) ∙ c.more-test.true) (same ∙ e) c.more.invariant.reads)
+    c.in_err-next.ensures.reads)
+
+pub returns-clause-reads : goal.returns-clause-reads
+returns-clause-reads c =
+    let defs = definitions c.args.scope.now in
+    walk_ends (block defs) numbered_block (blocks_in c.more.scope c.more.body.items) c.more.numbering.next (left c.more.rest) (completed (walk numbered_block c.args.numbering.now.next) (read (some (block defs)) (left c.args.tokens)))
+    (sym (c.begins_block.ensures defs) ∙ c.more-test.false) c.more.invariant.reads

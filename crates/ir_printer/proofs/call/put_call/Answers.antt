@@ -9,6 +9,7 @@ returns c = rw (
   call_text c.args.callee.now c.args.ty (map (operand_in (tables_of c.args.m.now) c.args.names.now) c.args.operands.now),
   c.in_ok-push-3.ensures.items,
   c.in_ok-put_arguments.ensures,
+  c.as_slice.ensures,
   c.in_ok-push-2.ensures.items,
   c.in_ok-put_name.ensures,
   c.in_ok-extend_from_slice.ensures.items,

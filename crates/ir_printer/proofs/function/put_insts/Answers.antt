@@ -6,8 +6,8 @@ use Rattle.ir_printer.specs.Print.{inst_pieces}
 use Rattle.type_printer.proofs.Appended.{known_from, printed_next}
 use Rattle.ir_printer.proofs.function.put_insts.Goals as goal
 
-pub put_inst-requires : goal.put_inst-requires
-put_inst-requires c = (known_from (inst_in (tables_of c.args.m.now) c.args.names.now) IsInst c.args.insts.now c.loop-inst.inst-index c.inst-item.result (omega arith) c.inst-item.is c.loop-inst.invariant.known).0
+pub put_inst-requires-clause-known : goal.put_inst-requires-clause-known
+put_inst-requires-clause-known c = (known_from (inst_in (tables_of c.args.m.now) c.args.names.now) IsInst c.args.insts.now c.loop-inst.inst-index c.inst-item.result (omega arith) c.inst-item.is c.loop-inst.invariant.known).0
 
 pub loop-inst-preserved : goal.loop-inst-preserved
 loop-inst-preserved c = record {

@@ -1,6 +1,4 @@
-use Rattle.std.proofs.Common.{◌≡◌, ◌<◌, [], ◌∷◌, ◌++◌, length, take, get_or, sym, ap, ◌∙◌, arith}
-use Rattle.type_reader.specs.TypeTable.{with_type}
-use Rattle.ir_reader.specs.Typed.{with_types}
+use Rattle.std.proofs.Common.{length, take, sym, ap, ◌∙◌, arith}
 use Rattle.ir_reader.proofs.Setting.{with_none, with_length, set_next}
 use Rattle.ir_reader.proofs.named.set_types.Goals as goal
 

@@ -1,16 +1,7 @@
-use Rattle.std.proofs.Common.{List, ◌≡◌, length, sym, ap, ◌∙◌, arith, subst}
+use Rattle.std.proofs.Common.{length, sym, ap, ◌∙◌, arith}
 use Rattle.forms.specs.Gives.{left}
-use Rattle.ir_types.specs.TypeNodes.{TypeNode, type_nodes}
-use Rattle.type_reader.specs.TypeTable.{names_of, LooksUpAll}
 use Rattle.item_reader.specs.Sources.{nodes_read, nodes_or_none}
-use Rattle.item_reader.specs.Parts.{nodes_of}
 use Rattle.ir_reader.proofs.named.type_at.Goals as goal
-
-pub returns-in-Ok-clause-names_grow : goal.returns-in-Ok-clause-names_grow
-unfolding nodes_read
-returns-in-Ok-clause-names_grow c =
-    let read = ap nodes_or_none (c.in-Ok.ensures.reads (length (left c.args.source.tokens)) (omega arith)) in
-    subst (λ (nodes : List TypeNode). LooksUpAll c.args.names.now nodes c.memory_type.new.names) (sym read) c.in-Ok.ensures.names
 
 pub returns-in-Ok-clause-stands : goal.returns-in-Ok-clause-stands
 unfolding nodes_read

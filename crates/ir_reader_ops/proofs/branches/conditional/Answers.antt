@@ -13,9 +13,9 @@ returns-clause-reads c =
     let value = c.in_ok-condition.ensures.stays n (widens_trans a b n c.in_ok-then.ensures.grows c.in_ok-otherwise.ensures.grows) in
     let then = c.in_ok-then.ensures.stays n c.in_ok-otherwise.ensures.grows in
     rw (c.bare.ensures, c.in_ok-args.ensures, c.in_ok-labels.ensures, value, then)
-      (conditional_reads (definitions c.args.scope.now) (operand_seen a c.in_ok-condition.condition) (name_seen b c.in_ok-then.then) (name_seen n c.in_ok-otherwise.otherwise)
-        (left c.args.tokens) (left c.in_ok-condition.rest) (left c.in_ok-then.rest) (left c.in_ok-otherwise.rest)
-        c.in_ok-condition.ensures.reads c.in_ok-then.ensures.reads c.in_ok-otherwise.ensures.reads)
+    (conditional_reads (definitions c.args.scope.now) (operand_seen a c.in_ok-condition.condition) (name_seen b c.in_ok-then.then) (name_seen n c.in_ok-otherwise.otherwise)
+    (left c.args.tokens) (left c.in_ok-condition.rest) (left c.in_ok-then.rest) (left c.in_ok-otherwise.rest)
+    c.in_ok-condition.ensures.reads c.in_ok-then.ensures.reads c.in_ok-otherwise.ensures.reads)
 
 pub returns-clause-stays : goal.returns-clause-stays
 returns-clause-stays c = λ later e.

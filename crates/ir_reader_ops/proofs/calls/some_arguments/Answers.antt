@@ -51,8 +51,8 @@ returns-in_err-actual-2-clause-reads c =
     let p = err_from_is_err_and c.from_residual-in_err-actual-2.result c.from_residual-in_err-actual-2.ensures.1 in
     let same : read (marked Comma (argument defs)) (left c.more.rest) ≡ read (marked Comma (argument (definitions before))) (left c.more.rest) = ap (λ (d : Definitions). read (marked Comma (argument d)) (left c.more.rest)) (sym c.more.invariant.grows.definitions) in
     rw (p.1, p.2) (fails (λ (x : (Actual × Operand) × Cursor). (actual_in now x.0, left x.1)) c.in_err-actual-2.field-0.0 _ _
-      (λ e. fails_two form c.more.actuals.items (map (operand_seen before) c.more.values) (left c.more.rest) (some_arguments_read defs (left c.args.tokens)) refl (sym (c.another.ensures defs) ∙ c.more-test.true) (same ∙ e) c.more.invariant.reads)
-      c.in_err-actual-2.ensures.reads)
+    (λ e. fails_two form c.more.actuals.items (map (operand_seen before) c.more.values) (left c.more.rest) (some_arguments_read defs (left c.args.tokens)) refl (sym (c.another.ensures defs) ∙ c.more-test.true) (same ∙ e) c.more.invariant.reads)
+    c.in_err-actual-2.ensures.reads)
 
 pub returns-clause-reads : goal.returns-clause-reads
 returns-clause-reads c =

@@ -61,8 +61,8 @@ returns-in_err-width-2-clause-reads c =
     let p = err_from_is_err_and c.from_residual-in_err-width-2.result c.from_residual-in_err-width-2.ensures.1 in
     let same : read (next_index defs) (left c.more.rest) ≡ read (next_index (definitions before)) (left c.more.rest) = ap (λ (d : Definitions). read (next_index d) (left c.more.rest)) (sym c.more.invariant.grows.definitions) in
     rw (p.1, p.2) (fails (λ (x : (ℕ × Operand) × Cursor). (typed_in now x.0, left x.1)) c.in_err-width-2.field-0.0 _ _
-      (λ e. fails_two (next_index defs) c.more.widths.items (map (operand_seen before) c.more.operands) (left c.more.rest) (indexes_read defs (map (operand_seen c.args.scope.now) c.args.before) (left c.args.tokens)) (next_takes defs) (sym (c.another.ensures defs) ∙ c.more-test.true) (same ∙ e) c.more.invariant.reads)
-      c.in_err-width-2.ensures.reads)
+    (λ e. fails_two (next_index defs) c.more.widths.items (map (operand_seen before) c.more.operands) (left c.more.rest) (indexes_read defs (map (operand_seen c.args.scope.now) c.args.before) (left c.args.tokens)) (next_takes defs) (sym (c.another.ensures defs) ∙ c.more-test.true) (same ∙ e) c.more.invariant.reads)
+    c.in_err-width-2.ensures.reads)
 
 pub returns-clause-reads : goal.returns-clause-reads
 returns-clause-reads c =

@@ -18,8 +18,8 @@ returns-in_err-widths-clause-reads c =
     let p = err_from_is_err_and c.from_residual-in_err-widths.result c.from_residual-in_err-widths.ensures.1 in
     let same : indexes_read defs (operand_seen a pointer ∷ []) (left c.in_ok-pointer.rest) ≡ indexes_read (definitions a) (map (operand_seen a) c.in_ok-before.before) (left c.in_ok-pointer.rest) = rw (c.in_ok-pointer.ensures.grows.definitions, c.in_ok-before.ensures) refl in
     rw (p.1, p.2) (fails (λ (x : (Vec ℕ Global × Few Operand 4) × Cursor). (steps_in c.indexes.new.scope (x.0.0.items, x.0.1), left x.1)) c.in_err-widths.field-0.0 _ _
-      (λ e. steps_behind defs (operand_seen a pointer) (left c.args.tokens) (left c.in_ok-pointer.rest) c.in_ok-pointer.ensures.reads ∙ same ∙ e)
-      c.in_err-widths.ensures.reads)
+    (λ e. steps_behind defs (operand_seen a pointer) (left c.args.tokens) (left c.in_ok-pointer.rest) c.in_ok-pointer.ensures.reads ∙ same ∙ e)
+    c.in_err-widths.ensures.reads)
 
 pub returns-clause-reads : goal.returns-clause-reads
 returns-clause-reads c =

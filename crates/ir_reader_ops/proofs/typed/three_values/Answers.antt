@@ -18,11 +18,11 @@ returns-clause-reads c =
     let first = c.in_ok-first.ensures.stays n (widens_trans a b n c.in_ok-second.ensures.grows later) in
     let second = c.in_ok-second.ensures.stays n later in
     rw (first, second)
-      (three_apart (typed_value defs) (comma_typed defs) (comma_typed defs) (typed_in a c.in_ok-first.first) (typed_in b c.in_ok-second.second) (typed_in n c.in_ok-third.third)
-        (left c.args.tokens) (left c.in_ok-first.rest) (left c.in_ok-second.rest) (left c.in_ok-third.rest)
-        c.in_ok-first.ensures.reads
-        (by_definitions comma_typed defs (definitions a) (left c.in_ok-first.rest) c.in_ok-first.ensures.grows.definitions ∙ c.in_ok-second.ensures.reads)
-        (by_definitions comma_typed defs (definitions b) (left c.in_ok-second.rest) (c.in_ok-second.ensures.grows.definitions ∙ c.in_ok-first.ensures.grows.definitions) ∙ c.in_ok-third.ensures.reads))
+    (three_apart (typed_value defs) (comma_typed defs) (comma_typed defs) (typed_in a c.in_ok-first.first) (typed_in b c.in_ok-second.second) (typed_in n c.in_ok-third.third)
+    (left c.args.tokens) (left c.in_ok-first.rest) (left c.in_ok-second.rest) (left c.in_ok-third.rest)
+    c.in_ok-first.ensures.reads
+    (by_definitions comma_typed defs (definitions a) (left c.in_ok-first.rest) c.in_ok-first.ensures.grows.definitions ∙ c.in_ok-second.ensures.reads)
+    (by_definitions comma_typed defs (definitions b) (left c.in_ok-second.rest) (c.in_ok-second.ensures.grows.definitions ∙ c.in_ok-first.ensures.grows.definitions) ∙ c.in_ok-third.ensures.reads))
 
 pub returns-clause-stays : goal.returns-clause-stays
 returns-clause-stays c = λ later e.

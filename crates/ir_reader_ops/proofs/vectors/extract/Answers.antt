@@ -18,8 +18,8 @@ returns-in_err-width-clause-reads c =
     let behind = left c.in_ok-ty.rest in
     let p = err_from_is_err_and c.from_residual-in_err-width.result c.from_residual-in_err-width.ensures.1 in
     rw (p.1, p.2) (fails (λ (x : (ℕ × Operand) × Cursor). (typed_in n x.0, left x.1)) c.in_err-width.field-0.0 _ _
-      (λ e. extract_fails defs (typed_in a (c.in_ok-ty.ty, c.in_ok-ty.vector)) (left c.args.tokens) behind c.in_ok-ty.ensures.reads (by_definitions index_behind defs (definitions a) behind c.in_ok-ty.ensures.grows.definitions ∙ e))
-      c.in_err-width.ensures.reads)
+    (λ e. extract_fails defs (typed_in a (c.in_ok-ty.ty, c.in_ok-ty.vector)) (left c.args.tokens) behind c.in_ok-ty.ensures.reads (by_definitions index_behind defs (definitions a) behind c.in_ok-ty.ensures.grows.definitions ∙ e))
+    c.in_err-width.ensures.reads)
 
 pub returns-clause-reads : goal.returns-clause-reads
 returns-clause-reads c =
@@ -30,8 +30,8 @@ returns-clause-reads c =
     let grows = c.in_ok-width.ensures.grows in
     let vector : operand_seen n c.in_ok-ty.vector ≡ operand_seen a c.in_ok-ty.vector = ap (λ x. x.1) (c.in_ok-ty.ensures.stays n grows) in
     rw (c.applied.ensures, c.in_ok-args.ensures, c.element_of.ensures, vector)
-      (extract_reads defs (typed_in a (c.in_ok-ty.ty, c.in_ok-ty.vector)) (typed_in n (c.in_ok-width.width, c.in_ok-width.index)) (left c.args.tokens) behind (left c.in_ok-width.rest)
-        c.in_ok-ty.ensures.reads (by_definitions index_behind defs (definitions a) behind c.in_ok-ty.ensures.grows.definitions ∙ c.in_ok-width.ensures.reads))
+    (extract_reads defs (typed_in a (c.in_ok-ty.ty, c.in_ok-ty.vector)) (typed_in n (c.in_ok-width.width, c.in_ok-width.index)) (left c.args.tokens) behind (left c.in_ok-width.rest)
+    c.in_ok-ty.ensures.reads (by_definitions index_behind defs (definitions a) behind c.in_ok-ty.ensures.grows.definitions ∙ c.in_ok-width.ensures.reads))
 
 pub returns-clause-stays : goal.returns-clause-stays
 returns-clause-stays c = λ later e.

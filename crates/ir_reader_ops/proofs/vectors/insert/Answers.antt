@@ -20,11 +20,11 @@ returns-clause-reads c =
     let vector : operand_seen n c.in_ok-ty.vector ≡ operand_seen a c.in_ok-ty.vector = ap (λ x. x.1) (c.in_ok-ty.ensures.stays n (widens_trans a b n c.in_ok-element.ensures.grows grows)) in
     let value : operand_seen n c.in_ok-element.value ≡ operand_seen b c.in_ok-element.value = ap (λ x. x.1) (c.in_ok-element.ensures.stays n grows) in
     rw (c.applied.ensures, c.in_ok-args.ensures, vector, value)
-      (insert_reads defs (typed_in a (c.in_ok-ty.ty, c.in_ok-ty.vector)) (typed_in b (c.in_ok-element.element, c.in_ok-element.value)) (typed_in n (c.in_ok-width.width, c.in_ok-width.index))
-        (left c.args.tokens) at_element at_index (left c.in_ok-width.rest)
-        c.in_ok-ty.ensures.reads
-        (by_definitions comma_typed defs (definitions a) at_element same ∙ c.in_ok-element.ensures.reads)
-        (by_definitions index_behind defs (definitions b) at_index (c.in_ok-element.ensures.grows.definitions ∙ same) ∙ c.in_ok-width.ensures.reads))
+    (insert_reads defs (typed_in a (c.in_ok-ty.ty, c.in_ok-ty.vector)) (typed_in b (c.in_ok-element.element, c.in_ok-element.value)) (typed_in n (c.in_ok-width.width, c.in_ok-width.index))
+    (left c.args.tokens) at_element at_index (left c.in_ok-width.rest)
+    c.in_ok-ty.ensures.reads
+    (by_definitions comma_typed defs (definitions a) at_element same ∙ c.in_ok-element.ensures.reads)
+    (by_definitions index_behind defs (definitions b) at_index (c.in_ok-element.ensures.grows.definitions ∙ same) ∙ c.in_ok-width.ensures.reads))
 
 pub returns-clause-stays : goal.returns-clause-stays
 returns-clause-stays c = λ later e.

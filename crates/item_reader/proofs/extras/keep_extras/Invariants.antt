@@ -1,4 +1,4 @@
-use Rattle.std.proofs.Common.{◌≡◌, length}
+use Rattle.std.proofs.Common.{length}
 use Rattle.forms.specs.Gives.{left}
 use Rattle.item_reader.proofs.Loops.{ExtrasSoFar}
 use Rattle.item_reader.proofs.extras.keep_extras.Given as goal

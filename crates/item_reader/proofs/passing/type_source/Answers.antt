@@ -1,9 +1,8 @@
-use Rattle.std.proofs.Common.{◌≡◌, true, refl, sym, ap, ◌∙◌, arith}
+use Rattle.std.proofs.Common.{sym, ap, ◌∙◌, arith}
 use Rattle.std.specs.Prelude.{length, is_some}
 use Rattle.forms.specs.Gives.{left}
 use Rattle.type_reader.specs.TypeTable.{names_of}
-use Rattle.ir_types.specs.Collected.{names_used}
-use Rattle.ir_types.specs.TypeNodes.{type_nodes}
+use Rattle.ir_types.specs.TypeNodes.{names_used, type_nodes}
 use Rattle.ir_limits.specs.Limits.{first_long}
 use Rattle.item_reader.specs.Sources.{type_read, nodes_or_none, nodes_read}
 use Rattle.item_reader.proofs.Longs.{of_scratch}

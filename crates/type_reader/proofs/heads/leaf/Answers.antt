@@ -1,4 +1,3 @@
-use Rattle.std.proofs.Common.{sym}
 use Rattle.type_reader.proofs.LookUps.{looks_up_one, looks_up_this}
 use Rattle.type_reader.proofs.heads.leaf.Goals as goal
 

@@ -1,11 +1,12 @@
-use Rattle.std.proofs.Common.{◌≡◌, List, length, ◌∙◌, arith}
+use Rattle.std.proofs.Common.{◌≡◌, List, length, Result, Err, ◌∙◌, arith}
 use Rattle.std.proofs.lemmas.Result.{err_from_is_err_and}
 use Rattle.forms.specs.declared.cursor.Cursor.{Cursor}
+use Rattle.forms.specs.declared.cursor.SyntaxFault.{SyntaxFault}
 use Rattle.forms.specs.Form.{Lexeme}
-use Rattle.forms.specs.Gives.{left}
+use Rattle.forms.specs.Gives.{Gives, left}
 use Rattle.forms.specs.Reading.{read}
 use Rattle.ir_types.specs.declared.memory_type.TypeId.{TypeId}
-use Rattle.ir_types.specs.TypeNodes.{type_nodes}
+use Rattle.ir_types.specs.TypeNodes.{TypeNode, type_nodes}
 use Rattle.ir_types.specs.Grammar.{memory_type, inst_memory}
 use Rattle.ir_types.proofs.InstMemory.{inst_memory_reads}
 use Rattle.type_reader.specs.TypeTable.{names_of}
@@ -17,13 +18,17 @@ use Rattle.type_reader.proofs.tables.read_type.Goals as goal
 as_any : (ts : List Lexeme) → read inst_memory ts ≡ read (memory_type (length ts)) ts
 as_any ts = inst_memory_reads (length ts) ts (omega arith)
 
+-- what a type's own fault says of any memory type
+refused : (view other : TypeId × Cursor → List TypeNode × List Lexeme) (ts : List Lexeme) (r : Result (TypeId × Cursor) SyntaxFault) (fault e : SyntaxFault) → r ≡ Err e → e ≡ fault → Gives view (Err fault) (read (memory_type (length ts)) ts) → Gives other r (read inst_memory ts)
+refused view other ts r fault e p q g = rw (p, q) (gives_failed view other fault (read (memory_type (length ts)) ts) (read inst_memory ts) (λ n. as_any ts ∙ n) g)
+
 pub returns-in_err-id-clause-reads : goal.returns-in_err-id-clause-reads
 returns-in_err-id-clause-reads c =
     let ts = left c.args.tokens in
     let p = err_from_is_err_and c.from_residual.result c.from_residual.ensures.1 in
     let names = names_of c.memory_type.new.names in
     let types = c.memory_type.new.types.items in
-    rw (p.1, p.2) (gives_failed (λ (x : TypeId × Cursor). (type_nodes names types x.0, left x.1)) _ c.in_err-id.field-0.0 _ _ (λ e. as_any ts ∙ e) (c.in_err-id.ensures.reads (length ts) (omega arith)))
+    refused (λ (x : TypeId × Cursor). (type_nodes names types x.0, left x.1)) _ ts c.from_residual.result c.in_err-id.field-0.0 p.0 p.1 p.2 (c.in_err-id.ensures.reads (length ts) (omega arith))
 
 pub extents_behind-requires-clause-first : goal.extents_behind-requires-clause-first
 extents_behind-requires-clause-first c =

@@ -1,5 +1,4 @@
-use Rattle.std.proofs.Common.{◌≡◌, sym, ap, inl, inr, refl, length, ◌∙◌, arith}
-use Rattle.ir_types.specs.declared.memory_type.NamedType.TheVariants.{Missing}
+use Rattle.std.proofs.Common.{◌≡◌, sym, ap, inl, inr, refl, length, arith}
 use Rattle.type_reader.specs.TypeTable.{names_of, missing_entry}
 use Rattle.type_reader.proofs.FirstPlaces.{place_found, name_contained, not_contained, place_new, count, names_push}
 use Rattle.type_reader.proofs.type_names.TypeNames.place_of.Goals as goal

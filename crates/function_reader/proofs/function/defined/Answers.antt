@@ -1,0 +1,15 @@
+use Rattle.std.proofs.Common.{ap, ◌∙◌}
+use Rattle.forms.specs.Gives.{left}
+use Rattle.ir_types.specs.Denotes.{function_in}
+use Rattle.type_reader.specs.Tables.{TableLists, tables_in, definitions_of}
+use Rattle.type_reader.proofs.Same.{gives_same}
+use Rattle.function_reader.specs.Functions.{defined_read}
+use Rattle.function_reader.proofs.Bodies.{defined_is}
+use Rattle.function_reader.proofs.function.defined.Goals as goal
+
+pub returns-clause-reads : goal.returns-clause-reads
+returns-clause-reads c =
+    let tables = c.defined_over-grown.result.0 in
+    let ts = left c.args.tokens in
+    gives_same (λ x. (function_in (tables_in tables) x.0, left x.1)) c.defined_over-grown.result.1 _ _
+    (ap (λ (t : TableLists). defined_read (definitions_of t) ts) c.replace-given.ensures.value ∙ defined_is (definitions_of c.args.tables.now) ts) c.defined_over-grown.ensures.reads

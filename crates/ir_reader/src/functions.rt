@@ -1,0 +1,55 @@
+// Functions are read, when it is known what names of types stand for.
+
+ghost use Rattle.std.specs.Prelude.{◌≡◌, map, IfOk};
+ghost use Rattle.std.specs.List.{AllByRecursion};
+ghost use Rattle.forms.specs.Gives.{Gives};
+ghost use Rattle.ir_types.specs.declared.module.Function.{Function};
+ghost use Rattle.ir_types.specs.Names.{IsTable};
+ghost use Rattle.ir_types.specs.Denotes.{function_in};
+ghost use Rattle.type_reader.specs.Tables.{TableLists, tables_in, definitions_of, Grows};
+ghost use Rattle.ir_reader.specs.Gathered.{skimmed_of};
+ghost use Rattle.ir_reader.specs.Reading.{function_read, functions_read};
+
+use forms::SyntaxFault;
+use function_reader::{declared, defined};
+use ir_types::Function;
+use item_reader::FunctionSource;
+use std::alloc::Global;
+use type_reader::Tables;
+
+/// The function that stands there.
+fn function(
+    alloc: Global,
+    source: &FunctionSource<'_>,
+    tables: &mut Tables,
+) -> Result<Function, SyntaxFault>
+    ensures grows { Grows tables.old tables.new }
+    ensures reads { Gives (λ f. function_in (tables_in tables.new) f) result (function_read (definitions_of tables.old) (skimmed_of source.now)) }
+    ensures stays { IfOk result (λ f. (later : TableLists) → Grows tables.new later → function_in (tables_in later) f ≡ function_in (tables_in tables.new) f) }
+    ensures table { IfOk result (λ f. IsTable f.names) }
+{
+    if source.defined {
+        let (function, _) = defined(alloc, source.tokens, tables)?;
+        return Ok(function);
+    }
+    let (function, _) = declared(alloc, source.tokens)?;
+    Ok(function)
+}
+
+/// The functions, in their order.
+pub fn functions(
+    alloc: Global,
+    sources: &[FunctionSource<'_>],
+    tables: &mut Tables,
+) -> Result<Vec<Function>, SyntaxFault>
+    ensures grows { Grows tables.old tables.new }
+    ensures reads { Gives (λ fs. map (function_in (tables_in tables.new)) fs.items) result (functions_read (definitions_of tables.old) (map skimmed_of sources.now)) }
+    ensures tables { IfOk result (λ fs. AllByRecursion (λ (f : Function). IsTable f.names) fs.items) }
+{
+    let mut functions = Vec::with_capacity(alloc, sources.len())?;
+    for source in sources {
+        let function = function(alloc, source, tables)?;
+        functions.push(function)?;
+    }
+    Ok(functions)
+}
