@@ -16,6 +16,8 @@ mod gather;
 mod longs;
 mod named;
 mod symbols;
+#[cfg(test)]
+mod tests;
 
 use crate::build::module;
 use crate::gather::{Gathered, gather};
@@ -24,7 +26,7 @@ use ir_types::Module;
 use std::alloc::Global;
 use text_lex::{Count, TEXT_LIMIT, TextFault, lex};
 
-/// The first fault in reading left to right, where items were gathered up to this one: a function before it may have another.
+/// The first fault in reading from left to right, where items were gathered up to this one: a function among them may have one before.
 fn first_fault(alloc: Global, gathered: Gathered<'_>, fault: SyntaxFault) -> SyntaxFault
     ensures { fault ≡ Memory → result ≡ Memory }
 {
