@@ -1,5 +1,5 @@
 -- What is made of one thing after another.
-use Rattle.std.proofs.Common.{◌≤◌, ℕ, List, [], ◌∷◌, ◌++◌, map, refl, sym, ap, ◌∙◌, arith}
+use Rattle.std.proofs.Common.{◌≤◌, ℕ, List, [], ◌∷◌, ◌++◌, map, sym, ap, ◌∙◌, arith}
 use Rattle.std.specs.List.{AllByRecursion}
 use Rattle.std.proofs.lemmas.List.{map_push}
 use Rattle.forms.specs.View.{Extends}
@@ -9,15 +9,12 @@ use Rattle.ir_types.specs.declared.memory_type.TypeName.{TypeName}
 use Rattle.ir_types.specs.declared.memory_type.NamedType.{NamedType}
 use Rattle.ir_types.specs.declared.memory_type.NamedType.TheVariants.{Defined, Opaque, Missing}
 use Rattle.ir_types.specs.Types.{AreTypes}
-use Rattle.ir_types.proofs.NameAt.{extends_refl, extends_trans}
+use Rattle.ir_types.proofs.NameAt.{extends_trans}
 use Rattle.type_reader.specs.TypeTable.{names_of, LooksUpSome}
-use Rattle.type_reader.proofs.LookUps.{looks_up_nothing, looks_up_further}
+use Rattle.type_reader.proofs.LookUps.{looks_up_further}
 use Rattle.type_reader.proofs.Holding.{names_extend}
 use Rattle.type_reader.proofs.Enlarged.{looked_extend}
 use Rattle.ir_reader.specs.Typed.{Stands, Made, StandsBefore}
-
-pub none_made : {A B C : Type 0} (over : List Name → List MemTy → B → C) (tree : A → C) (base : List TypeName) (start : List MemTy) → AreTypes (names_of base) 0 start → Made over tree base start [] [] base start
-none_made over tree base start are = record { types_grow = extends_refl start; are = are; names_grow = looks_up_nothing base; stands = λ later others n t. refl }
 
 pub made_more : {A B C : Type 0} (over : List Name → List MemTy → B → C) (tree : A → C) (base names new : List TypeName) (start types others : List MemTy) (done : List A) (made : List B) (a : A) (b : B) → Made over tree base start done made names types
     → Extends types others → AreTypes (names_of new) 0 others → LooksUpSome names new → Stands over new others b (tree a) → Made over tree base start (done ++ a ∷ []) (made ++ b ∷ []) new others

@@ -16,6 +16,8 @@ mod gather;
 mod longs;
 mod named;
 mod symbols;
+#[cfg(test)]
+mod tests;
 
 use crate::build::module;
 use crate::gather::{Gathered, gather};
@@ -24,7 +26,8 @@ use ir_types::Module;
 use std::alloc::Global;
 use text_lex::{Count, TEXT_LIMIT, TextFault, lex};
 
-/// The first fault in reading left to right, where items were gathered up to this one: a function before it may have another.
+/// The first fault in reading from left to right, where items were gathered up to this one: a function among them may have one before.
+/// (Names of types stand there for what the gathered items define.)
 fn first_fault(alloc: Global, gathered: Gathered<'_>, fault: SyntaxFault) -> SyntaxFault
     ensures { fault ≡ Memory → result ≡ Memory }
 {
@@ -68,8 +71,9 @@ fn stop(tokens: &[Token], place: u32, end: u32) -> u32
 ///
 /// # Errors
 ///
-/// Those of `lex`; then `NoReading` with the place of the first token at which reading from left to right stops, or the text's length;
-/// then `CountLimit` with the first limit that the module passes; and `Memory` where there is no room.
+/// Those of `lex`; then `NoReading` with the place of the first token at which reading from left to right stops, or the text's length
+/// (of a function whose brackets don't match, the place where they don't); then `CountLimit` with the first limit that the module
+/// passes; and `Memory` where there is no room.
 pub fn read_module(alloc: Global, text: &[u8]) -> Result<Module, TextFault>
     ensures module { IfOk result (λ m. IsWithinLimits text.now m) }
     ensures within { OnOk result (length text.now ≤ TEXT_LIMIT) }
