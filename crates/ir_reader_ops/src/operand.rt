@@ -121,6 +121,7 @@ fn lanes_at(
 }
 
 /// How many bytes behind a symbol the indexes lead through a memory type.
+#[tactic(auto, unfolding(crate::specs::Seen::definitions))]
 fn offset(
     id: TypeId,
     indexes: &[Index],
