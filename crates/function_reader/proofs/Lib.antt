@@ -1,7 +1,9 @@
 pub mod Modulo
-pub mod Branches
-pub mod Lines
 pub mod Chains
+pub mod Operands
+pub mod Split
+pub mod Conditions
+pub mod Lines
 pub mod Parts
 pub mod Functions
 pub mod Dotted

@@ -1,10 +1,13 @@
 -- A line: an instruction, and the name of its result before it where one is written.
-use Rattle.std.proofs.Common.{◌≡◌, ℕ, Bool, true, false, cond, ◌&&◌, ◌||◌, eqb, List, [], ◌∷◌, ◌++◌, Option, Some, None, refl, sym, ap, ◌∙◌}
+use Rattle.std.proofs.Common.{◌≡◌, ℕ, Bool, true, false, cond, ◌&&◌, ◌||◌, eqb, List, [], ◌∷◌, ◌++◌, codes, Option, Some, None, refl, sym, ap, ◌∙◌, true≢false}
+use Rattle.std.proofs.lemmas.List.{append-nil}
 use Rattle.std.specs.Option.{is_some}
 use Rattle.forms.specs.declared.TokenKind.{TokenKind}
 use Rattle.forms.specs.declared.TokenKind.TheVariants.{Local, Equal, Word}
 use Rattle.forms.specs.Form.{Lexeme, Form, by_word, kind_code, entry}
-use Rattle.forms.specs.Reading.{◌>>=◌, Terminal, fits, fits_one, next_in, words_of, marks_then, read, opens}
+use Rattle.forms.specs.Reading.{◌>>=◌, Terminal, this, any_of, fits, fits_one, next_in, marks_then, nullable, first, all_apart, read, opens}
+use Rattle.forms.proofs.Begins.{opened, all_apart_none}
+use Rattle.forms.proofs.Fronts.{front}
 use Rattle.forms.proofs.Tables.{word_next}
 use Rattle.ir_types.specs.declared.name.Name.{Name}
 use Rattle.ir_types.specs.declared.inst.Ty.{Ty}
@@ -15,6 +18,19 @@ use Rattle.ir_types.specs.Numbered.{numbered_inst, named_result, next_after}
 use Rattle.function_reader.specs.Lines.{tok, result_next, Found, named_so, plainly, form_at}
 use Rattle.function_reader.specs.declared.inst.Place.{Place}
 use Rattle.function_reader.specs.declared.inst.Place.TheVariants.{Inside, Last}
+
+-- where a form doesn't begin that takes a token, nothing is read
+pub not_begun : {A : Type 0} (f : Form A) (ts : List Lexeme) → nullable f ≡ false → opens f ts ≡ false → read f ts ≡ None
+not_begun {A} f ts n o = by (read f ts) refl
+  where
+    by : (r : Option (A × List Lexeme)) → read f ts ≡ r → r ≡ None
+    by None e = refl
+    by (Some x) e =
+        let t = front f ts x e in
+        let begun : opens f ts ≡ true = ap (λ (us : List Lexeme). opens f us) t.parts ∙ opened (first f) (nullable f) t.used x.1 n t.spelled in
+        absurd (true≢false (sym begun ∙ o))
+
+-- ---- which tokens fit
 
 nothing_fits : (ss : List Terminal) → fits_one [] ss ≡ false
 nothing_fits [] = refl
@@ -36,94 +52,6 @@ fits_is_next : (ts : List Lexeme) (ss : List Terminal) → fits_one ts ss ≡ ne
 fits_is_next [] ss = nothing_fits ss
 fits_is_next (t ∷ ts) ss = refl
 
--- a word that is not in the table is not read
-unread : {K A : Type 0} (table : List (List ℕ × K)) (g : K → Form A) (ts : List Lexeme) → next_in (words_of table) ts ≡ false → read (by_word table g) ts ≡ None
-unread table g [] e = refl
-unread {K} {A} table g (t ∷ ts) e = by (eqb (kind_code t.kind) (kind_code Word)) (entry table t.text) (sym (word_next table t ts) ∙ e)
-  where
-    by : (b : Bool) (o : Option K) → (b && is_some o) ≡ false → cond b (o >>= λ k. read (g k) ts) None ≡ None
-    by true None h = refl
-    by true (Some k) h = absurd cc
-    by false o h = refl
-
-named_opens : {K : Type 0} (table : List (List ℕ × K)) (w v : List ℕ) (us : List Lexeme) → next_in (marks_then Local (marks_then Equal (words_of table))) (tok Local w ∷ tok Equal v ∷ us) ≡ next_in (words_of table) us
-named_opens table w v us =
-    marks_fit Local (tok Local w) (tok Equal v ∷ us) (marks_then Equal (words_of table)) ∙ marks_fit Equal (tok Equal v) us (words_of table) ∙ fits_is_next us (words_of table)
-
-abbrev behind_equal : List ℕ → Found → Option ((List ℕ × InstTree) × List Lexeme)
-behind_equal v r = r >>= λ y. Some ((v, y.0), y.1)
-
-abbrev behind_name : List ℕ → Option ((List ℕ × InstTree) × List Lexeme) → Option ((List ℕ × (List ℕ × InstTree)) × List Lexeme)
-behind_name w r = r >>= λ y. Some ((w, y.0), y.1)
-
-abbrev with_its_name : Option ((List ℕ × (List ℕ × InstTree)) × List Lexeme) → Found
-with_its_name r = r >>= λ x. with_result x.0 >>= λ b. Some (b, x.1)
-
-same : (w v : List ℕ) (r : Found) → with_its_name (behind_name w (behind_equal v r)) ≡ named_so w v r
-same w v None = refl
-same w v (Some y) = refl
-
--- what is read behind `%name =`
-pub read_named : {K : Type 0} (table : List (List ℕ × K)) (g : K → Form InstTree) (w v : List ℕ) (us : List Lexeme)
-    → read (line (by_word table g)) (tok Local w ∷ tok Equal v ∷ us) ≡ named_so w v (read (by_word table g) us)
-read_named {K} table g w v us =
-    let f = by_word table g in
-    rw (named_opens table w v us)
-    (elim (next_in (words_of table) us) as (λ b. next_in (words_of table) us ≡ b → cond b (with_its_name (behind_name w (behind_equal v (read f us)))) None ≡ named_so w v (read f us)) [
-      | true ↦ λ e. same w v (read f us)
-      | false ↦ λ e. sym (ap (named_so w v) (unread table g us e))
-    ] refl)
-
-neither : (a b c : Bool) → ((a && b) || false) ≡ false → (a && (b && c)) ≡ false
-neither true true c e = absurd cc
-neither true false c e = refl
-neither false b c e = refl
-
-plain_opens : {K : Type 0} (table : List (List ℕ × K)) (ts : List Lexeme) → result_next ts ≡ false → next_in (marks_then Local (marks_then Equal (words_of table))) ts ≡ false
-plain_opens table [] e = refl
-plain_opens table (t ∷ []) e = marks_fit Local t [] (marks_then Equal (words_of table)) ∙ ap (λ (b : Bool). eqb (kind_code t.kind) (kind_code Local) && b) (nothing_fits (marks_then Equal (words_of table))) ∙ and_false (eqb (kind_code t.kind) (kind_code Local))
-plain_opens table (t ∷ u ∷ us) e =
-    marks_fit Local t (u ∷ us) (marks_then Equal (words_of table))
-    ∙ ap (λ (b : Bool). eqb (kind_code t.kind) (kind_code Local) && b) (marks_fit Equal u us (words_of table))
-    ∙ neither (eqb (kind_code t.kind) (kind_code Local)) (eqb (kind_code u.kind) (kind_code Equal)) (fits_one us (words_of table)) e
-
--- what is read where no `%name =` stands next
-pub read_plain : {K : Type 0} (table : List (List ℕ × K)) (g : K → Form InstTree) (ts : List Lexeme) → result_next ts ≡ false
-    → read (line (by_word table g)) ts ≡ plainly (read (by_word table g) ts)
-read_plain table g ts e = rw (plain_opens table ts e) refl
-
--- a written name is kept, and a number in it counts
-named_written : (next : ℕ) (t : Ty) (n : Name) → named_result next t (Some n) ≡ Some (Some n, next_after next n)
-named_written next (Int w) n = refl
-named_written next Ptr n = refl
-named_written next (Vector l w) n = refl
-named_written next Void n = refl
-
-pub numbered_named : (next : ℕ) (n : Name) (i : InstTree) → numbered_inst next (named_by i (Some n)) ≡ Some (named_by i (Some n), next_after next n)
-numbered_named next n i = ap (λ (r : Option _). r >>= λ x. Some (named_by i x.0, x.1)) (named_written next i.ty n)
-
--- at each place of a block
-
-pub named_at : (place : Place) (w v : List ℕ) (us : List Lexeme) → read (line (form_at place)) (tok Local w ∷ tok Equal v ∷ us) ≡ named_so w v (read (form_at place) us)
-unfolding operation terminator
-named_at Inside w v us = read_named operation_words operation_behind w v us
-named_at Last w v us = read_named terminator_words terminator_behind w v us
-
-pub plain_at : (place : Place) (ts : List Lexeme) → result_next ts ≡ false → read (line (form_at place)) ts ≡ plainly (read (form_at place) ts)
-unfolding operation terminator
-plain_at Inside ts e = read_plain operation_words operation_behind ts e
-plain_at Last ts e = read_plain terminator_words terminator_behind ts e
-
--- a word of an instruction stands next
-
-pub inside_next : (t : Lexeme) (ts : List Lexeme) → opens (form_at Inside) (t ∷ ts) ≡ (eqb (kind_code t.kind) (kind_code Word) && is_some (entry operation_words t.text))
-unfolding operation
-inside_next t ts = word_next operation_words t ts
-
-pub last_next : (t : Lexeme) (ts : List Lexeme) → opens (form_at Last) (t ∷ ts) ≡ (eqb (kind_code t.kind) (kind_code Word) && is_some (entry terminator_words t.text))
-unfolding terminator
-last_next t ts = word_next terminator_words t ts
-
 pub fits_append : (ts : List Lexeme) (a b : List Terminal) → fits_one ts (a ++ b) ≡ (fits_one ts a || fits_one ts b)
 fits_append ts [] b = refl
 fits_append ts (s ∷ a) b = ap (λ (x : Bool). fits ts s || x) (fits_append ts a b) ∙ assoc (fits ts s) (fits_one ts a) (fits_one ts b)
@@ -136,26 +64,144 @@ pub or_nothing : (x : Bool) → (x || false) ≡ x
 or_nothing true = refl
 or_nothing false = refl
 
-begins_named : {K : Type 0} (table : List (List ℕ × K)) (w v : List ℕ) (us : List Lexeme) → next_in (marks_then Local (marks_then Equal (words_of table)) ++ words_of table) (tok Local w ∷ tok Equal v ∷ us) ≡ next_in (words_of table) us
-begins_named table w v us =
-    let ts = tok Local w ∷ tok Equal v ∷ us in
-    fits_append ts (marks_then Local (marks_then Equal (words_of table))) (words_of table)
-    ∙ ap (λ (b : Bool). b || fits_one ts (words_of table)) (named_opens table w v us)
-    ∙ ap (λ (b : Bool). next_in (words_of table) us || b) (word_next table (tok Local w) (tok Equal v ∷ us))
-    ∙ or_nothing (next_in (words_of table) us)
+-- ---- lines of any form that takes a token
 
-begins_plain : {K : Type 0} (table : List (List ℕ × K)) (ts : List Lexeme) → result_next ts ≡ false → next_in (marks_then Local (marks_then Equal (words_of table)) ++ words_of table) ts ≡ next_in (words_of table) ts
-begins_plain table [] e = refl
-begins_plain table (t ∷ ts) e =
-    fits_append (t ∷ ts) (marks_then Local (marks_then Equal (words_of table))) (words_of table)
-    ∙ ap (λ (b : Bool). b || fits_one (t ∷ ts) (words_of table)) (plain_opens table (t ∷ ts) e)
+-- with which tokens the form begins behind `%name =`
+abbrev behind_name : Form InstTree → List Terminal
+behind_name f = marks_then Local (cond (nullable f) (any_of Equal ∷ []) (marks_then Equal (first f)))
+
+abbrev takes : Form InstTree → Type 0
+takes f = nullable f ≡ false
+
+takes_name : (f : Form InstTree) → takes f → behind_name f ≡ marks_then Local (marks_then Equal (first f))
+takes_name f n = ap (λ (b : Bool). marks_then Local (cond b (any_of Equal ∷ []) (marks_then Equal (first f)))) n
+
+named_opens : (f : Form InstTree) (w v : List ℕ) (us : List Lexeme) → takes f → next_in (behind_name f) (tok Local w ∷ tok Equal v ∷ us) ≡ opens f us
+named_opens f w v us n =
+    ap (λ (ss : List Terminal). next_in ss (tok Local w ∷ tok Equal v ∷ us)) (takes_name f n)
+    ∙ marks_fit Local (tok Local w) (tok Equal v ∷ us) (marks_then Equal (first f))
+    ∙ marks_fit Equal (tok Equal v) us (first f)
+    ∙ fits_is_next us (first f)
+
+neither : (a b c : Bool) → ((a && b) || false) ≡ false → (a && (b && c)) ≡ false
+neither true true c e = absurd cc
+neither true false c e = refl
+neither false b c e = refl
+
+plain_opens : (f : Form InstTree) (ts : List Lexeme) → takes f → result_next ts ≡ false → next_in (behind_name f) ts ≡ false
+plain_opens f ts n e = ap (λ (ss : List Terminal). next_in ss ts) (takes_name f n) ∙ by ts e
+  where
+    by : (ts : List Lexeme) → result_next ts ≡ false → next_in (marks_then Local (marks_then Equal (first f))) ts ≡ false
+    by [] e = refl
+    by (t ∷ []) e = marks_fit Local t [] (marks_then Equal (first f)) ∙ ap (λ (b : Bool). eqb (kind_code t.kind) (kind_code Local) && b) (nothing_fits (marks_then Equal (first f))) ∙ and_false (eqb (kind_code t.kind) (kind_code Local))
+    by (t ∷ u ∷ us) e =
+        marks_fit Local t (u ∷ us) (marks_then Equal (first f))
+        ∙ ap (λ (b : Bool). eqb (kind_code t.kind) (kind_code Local) && b) (marks_fit Equal u us (first f))
+        ∙ neither (eqb (kind_code t.kind) (kind_code Local)) (eqb (kind_code u.kind) (kind_code Equal)) (fits_one us (first f)) e
+
+abbrev behind_equal : List ℕ → Found → Option ((List ℕ × InstTree) × List Lexeme)
+behind_equal v r = r >>= λ y. Some ((v, y.0), y.1)
+
+abbrev beside_name : List ℕ → Option ((List ℕ × InstTree) × List Lexeme) → Option ((List ℕ × (List ℕ × InstTree)) × List Lexeme)
+beside_name w r = r >>= λ y. Some ((w, y.0), y.1)
+
+abbrev with_its_name : Option ((List ℕ × (List ℕ × InstTree)) × List Lexeme) → Found
+with_its_name r = r >>= λ x. with_result x.0 >>= λ b. Some (b, x.1)
+
+same : (w v : List ℕ) (r : Found) → with_its_name (beside_name w (behind_equal v r)) ≡ named_so w v r
+same w v None = refl
+same w v (Some y) = refl
+
+-- the form begins with no `%name`
+abbrev begins_apart : Form InstTree → Type 0
+begins_apart f = all_apart (first f) (any_of Local ∷ []) ≡ true
+
+not_local : (f : Form InstTree) (w : List ℕ) (us : List Lexeme) → begins_apart f → opens f (tok Local w ∷ us) ≡ false
+not_local f w us a = all_apart_none (tok Local w ∷ us) (first f) (any_of Local ∷ []) a refl
+
+-- what is read behind `%name =`
+read_named : (f : Form InstTree) (w v : List ℕ) (us : List Lexeme) → takes f → begins_apart f → read (line f) (tok Local w ∷ tok Equal v ∷ us) ≡ named_so w v (read f us)
+read_named f w v us n a =
+    let ts = tok Local w ∷ tok Equal v ∷ us in
+    rw (named_opens f w v us n)
+    (elim (opens f us) as (λ b. opens f us ≡ b → cond b (with_its_name (beside_name w (behind_equal v (read f us)))) (plainly (read f ts)) ≡ named_so w v (read f us)) [
+      | true ↦ λ e. same w v (read f us)
+      | false ↦ λ e. ap plainly (not_begun f ts n (not_local f w (tok Equal v ∷ us) a)) ∙ sym (ap (named_so w v) (not_begun f us n e))
+    ] refl)
+
+-- what is read where no `%name =` stands next
+read_plain : (f : Form InstTree) (ts : List Lexeme) → takes f → result_next ts ≡ false → read (line f) ts ≡ plainly (read f ts)
+read_plain f ts n e = rw (plain_opens f ts n e) refl
+
+-- with which tokens a line begins
+
+begins_named : (f : Form InstTree) (w v : List ℕ) (us : List Lexeme) → takes f → begins_apart f → opens (line f) (tok Local w ∷ tok Equal v ∷ us) ≡ opens f us
+begins_named f w v us n a =
+    let ts = tok Local w ∷ tok Equal v ∷ us in
+    fits_append ts (behind_name f) (first f)
+    ∙ ap (λ (b : Bool). b || fits_one ts (first f)) (named_opens f w v us n)
+    ∙ ap (λ (b : Bool). opens f us || b) (not_local f w (tok Equal v ∷ us) a)
+    ∙ or_nothing (opens f us)
+
+begins_plain : (f : Form InstTree) (ts : List Lexeme) → takes f → result_next ts ≡ false → opens (line f) ts ≡ opens f ts
+begins_plain f [] n e = refl
+begins_plain f (t ∷ ts) n e = fits_append (t ∷ ts) (behind_name f) (first f) ∙ ap (λ (b : Bool). b || fits_one (t ∷ ts) (first f)) (plain_opens f (t ∷ ts) n e)
+
+-- ---- at each place of a block
+
+place_takes : (place : Place) → takes (form_at place)
+unfolding operation terminator
+place_takes Inside = refl
+place_takes Last = refl
+
+place_apart : (place : Place) → begins_apart (form_at place)
+unfolding operation operation_words terminator terminator_words
+place_apart Inside = refl
+place_apart Last = refl
+
+pub named_at : (place : Place) (w v : List ℕ) (us : List Lexeme) → read (line (form_at place)) (tok Local w ∷ tok Equal v ∷ us) ≡ named_so w v (read (form_at place) us)
+named_at place w v us = read_named (form_at place) w v us (place_takes place) (place_apart place)
+
+pub plain_at : (place : Place) (ts : List Lexeme) → result_next ts ≡ false → read (line (form_at place)) ts ≡ plainly (read (form_at place) ts)
+plain_at place ts e = read_plain (form_at place) ts (place_takes place) e
 
 pub line_begins_named : (place : Place) (w v : List ℕ) (us : List Lexeme) → opens (line (form_at place)) (tok Local w ∷ tok Equal v ∷ us) ≡ opens (form_at place) us
-unfolding operation terminator
-line_begins_named Inside w v us = begins_named operation_words w v us
-line_begins_named Last w v us = begins_named terminator_words w v us
+line_begins_named place w v us = begins_named (form_at place) w v us (place_takes place) (place_apart place)
 
 pub line_begins_plain : (place : Place) (ts : List Lexeme) → result_next ts ≡ false → opens (line (form_at place)) ts ≡ opens (form_at place) ts
-unfolding operation terminator
-line_begins_plain Inside ts e = begins_plain operation_words ts e
-line_begins_plain Last ts e = begins_plain terminator_words ts e
+line_begins_plain place ts e = begins_plain (form_at place) ts (place_takes place) e
+
+-- a word of an instruction stands next
+
+pub operation_next : (t : Lexeme) (ts : List Lexeme) → opens (by_word operation_words operation_behind) (t ∷ ts) ≡ (eqb (kind_code t.kind) (kind_code Word) && is_some (entry operation_words t.text))
+operation_next t ts = word_next operation_words t ts
+
+pub longer_next : (t : Lexeme) (ts : List Lexeme) → opens (by_word terminator_words terminator_behind) (t ∷ ts) ≡ (eqb (kind_code t.kind) (kind_code Word) && is_some (entry terminator_words t.text))
+longer_next t ts = word_next terminator_words t ts
+
+next_append : (ss rs : List Terminal) (ts : List Lexeme) → next_in (ss ++ rs) ts ≡ (next_in ss ts || next_in rs ts)
+next_append ss rs [] = refl
+next_append ss rs (t ∷ ts) = fits_append (t ∷ ts) ss rs
+
+pub inside_begins : (ts : List Lexeme) → opens (form_at Inside) ts ≡ opens (by_word operation_words operation_behind) ts
+unfolding operation
+inside_begins ts = ap (λ (ss : List Terminal). next_in ss ts) (append-nil (first (by_word operation_words operation_behind)))
+
+pub last_begins : (ts : List Lexeme) → opens (form_at Last) ts ≡ (opens (by_word terminator_words terminator_behind) ts || next_in (this Word (codes "unreachable") ∷ []) ts)
+unfolding terminator
+last_begins ts =
+    let longer = first (by_word terminator_words terminator_behind) in
+    let other : List Terminal = this Word (codes "unreachable") ∷ [] in
+    ap (λ (ss : List Terminal). next_in ss ts) (append-nil (longer ++ other)) ∙ next_append longer other ts
+
+-- ---- results
+
+-- a written name is kept, and a number in it counts
+named_written : (next : ℕ) (t : Ty) (n : Name) → named_result next t (Some n) ≡ Some (Some n, next_after next n)
+named_written next (Int w) n = refl
+named_written next Ptr n = refl
+named_written next (Vector l w) n = refl
+named_written next Void n = refl
+
+pub numbered_named : (next : ℕ) (n : Name) (i : InstTree) → numbered_inst next (named_by i (Some n)) ≡ Some (named_by i (Some n), next_after next n)
+numbered_named next n i = ap (λ (r : Option _). r >>= λ x. Some (named_by i x.0, x.1)) (named_written next i.ty n)

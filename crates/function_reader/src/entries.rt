@@ -1,34 +1,41 @@
-// The entries of a phi.
+// The entries of a phi, and the phi without its word.
 
-ghost use Rattle.std.specs.Prelude.{◌≡◌, ◌≤◌, ◌<◌, [], List, map, IfOk, length};
+ghost use Rattle.std.specs.Prelude.{◌≡◌, List, map};
 ghost use Rattle.forms.specs.View.{Extends};
-ghost use Rattle.forms.specs.declared.TokenKind.TheVariants.{Comma, LeftBracket};
+ghost use Rattle.forms.specs.declared.TokenKind.TheVariants.{Comma};
 ghost use Rattle.forms.specs.Reading.{read, opens};
+ghost use Rattle.forms.specs.Walk.{completed};
 ghost use Rattle.forms.specs.Gives.{Gives, left};
 ghost use Rattle.ir_types.specs.declared.name.Name.{Name};
-ghost use Rattle.ir_types.specs.Denotes.{name_in, operand_in};
-ghost use Rattle.ir_types.specs.Grammar.{width_of, operand_at, entry_of_phi, commas, marked};
-ghost use Rattle.function_reader.specs.View.{Stays, entry_in, entries_in};
+ghost use Rattle.ir_types.specs.Denotes.{inst_in};
+ghost use Rattle.ir_types.specs.Types.{IsType};
+ghost use Rattle.ir_types.specs.Grammar.{entry_of_phi, commas, marked, phi};
+ghost use Rattle.function_reader.specs.Split.{split_each, entry_at, entry_in, entries_in};
+ghost use Rattle.function_reader.specs.View.{Stays};
 
-use crate::value::{Written, comma_local, operand, written_value};
+use crate::making::{bare, one_label, one_operand};
+use crate::operand::value_at;
+use crate::value::comma_local;
 use forms::{Cursor, SyntaxFault, TokenKind};
-use ir_types::{Labels, Names, Operands, Ty, ValueId};
-use lists::Few;
-use std::alloc::{AllocError, Global};
+use ir_types::{Inst, InstKind, Labels, Names, Operand, Operands, Ty, ValueId};
+use std::alloc::Global;
+use type_reader::value_type;
 
-/// `[ V, %name ]`.
-#[tactic(auto, unfolding(ir_types::specs::Grammar::entry_of_phi))]
+/// `[ V, %name ]` at a type.
+#[tactic(auto, using(crate::proofs::Split::entry_is))]
 fn entry<'t>(
     alloc: Global,
+    ty: Ty,
     tokens: Cursor<'t>,
     names: &mut Names,
-) -> Result<((Written<'t>, ValueId), Cursor<'t>), SyntaxFault>
+) -> Result<((Operand, ValueId), Cursor<'t>), SyntaxFault>
+    requires { IsType ty }
     ensures grows { Extends names.old names.new }
-    ensures reads { Gives (λ x. (entry_in names.new x.0, left x.1)) result (read entry_of_phi (left tokens.entry)) }
+    ensures reads { Gives (λ x. (entry_in names.new x.0, left x.1)) result (completed (entry_at ty) (read entry_of_phi (left tokens.entry))) }
     ensures stays { Stays entry_in names.new result }
 {
     let rest = tokens.mark(TokenKind::LeftBracket)?;
-    let (value, rest) = written_value(alloc, rest, names)?;
+    let (value, rest) = value_at(alloc, ty, rest, names)?;
     let (label, rest) = comma_local(alloc, rest, names)?;
     let rest = rest.mark(TokenKind::RightBracket)?;
     Ok(((value, label), rest))
@@ -37,15 +44,18 @@ fn entry<'t>(
 /// An entry behind a comma.
 fn comma_entry<'t>(
     alloc: Global,
+    ty: Ty,
     tokens: Cursor<'t>,
     names: &mut Names,
-) -> Result<((Written<'t>, ValueId), Cursor<'t>), SyntaxFault>
+) -> Result<((Operand, ValueId), Cursor<'t>), SyntaxFault>
+    requires { IsType ty }
     ensures grows { Extends names.old names.new }
-    ensures reads { Gives (λ x. (entry_in names.new x.0, left x.1)) result (read (marked Comma entry_of_phi) (left tokens.entry)) }
+    ensures reads { Gives (λ x. (entry_in names.new x.0, left x.1)) result (completed (entry_at ty) (read (marked Comma entry_of_phi) (left tokens.entry))) }
     ensures stays { Stays entry_in names.new result }
 {
     let rest = tokens.mark(TokenKind::Comma)?;
-    entry(alloc, rest, names)
+    let (found, rest) = entry(alloc, ty, rest, names)?;
+    Ok((found, rest))
 }
 
 /// Whether a comma and an entry stand next.
@@ -59,42 +69,42 @@ fn another(tokens: Cursor<'_>) -> bool
     }
 }
 
-/// The entries, at least one, parted by commas.
-pub fn entries<'t>(
+/// The operands and the labels of the entries, at least one, parted by commas.
+fn entries<'t>(
+    alloc: Global,
+    ty: Ty,
+    tokens: Cursor<'t>,
+    names: &mut Names,
+) -> Result<((Operands, Labels), Cursor<'t>), SyntaxFault>
+    requires { IsType ty }
+    ensures grows { Extends names.old names.new }
+    ensures reads { Gives (λ x. (entries_in names.new x.0, left x.1)) result (completed (split_each (entry_at ty)) (read (commas entry_of_phi) (left tokens.entry))) }
+    ensures stays { Stays entries_in names.new result }
+{
+    let ((operand, label), mut rest) = entry(alloc, ty, tokens, names)?;
+    let mut operands = one_operand(alloc, operand)?;
+    let mut labels = one_label(alloc, label)?;
+    'more: while another(rest) {
+        let ((operand, label), after) = comma_entry(alloc, ty, rest, names)?;
+        operands.push(operand)?;
+        labels.push(label)?;
+        rest = after;
+    }
+    Ok(((operands, labels), rest))
+}
+
+/// T [ V, %name ], ..
+#[tactic(auto, using(crate::proofs::Split::phi_is))]
+pub fn phi<'t>(
     alloc: Global,
     tokens: Cursor<'t>,
     names: &mut Names,
-) -> Result<(Vec<(Written<'t>, ValueId)>, Cursor<'t>), SyntaxFault>
+) -> Result<(Inst, Cursor<'t>), SyntaxFault>
     ensures grows { Extends names.old names.new }
-    ensures reads { Gives (λ x. (entries_in names.new x.0.items, left x.1)) result (read (commas entry_of_phi) (left tokens.entry)) }
-    ensures stays { Stays (λ ns x. entries_in ns x.items) names.new result }
+    ensures reads { Gives (λ x. (inst_in names.new x.0, left x.1)) result (read phi (left tokens.entry)) }
+    ensures stays { Stays inst_in names.new result }
 {
-    let (first, mut rest) = entry(alloc, tokens, names)?;
-    let mut entries = Vec::new(alloc);
-    entries.push(first)?;
-    'more: while another(rest) {
-        let (next, after) = comma_entry(alloc, rest, names)?;
-        entries.push(next)?;
-        rest = after;
-    }
-    Ok((entries, rest))
-}
-
-/// The operands and the labels of the entries, at a type.
-pub fn parted(
-    alloc: Global,
-    ty: Ty,
-    entries: &[(Written<'_>, ValueId)],
-) -> Result<(Operands, Labels), AllocError>
-    requires { width_of ty ≤ 64 }
-    ensures operands { IfOk result (λ x. (names : List Name) → map (operand_in names) x.0 ≡ map (λ e. operand_at ty e.0) (entries_in names entries.now)) }
-    ensures labels { IfOk result (λ x. (names : List Name) → map (name_in names) x.1 ≡ map (λ e. e.1) (entries_in names entries.now)) }
-{
-    let mut operands = Few::new(alloc);
-    let mut labels = Few::new(alloc);
-    for (value, label) in entries {
-        operands.push(operand(ty, *value))?;
-        labels.push(*label)?;
-    }
-    Ok((operands, labels))
+    let (ty, rest) = value_type(tokens)?;
+    let ((args, labels), rest) = entries(alloc, ty, rest, names)?;
+    Ok((bare(alloc, InstKind::Phi, ty, args, labels), rest))
 }

@@ -14,9 +14,8 @@ ghost use Rattle.ir_types.specs.Numbered.{numbered_inst};
 ghost use Rattle.function_reader.specs.View.{Stays};
 ghost use Rattle.function_reader.specs.Lines.{tok, result_next, named_so, plainly, form_at};
 
-use crate::inst::{Place, instruction};
+use crate::inst::{Place, begins_instruction, instruction};
 use crate::numbering::{Numbering, named_id, result_id};
-use crate::words::{operation_of, terminator_of};
 use forms::{Cursor, SyntaxFault, TokenKind};
 use ir_types::{Inst, Name, Names, ValueId};
 use std::alloc::Global;
@@ -35,20 +34,6 @@ fn behind_result<'t>(tokens: Cursor<'t>) -> Option<(&'t [u8], Cursor<'t>)>
         Some((name, behind))
     } else {
         None
-    }
-}
-
-/// Whether an instruction that may stand at this place stands next.
-#[tactic(auto, using(crate::proofs::Lines::inside_next, crate::proofs::Lines::last_next))]
-fn begins_instruction(place: Place, tokens: Cursor<'_>) -> bool
-    ensures { result ≡ opens (form_at place) (left tokens.entry) }
-{
-    match tokens.split_first() {
-        Some((TokenKind::Word, word, _)) => match place {
-            Place::Inside => operation_of(word).is_some(),
-            Place::Last => terminator_of(word).is_some(),
-        },
-        _ => false,
     }
 }
 

@@ -4,7 +4,7 @@ ghost use Rattle.std.specs.Prelude.{◌≡◌, ◌≤◌, ◌%◌, ◌^◌};
 ghost use Rattle.ir_types.specs.Written.{number_of, number_at, negated};
 
 /// The number that decimal digits stand for, modulo 2^64.
-fn number_of(digits: &[u8]) -> u64
+pub fn number_of(digits: &[u8]) -> u64
     ensures { result ≡ number_of digits.now % 2 ^ 64 }
 {
     let mut number = 0u64;

@@ -5,7 +5,7 @@ ghost use Rattle.forms.specs.Form.{entry};
 ghost use Rattle.ir_types.specs.Grammar.{predicates, operation_words, terminator_words};
 
 use forms::find;
-use ir_types::{Operation, Pred, Terminator};
+use ir_types::{BinOp, Operation, Pred, Terminator};
 
 static PREDICATES: [(&[u8], Pred); 10] = [
     (b"eq", Pred::Eq),
@@ -20,13 +20,40 @@ static PREDICATES: [(&[u8], Pred); 10] = [
     (b"sle", Pred::Sle),
 ];
 
-static OPERATIONS: [(&[u8], Operation); 3] = [
-    (b"add", Operation::Add),
+static OPERATIONS: [(&[u8], Operation); 26] = [
+    (b"add", Operation::Overflowing(BinOp::Add)),
+    (b"sub", Operation::Overflowing(BinOp::Sub)),
+    (b"mul", Operation::Overflowing(BinOp::Mul)),
+    (b"shl", Operation::Overflowing(BinOp::Shl)),
+    (b"udiv", Operation::PossiblyExact(BinOp::UDiv)),
+    (b"sdiv", Operation::PossiblyExact(BinOp::SDiv)),
+    (b"lshr", Operation::PossiblyExact(BinOp::LShr)),
+    (b"ashr", Operation::PossiblyExact(BinOp::AShr)),
+    (b"urem", Operation::Plain(BinOp::URem)),
+    (b"srem", Operation::Plain(BinOp::SRem)),
+    (b"and", Operation::Plain(BinOp::And)),
+    (b"xor", Operation::Plain(BinOp::Xor)),
+    (b"or", Operation::Or),
     (b"icmp", Operation::Icmp),
+    (b"select", Operation::Select),
+    (b"freeze", Operation::Freeze),
+    (b"trunc", Operation::Trunc),
+    (b"zext", Operation::Zext),
+    (b"sext", Operation::Sext),
+    (b"ptrtoint", Operation::PtrToInt),
     (b"phi", Operation::Phi),
+    (b"load", Operation::Load),
+    (b"store", Operation::Store),
+    (b"extractelement", Operation::ExtractElement),
+    (b"insertelement", Operation::InsertElement),
+    (b"shufflevector", Operation::ShuffleVector),
 ];
 
-static TERMINATORS: [(&[u8], Terminator); 2] = [(b"br", Terminator::Br), (b"ret", Terminator::Ret)];
+static TERMINATORS: [(&[u8], Terminator); 3] = [
+    (b"br", Terminator::Br),
+    (b"switch", Terminator::Switch),
+    (b"ret", Terminator::Ret),
+];
 
 /// The predicate of the word.
 #[tactic(auto, unfolding(ir_types::specs::Grammar::predicates))]
@@ -44,7 +71,7 @@ pub fn operation_of(word: &[u8]) -> Option<Operation>
     find(&OPERATIONS, word)
 }
 
-/// The terminator that the word begins.
+/// The terminator that the word begins, of those that have more behind their word.
 #[tactic(auto, unfolding(ir_types::specs::Grammar::terminator_words))]
 pub fn terminator_of(word: &[u8]) -> Option<Terminator>
     ensures { result ≡ entry terminator_words word.now }

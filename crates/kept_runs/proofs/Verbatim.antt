@@ -151,3 +151,7 @@ verbatim_attachment = verbatim_joined (kept_such Metadata is_named) metadata_nod
 pub verbatim_attachments : Verbatim attachments
 unfolding attachments
 verbatim_attachments = verbatim_each attachment verbatim_attachment
+
+-- each behind a comma
+pub verbatim_comma_attachments : Verbatim (mapped concat (many (kept_behind_comma attachment)))
+verbatim_comma_attachments = verbatim_each (kept_behind_comma attachment) (verbatim_behind_comma attachment verbatim_attachment)

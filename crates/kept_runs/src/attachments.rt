@@ -2,9 +2,11 @@
 
 ghost use Rattle.std.specs.Prelude.{◌≡◌};
 ghost use Rattle.forms.specs.declared.TokenKind.TheVariants.{Metadata};
+ghost use Rattle.forms.specs.Form.{mapped, many};
 ghost use Rattle.forms.specs.Gives.{Gives, left};
-ghost use Rattle.forms.specs.Kept.{is_numbered, is_named, kept_such, metadata_node, attachment, attachments};
+ghost use Rattle.forms.specs.Kept.{is_numbered, is_named, kept_such, metadata_node, attachment, attachments, kept_behind_comma};
 ghost use Rattle.forms.specs.Machine.{behind};
+ghost use Rattle.forms.specs.Nested.{concat};
 ghost use Rattle.forms.specs.Reading.{read, opens};
 
 use crate::enclosed::keep_braces;
@@ -108,6 +110,48 @@ pub fn keep_attachments<'t>(
     let mut rest = tokens;
     'more: while begins_attachment(rest) {
         rest = keep_attachment(alloc, rest, texts)?;
+    }
+    Ok(rest)
+}
+
+/// Whether a comma and an attachment stand next.
+#[tactic(auto, unfolding(forms::specs::Kept::attachment))]
+pub fn begins_comma_attachment(tokens: Cursor<'_>) -> bool
+    ensures { result ≡ opens (kept_behind_comma attachment) (left tokens.entry) }
+{
+    match tokens.split_first() {
+        Some((TokenKind::Comma, _, rest)) => rest.is_next(TokenKind::Metadata),
+        _ => false,
+    }
+}
+
+/// Keeps a comma and an attachment.
+fn keep_comma_attachment<'t>(
+    alloc: Global,
+    tokens: Cursor<'t>,
+    texts: &mut Texts,
+) -> Result<Cursor<'t>, SyntaxFault>
+    ensures { Gives (λ rest. (texts.new, left rest)) result (behind texts.old (read (kept_behind_comma attachment) (left tokens.entry))) }
+{
+    let rest = keep(tokens, TokenKind::Comma, texts)?;
+    keep_attachment(alloc, rest, texts)
+}
+
+/// Keeps as many attachments as stand there, each behind a comma.
+///
+/// # Errors
+///
+/// Where one is not complete, or there is no room.
+pub fn keep_comma_attachments<'t>(
+    alloc: Global,
+    tokens: Cursor<'t>,
+    texts: &mut Texts,
+) -> Result<Cursor<'t>, SyntaxFault>
+    ensures { Gives (λ rest. (texts.new, left rest)) result (behind texts.old (read (mapped concat (many (kept_behind_comma attachment))) (left tokens.entry))) }
+{
+    let mut rest = tokens;
+    'more: while begins_comma_attachment(rest) {
+        rest = keep_comma_attachment(alloc, rest, texts)?;
     }
     Ok(rest)
 }

@@ -12,7 +12,10 @@ mod tests;
 mod tokens;
 mod up_to;
 
-pub use attachments::{begins_attachment, keep_attachment, keep_attachments, keep_node};
+pub use attachments::{
+    begins_attachment, begins_comma_attachment, keep_attachment, keep_attachments,
+    keep_comma_attachments, keep_node,
+};
 pub use enclosed::{keep_braces, keep_parens};
 pub use pieces::{begins_run, keep_run, keep_unsigned};
 pub use tokens::{keep, keep_word};

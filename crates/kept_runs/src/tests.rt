@@ -1,8 +1,9 @@
 // Each public function once.
 
 use crate::{
-    Stops, begins_attachment, begins_run, keep, keep_attachment, keep_attachments, keep_braces,
-    keep_node, keep_parens, keep_run, keep_up_to, keep_word,
+    Stops, begins_attachment, begins_comma_attachment, begins_run, keep, keep_attachment,
+    keep_attachments, keep_braces, keep_comma_attachments, keep_node, keep_parens, keep_run,
+    keep_up_to, keep_word,
 };
 use forms::{Cursor, SyntaxFault, Token, TokenKind};
 use lists::Texts;
@@ -181,5 +182,24 @@ fn keeps_attachments(rt: HostRuntime) -> Result<(), SyntaxFault> {
     let mut node = Texts::new(rt.alloc());
     keep_node(rt.alloc(), rest, &mut node)?;
     assert!(rt; are_kept(&node, &words[3..7]));
+    Ok(())
+}
+
+#[test]
+fn keeps_attachments_behind_commas(rt: HostRuntime) -> Result<(), SyntaxFault> {
+    let words = [
+        COMMA, NAME, NODE, COMMA, NAME, BANG, BEGIN, NODE, END, COMMA, ALIGN, FOUR,
+    ];
+    let (text, tokens) = written(rt.alloc(), &words)?;
+    let cursor = Cursor {
+        text: text.as_slice(),
+        rest: tokens.as_slice(),
+    };
+    let mut texts = Texts::new(rt.alloc());
+    assert!(rt; begins_comma_attachment(cursor));
+    let rest = keep_comma_attachments(rt.alloc(), cursor, &mut texts)?;
+    assert!(rt; are_kept(&texts, &words[..9]));
+    assert_eq!(rt; rest.rest.len(), 3);
+    assert!(rt; !begins_comma_attachment(rest));
     Ok(())
 }

@@ -16,4 +16,4 @@ pub use memory::{memory_type, skip_type};
 pub use names::{block_label, global, local, name_before, name_behind};
 pub use numbers::{number_of_32_bits, number_of_64_bits};
 pub use type_names::TypeNames;
-pub use types::{begins_type, return_type, value_type};
+pub use types::{begins_type, begins_width, return_type, value_type, width};

@@ -15,7 +15,7 @@ use ir_types::Ty;
 
 /// iN.
 #[tactic(auto, unfolding(ir_types::specs::Grammar::width))]
-fn width<'t>(tokens: Cursor<'t>) -> Result<(u32, Cursor<'t>), SyntaxFault>
+pub fn width<'t>(tokens: Cursor<'t>) -> Result<(u32, Cursor<'t>), SyntaxFault>
     ensures reads { Gives (λ x. (x.0, left x.1)) result (read width (left tokens.entry)) }
     ensures narrow { IfOk result (λ x. x.0 ≤ 64) }
     ensures written { IfOk result (λ x. IsOneOf widths x.0) }
@@ -40,7 +40,7 @@ fn width<'t>(tokens: Cursor<'t>) -> Result<(u32, Cursor<'t>), SyntaxFault>
 
 /// Whether a width stands next.
 #[tactic(auto, unfolding(ir_types::specs::Grammar::width))]
-fn begins_width(tokens: Cursor<'_>) -> bool
+pub fn begins_width(tokens: Cursor<'_>) -> bool
     ensures { result ≡ opens width (left tokens.entry) }
 {
     tokens.behind_word(b"i1").is_some()

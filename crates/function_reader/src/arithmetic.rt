@@ -1,0 +1,185 @@
+// Operators of integers, comparisons, `select` and `freeze`, without the words before them.
+
+ghost use Rattle.std.specs.Prelude.{◌≡◌, List};
+ghost use Rattle.forms.specs.View.{Extends};
+ghost use Rattle.forms.specs.Reading.{read};
+ghost use Rattle.forms.specs.Gives.{Gives, left};
+ghost use Rattle.ir_types.specs.declared.name.Name.{Name};
+ghost use Rattle.ir_types.specs.Denotes.{operand_in, inst_in};
+ghost use Rattle.ir_types.specs.Grammar.{overflowing, possibly_exact, plain_binary, or_operation, compared, compare, bits_for, select, freeze};
+ghost use Rattle.function_reader.specs.View.{Stays};
+
+use crate::flags::{one_flag, two_flags};
+use crate::making::{applied, binary, one_operand, three_operands, two_operands};
+use crate::typed::{three_values, typed_pair, typed_value};
+use crate::words::predicate_of;
+use forms::{Cursor, SyntaxFault, TokenKind};
+use ir_types::{BinOp, Flags, Inst, InstKind, Names, Pred, Ty};
+use std::alloc::Global;
+
+static NO_FLAGS: Flags = Flags {
+    nuw: false,
+    nsw: false,
+    exact: false,
+    disjoint: false,
+};
+
+/// [nuw] [nsw] T V, V.
+#[tactic(auto, unfolding(ir_types::specs::Grammar::overflowing))]
+pub fn overflowing<'t>(
+    alloc: Global,
+    operator: BinOp,
+    tokens: Cursor<'t>,
+    names: &mut Names,
+) -> Result<(Inst, Cursor<'t>), SyntaxFault>
+    ensures grows { Extends names.old names.new }
+    ensures reads { Gives (λ x. (inst_in names.new x.0, left x.1)) result (read (overflowing operator) (left tokens.entry)) }
+    ensures stays { Stays inst_in names.new result }
+{
+    let ((nuw, nsw), rest) = two_flags(tokens, b"nuw", b"nsw");
+    let ((ty, (first, second)), rest) = typed_pair(alloc, rest, names)?;
+    let flags = Flags {
+        nuw,
+        nsw,
+        ..NO_FLAGS
+    };
+    let inst = binary(alloc, operator, flags, ty, first, second)?;
+    Ok((inst, rest))
+}
+
+/// [exact] T V, V.
+#[tactic(auto, unfolding(ir_types::specs::Grammar::possibly_exact))]
+pub fn possibly_exact<'t>(
+    alloc: Global,
+    operator: BinOp,
+    tokens: Cursor<'t>,
+    names: &mut Names,
+) -> Result<(Inst, Cursor<'t>), SyntaxFault>
+    ensures grows { Extends names.old names.new }
+    ensures reads { Gives (λ x. (inst_in names.new x.0, left x.1)) result (read (possibly_exact operator) (left tokens.entry)) }
+    ensures stays { Stays inst_in names.new result }
+{
+    let (exact, rest) = one_flag(tokens, b"exact");
+    let ((ty, (first, second)), rest) = typed_pair(alloc, rest, names)?;
+    let flags = Flags { exact, ..NO_FLAGS };
+    let inst = binary(alloc, operator, flags, ty, first, second)?;
+    Ok((inst, rest))
+}
+
+/// T V, V behind a word that takes no flags.
+#[tactic(auto, unfolding(ir_types::specs::Grammar::plain_binary))]
+pub fn plain_binary<'t>(
+    alloc: Global,
+    operator: BinOp,
+    tokens: Cursor<'t>,
+    names: &mut Names,
+) -> Result<(Inst, Cursor<'t>), SyntaxFault>
+    ensures grows { Extends names.old names.new }
+    ensures reads { Gives (λ x. (inst_in names.new x.0, left x.1)) result (read (plain_binary operator) (left tokens.entry)) }
+    ensures stays { Stays inst_in names.new result }
+{
+    let ((ty, (first, second)), rest) = typed_pair(alloc, tokens, names)?;
+    let inst = binary(alloc, operator, NO_FLAGS, ty, first, second)?;
+    Ok((inst, rest))
+}
+
+/// [disjoint] T V, V.
+#[tactic(auto, unfolding(ir_types::specs::Grammar::or_operation))]
+pub fn or_operation<'t>(
+    alloc: Global,
+    tokens: Cursor<'t>,
+    names: &mut Names,
+) -> Result<(Inst, Cursor<'t>), SyntaxFault>
+    ensures grows { Extends names.old names.new }
+    ensures reads { Gives (λ x. (inst_in names.new x.0, left x.1)) result (read or_operation (left tokens.entry)) }
+    ensures stays { Stays inst_in names.new result }
+{
+    let (disjoint, rest) = one_flag(tokens, b"disjoint");
+    let ((ty, (first, second)), rest) = typed_pair(alloc, rest, names)?;
+    let flags = Flags {
+        disjoint,
+        ..NO_FLAGS
+    };
+    let inst = binary(alloc, BinOp::Or, flags, ty, first, second)?;
+    Ok((inst, rest))
+}
+
+/// The type of a comparison's result.
+fn bits_for(ty: Ty) -> Ty
+    ensures { result ≡ bits_for ty }
+{
+    match ty {
+        Ty::Vector(lanes, _) => Ty::Vector(lanes, 1),
+        Ty::Int(_) | Ty::Ptr | Ty::Void => Ty::Int(1),
+    }
+}
+
+/// T V, V behind the predicate.
+#[tactic(auto, unfolding(ir_types::specs::Grammar::compared))]
+fn compared<'t>(
+    alloc: Global,
+    predicate: Pred,
+    tokens: Cursor<'t>,
+    names: &mut Names,
+) -> Result<(Inst, Cursor<'t>), SyntaxFault>
+    ensures grows { Extends names.old names.new }
+    ensures reads { Gives (λ x. (inst_in names.new x.0, left x.1)) result (read (compared predicate) (left tokens.entry)) }
+    ensures stays { Stays inst_in names.new result }
+{
+    let ((ty, (first, second)), rest) = typed_pair(alloc, tokens, names)?;
+    let args = two_operands(alloc, first, second)?;
+    let kind = InstKind::Compare(predicate, ty);
+    Ok((applied(alloc, kind, bits_for(ty), args), rest))
+}
+
+/// pred T V, V.
+#[tactic(auto, unfolding(ir_types::specs::Grammar::compare))]
+pub fn comparison<'t>(
+    alloc: Global,
+    tokens: Cursor<'t>,
+    names: &mut Names,
+) -> Result<(Inst, Cursor<'t>), SyntaxFault>
+    ensures grows { Extends names.old names.new }
+    ensures reads { Gives (λ x. (inst_in names.new x.0, left x.1)) result (read compare (left tokens.entry)) }
+    ensures stays { Stays inst_in names.new result }
+{
+    let (word, rest) = tokens.one(TokenKind::Word)?;
+    match predicate_of(word) {
+        Some(predicate) => compared(alloc, predicate, rest, names),
+        None => Err(tokens.refusal()),
+    }
+}
+
+/// T V, T V, T V: a condition and two arms.
+#[tactic(auto, unfolding(ir_types::specs::Grammar::select))]
+pub fn selection<'t>(
+    alloc: Global,
+    tokens: Cursor<'t>,
+    names: &mut Names,
+) -> Result<(Inst, Cursor<'t>), SyntaxFault>
+    ensures grows { Extends names.old names.new }
+    ensures reads { Gives (λ x. (inst_in names.new x.0, left x.1)) result (read select (left tokens.entry)) }
+    ensures stays { Stays inst_in names.new result }
+{
+    let (values, rest) = three_values(alloc, tokens, names)?;
+    let ((condition_type, condition), ((ty, then), (last_type, otherwise))) = values;
+    let args = three_operands(alloc, condition, then, otherwise)?;
+    let kind = InstKind::Select(condition_type, last_type);
+    Ok((applied(alloc, kind, ty, args), rest))
+}
+
+/// T V.
+#[tactic(auto, unfolding(ir_types::specs::Grammar::freeze))]
+pub fn freeze<'t>(
+    alloc: Global,
+    tokens: Cursor<'t>,
+    names: &mut Names,
+) -> Result<(Inst, Cursor<'t>), SyntaxFault>
+    ensures grows { Extends names.old names.new }
+    ensures reads { Gives (λ x. (inst_in names.new x.0, left x.1)) result (read freeze (left tokens.entry)) }
+    ensures stays { Stays inst_in names.new result }
+{
+    let ((ty, operand), rest) = typed_value(alloc, tokens, names)?;
+    let args = one_operand(alloc, operand)?;
+    Ok((applied(alloc, InstKind::Freeze, ty, args), rest))
+}

@@ -1,0 +1,127 @@
+// Terminators, without the words before them.
+
+ghost use Rattle.std.specs.Prelude.{◌≡◌, ◌∷◌, [], ◌≤◌, List, map, IfOk};
+ghost use Rattle.forms.specs.View.{Extends};
+ghost use Rattle.forms.specs.declared.TokenKind.TheVariants.{Comma};
+ghost use Rattle.forms.specs.Form.{mapped};
+ghost use Rattle.forms.specs.Reading.{read};
+ghost use Rattle.forms.specs.Gives.{Gives, left};
+ghost use Rattle.ir_types.specs.declared.name.Name.{Name};
+ghost use Rattle.ir_types.specs.Denotes.{name_in, operand_in, inst_in};
+ghost use Rattle.ir_types.specs.Grammar.{after_mark, target, branch, return_tree, typed_value, ret};
+ghost use Rattle.function_reader.specs.Conditions.{conditional_read};
+ghost use Rattle.function_reader.specs.View.{Stays};
+
+use crate::making::{applied, bare, one_label, one_operand, two_labels};
+use crate::operand::value_at;
+use crate::typed::typed_value;
+use crate::value::local_id;
+use forms::{Cursor, SyntaxFault, TokenKind};
+use ir_types::{Inst, InstKind, Names, Ty, ValueId};
+use lists::Few;
+use std::alloc::Global;
+use type_reader::begins_type;
+
+/// label %name.
+#[tactic(auto, unfolding(ir_types::specs::Grammar::target))]
+fn target<'t>(
+    alloc: Global,
+    tokens: Cursor<'t>,
+    names: &mut Names,
+) -> Result<(ValueId, Cursor<'t>), SyntaxFault>
+    ensures grows { Extends names.old names.new }
+    ensures reads { Gives (λ x. (name_in names.new x.0, left x.1)) result (read target (left tokens.entry)) }
+    ensures stays { Stays name_in names.new result }
+{
+    let Some(rest) = tokens.behind_word(b"label") else {
+        return Err(tokens.refusal());
+    };
+    local_id(alloc, rest, names)
+}
+
+/// A target behind a comma.
+pub fn comma_target<'t>(
+    alloc: Global,
+    tokens: Cursor<'t>,
+    names: &mut Names,
+) -> Result<(ValueId, Cursor<'t>), SyntaxFault>
+    ensures grows { Extends names.old names.new }
+    ensures reads { Gives (λ x. (name_in names.new x.0, left x.1)) result (read (after_mark Comma target) (left tokens.entry)) }
+    ensures stays { Stays name_in names.new result }
+{
+    let rest = tokens.mark(TokenKind::Comma)?;
+    target(alloc, rest, names)
+}
+
+/// V, label %name, label %name behind the condition's type.
+fn conditional<'t>(
+    alloc: Global,
+    tokens: Cursor<'t>,
+    names: &mut Names,
+) -> Result<(Inst, Cursor<'t>), SyntaxFault>
+    ensures grows { Extends names.old names.new }
+    ensures reads { Gives (λ x. (inst_in names.new x.0, left x.1)) result (conditional_read (left tokens.entry)) }
+    ensures stays { Stays inst_in names.new result }
+{
+    let (condition, rest) = value_at(alloc, Ty::Int(1), tokens, names)?;
+    let (then, rest) = comma_target(alloc, rest, names)?;
+    let (otherwise, rest) = comma_target(alloc, rest, names)?;
+    let args = one_operand(alloc, condition)?;
+    let labels = two_labels(alloc, then, otherwise)?;
+    Ok((bare(alloc, InstKind::Branch, Ty::Void, args, labels), rest))
+}
+
+/// label %name | i1 V, label %name, label %name.
+#[tactic(auto, unfolding(ir_types::specs::Grammar::branch, ir_types::specs::Grammar::target))]
+pub fn branch<'t>(
+    alloc: Global,
+    tokens: Cursor<'t>,
+    names: &mut Names,
+) -> Result<(Inst, Cursor<'t>), SyntaxFault>
+    ensures grows { Extends names.old names.new }
+    ensures reads { Gives (λ x. (inst_in names.new x.0, left x.1)) result (read branch (left tokens.entry)) }
+    ensures stays { Stays inst_in names.new result }
+{
+    if let Some(rest) = tokens.behind_word(b"i1") {
+        let (inst, rest) = conditional(alloc, rest, names)?;
+        return Ok((inst, rest));
+    }
+    let (label, rest) = target(alloc, tokens, names)?;
+    let labels = one_label(alloc, label)?;
+    let args = Few::new(alloc);
+    Ok((bare(alloc, InstKind::Jump, Ty::Void, args, labels), rest))
+}
+
+/// T V.
+fn returned_value<'t>(
+    alloc: Global,
+    tokens: Cursor<'t>,
+    names: &mut Names,
+) -> Result<(Inst, Cursor<'t>), SyntaxFault>
+    ensures grows { Extends names.old names.new }
+    ensures reads { Gives (λ x. (inst_in names.new x.0, left x.1)) result (read (mapped return_tree typed_value) (left tokens.entry)) }
+    ensures stays { Stays inst_in names.new result }
+{
+    let ((ty, value), rest) = typed_value(alloc, tokens, names)?;
+    let args = one_operand(alloc, value)?;
+    Ok((applied(alloc, InstKind::Return(ty), Ty::Void, args), rest))
+}
+
+/// T V | void.
+#[tactic(auto, unfolding(ir_types::specs::Grammar::ret, ir_types::specs::Grammar::typed_value, ir_types::specs::Grammar::value_type, ir_types::specs::Grammar::vector_type, ir_types::specs::Grammar::width))]
+pub fn give_back<'t>(
+    alloc: Global,
+    tokens: Cursor<'t>,
+    names: &mut Names,
+) -> Result<(Inst, Cursor<'t>), SyntaxFault>
+    ensures grows { Extends names.old names.new }
+    ensures reads { Gives (λ x. (inst_in names.new x.0, left x.1)) result (read ret (left tokens.entry)) }
+    ensures stays { Stays inst_in names.new result }
+{
+    if begins_type(tokens) {
+        return returned_value(alloc, tokens, names);
+    }
+    let rest = tokens.word(b"void")?;
+    let args = Few::new(alloc);
+    Ok((applied(alloc, InstKind::ReturnVoid, Ty::Void, args), rest))
+}

@@ -1,0 +1,98 @@
+// Casts, without the words before them.
+
+ghost use Rattle.std.specs.Prelude.{◌≡◌, List};
+ghost use Rattle.forms.specs.View.{Extends};
+ghost use Rattle.forms.specs.Reading.{read};
+ghost use Rattle.forms.specs.Gives.{Gives, left};
+ghost use Rattle.ir_types.specs.declared.name.Name.{Name};
+ghost use Rattle.ir_types.specs.Denotes.{operand_in, inst_in};
+ghost use Rattle.ir_types.specs.Grammar.{to_type, trunc, zext, sext, ptrtoint};
+ghost use Rattle.function_reader.specs.View.{Stays};
+
+use crate::flags::{one_flag, two_flags};
+use crate::making::{applied, one_operand};
+use crate::typed::{pointer_value, typed_value};
+use forms::{Cursor, SyntaxFault};
+use ir_types::{Inst, InstKind, Names, Ty};
+use std::alloc::Global;
+use type_reader::value_type;
+
+/// to T.
+fn to_type<'t>(tokens: Cursor<'t>) -> Result<(Ty, Cursor<'t>), SyntaxFault>
+    ensures { Gives (λ x. (x.0, left x.1)) result (read to_type (left tokens.entry)) }
+{
+    let rest = tokens.word(b"to")?;
+    let (ty, rest) = value_type(rest)?;
+    Ok((ty, rest))
+}
+
+/// [nuw] [nsw] T V to T.
+#[tactic(auto, unfolding(ir_types::specs::Grammar::trunc))]
+pub fn trunc<'t>(
+    alloc: Global,
+    tokens: Cursor<'t>,
+    names: &mut Names,
+) -> Result<(Inst, Cursor<'t>), SyntaxFault>
+    ensures grows { Extends names.old names.new }
+    ensures reads { Gives (λ x. (inst_in names.new x.0, left x.1)) result (read trunc (left tokens.entry)) }
+    ensures stays { Stays inst_in names.new result }
+{
+    let ((nuw, nsw), rest) = two_flags(tokens, b"nuw", b"nsw");
+    let ((from, operand), rest) = typed_value(alloc, rest, names)?;
+    let (ty, rest) = to_type(rest)?;
+    let args = one_operand(alloc, operand)?;
+    let kind = InstKind::Trunc(from, nuw, nsw);
+    Ok((applied(alloc, kind, ty, args), rest))
+}
+
+/// [nneg] T V to T.
+#[tactic(auto, unfolding(ir_types::specs::Grammar::zext))]
+pub fn zext<'t>(
+    alloc: Global,
+    tokens: Cursor<'t>,
+    names: &mut Names,
+) -> Result<(Inst, Cursor<'t>), SyntaxFault>
+    ensures grows { Extends names.old names.new }
+    ensures reads { Gives (λ x. (inst_in names.new x.0, left x.1)) result (read zext (left tokens.entry)) }
+    ensures stays { Stays inst_in names.new result }
+{
+    let (nneg, rest) = one_flag(tokens, b"nneg");
+    let ((from, operand), rest) = typed_value(alloc, rest, names)?;
+    let (ty, rest) = to_type(rest)?;
+    let args = one_operand(alloc, operand)?;
+    Ok((applied(alloc, InstKind::Zext(from, nneg), ty, args), rest))
+}
+
+/// T V to T.
+#[tactic(auto, unfolding(ir_types::specs::Grammar::sext))]
+pub fn sext<'t>(
+    alloc: Global,
+    tokens: Cursor<'t>,
+    names: &mut Names,
+) -> Result<(Inst, Cursor<'t>), SyntaxFault>
+    ensures grows { Extends names.old names.new }
+    ensures reads { Gives (λ x. (inst_in names.new x.0, left x.1)) result (read sext (left tokens.entry)) }
+    ensures stays { Stays inst_in names.new result }
+{
+    let ((from, operand), rest) = typed_value(alloc, tokens, names)?;
+    let (ty, rest) = to_type(rest)?;
+    let args = one_operand(alloc, operand)?;
+    Ok((applied(alloc, InstKind::Sext(from), ty, args), rest))
+}
+
+/// ptr V to T.
+#[tactic(auto, unfolding(ir_types::specs::Grammar::ptrtoint))]
+pub fn ptrtoint<'t>(
+    alloc: Global,
+    tokens: Cursor<'t>,
+    names: &mut Names,
+) -> Result<(Inst, Cursor<'t>), SyntaxFault>
+    ensures grows { Extends names.old names.new }
+    ensures reads { Gives (λ x. (inst_in names.new x.0, left x.1)) result (read ptrtoint (left tokens.entry)) }
+    ensures stays { Stays inst_in names.new result }
+{
+    let (pointer, rest) = pointer_value(alloc, tokens, names)?;
+    let (ty, rest) = to_type(rest)?;
+    let args = one_operand(alloc, pointer)?;
+    Ok((applied(alloc, InstKind::PtrToInt, ty, args), rest))
+}

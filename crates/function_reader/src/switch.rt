@@ -1,0 +1,116 @@
+// The cases of a switch, and the switch without its word.
+
+ghost use Rattle.std.specs.Prelude.{◌≡◌, ◌≤◌, List, map, IfOk};
+ghost use Rattle.forms.specs.View.{Extends};
+ghost use Rattle.forms.specs.Reading.{read, opens};
+ghost use Rattle.forms.specs.Walk.{completed};
+ghost use Rattle.forms.specs.Gives.{Gives, left};
+ghost use Rattle.ir_types.specs.declared.name.Name.{Name};
+ghost use Rattle.ir_types.specs.Denotes.{inst_in};
+ghost use Rattle.ir_types.specs.Types.{IsOneOf, widths};
+ghost use Rattle.ir_types.specs.Grammar.{case_of_switch, switch};
+ghost use Rattle.function_reader.specs.Split.{labels_in, case_at, case_in, cases_in, cases_read, switch_head, head_in};
+ghost use Rattle.function_reader.specs.View.{Stays};
+
+use crate::branches::comma_target;
+use crate::making::{bare, one_label, one_operand};
+use crate::numbers::number_at;
+use crate::typed::index_value;
+use forms::{Cursor, SyntaxFault, TokenKind};
+use ir_types::{Inst, InstKind, Labels, Names, Operand, Ty, ValueId};
+use lists::Items;
+use std::alloc::Global;
+use type_reader::{begins_width, width};
+
+/// iN number, label %name, where the width is this.
+#[tactic(auto, unfolding(ir_types::specs::Grammar::case_of_switch))]
+fn case<'t>(
+    alloc: Global,
+    bits: u32,
+    tokens: Cursor<'t>,
+    names: &mut Names,
+) -> Result<((u64, ValueId), Cursor<'t>), SyntaxFault>
+    requires { bits ≤ 64 }
+    ensures grows { Extends names.old names.new }
+    ensures reads { Gives (λ x. (case_in names.new x.0, left x.1)) result (completed (case_at bits) (read case_of_switch (left tokens.entry))) }
+    ensures stays { Stays case_in names.new result }
+{
+    let (written, rest) = width(tokens)?;
+    let (digits, rest) = rest.one(TokenKind::Number)?;
+    let (label, rest) = comma_target(alloc, rest, names)?;
+    if written != bits {
+        return Err(tokens.refusal());
+    }
+    Ok(((number_at(bits, digits), label), rest))
+}
+
+/// Whether a case stands next.
+#[tactic(auto, unfolding(ir_types::specs::Grammar::case_of_switch, ir_types::specs::Grammar::width))]
+fn begins_case(tokens: Cursor<'_>) -> bool
+    ensures { result ≡ opens case_of_switch (left tokens.entry) }
+{
+    begins_width(tokens)
+}
+
+/// The numbers of the cases, and their labels behind those before them.
+fn cases<'t>(
+    alloc: Global,
+    bits: u32,
+    labels: Labels,
+    tokens: Cursor<'t>,
+    names: &mut Names,
+) -> Result<((Vec<u64>, Labels), Cursor<'t>), SyntaxFault>
+    requires narrow { bits ≤ 64 }
+    requires labels { (later : List Name) → Extends names.old later → labels_in later labels ≡ labels_in names.old labels }
+    ensures grows { Extends names.old names.new }
+    ensures reads { Gives (λ x. (cases_in names.new (x.0.0.items, x.0.1), left x.1)) result (cases_read bits (labels_in names.old labels) (left tokens.entry)) }
+    ensures stays { Stays (λ ns x. cases_in ns (x.0.items, x.1)) names.new result }
+{
+    let mut numbers = Vec::new(alloc);
+    let mut labels = labels;
+    let mut rest = tokens;
+    'more: while begins_case(rest) {
+        let ((number, label), after) = case(alloc, bits, rest, names)?;
+        numbers.push(number)?;
+        labels.push(label)?;
+        rest = after;
+    }
+    Ok(((numbers, labels), rest))
+}
+
+/// iN V, label %name.
+fn head<'t>(
+    alloc: Global,
+    tokens: Cursor<'t>,
+    names: &mut Names,
+) -> Result<(((u32, Operand), ValueId), Cursor<'t>), SyntaxFault>
+    ensures grows { Extends names.old names.new }
+    ensures reads { Gives (λ x. (head_in names.new x.0, left x.1)) result (read switch_head (left tokens.entry)) }
+    ensures stays { Stays head_in names.new result }
+    ensures written { IfOk result (λ x. IsOneOf widths x.0.0.0) }
+{
+    let (value, rest) = index_value(alloc, tokens, names)?;
+    let (default, rest) = comma_target(alloc, rest, names)?;
+    Ok(((value, default), rest))
+}
+
+/// iN V, label %name [ iN number, label %name .. ].
+#[tactic(auto, using(crate::proofs::Split::switch_is))]
+pub fn switch<'t>(
+    alloc: Global,
+    tokens: Cursor<'t>,
+    names: &mut Names,
+) -> Result<(Inst, Cursor<'t>), SyntaxFault>
+    ensures grows { Extends names.old names.new }
+    ensures reads { Gives (λ x. (inst_in names.new x.0, left x.1)) result (read switch (left tokens.entry)) }
+    ensures stays { Stays inst_in names.new result }
+{
+    let (((bits, value), default), rest) = head(alloc, tokens, names)?;
+    let rest = rest.mark(TokenKind::LeftBracket)?;
+    let labels = one_label(alloc, default)?;
+    let ((numbers, labels), rest) = cases(alloc, bits, labels, rest, names)?;
+    let rest = rest.mark(TokenKind::RightBracket)?;
+    let args = one_operand(alloc, value)?;
+    let kind = InstKind::Switch(bits, Items::from_vec(numbers));
+    Ok((bare(alloc, kind, Ty::Void, args, labels), rest))
+}
