@@ -4,15 +4,17 @@ use Rattle.std.specs.Prelude.{codes, map, flat_map}
 use Rattle.std.specs.List.{AllByRecursion}
 use Rattle.std.proofs.lemmas.List.{append-nil, drop_all}
 use Rattle.text_lex.specs.Layout.{Piece, text_of}
+use Rattle.text_lex.specs.KeptText.{kept_behind}
 use Rattle.text_lex.proofs.Layouts.{text_of-append}
 use Rattle.ir_types.specs.declared.name.Name.{Name}
 use Rattle.ir_types.specs.declared.module.Function.{Function}
 use Rattle.ir_types.specs.Denotes.{tree_of_function}
 use Rattle.ir_types.specs.Tree.{InstTree, BlockTree, FunctionTree}
 use Rattle.type_printer.specs.Pieces.{local_token, global_token, line_feed, separated, type_pieces}
-use Rattle.ir_printer.specs.Print.{kind_pieces, result_pieces, inst_pieces, block_pieces, kept_then_blank, blank_then_kept, params_pieces, function_word, head_pieces, body_pieces, function_pieces, parting, functions_behind, definition_pieces}
+use Rattle.ir_printer.specs.Print.{opening_pieces, operands_pieces, ending_pieces, result_pieces, inst_pieces, block_pieces, kept_then_blank, blank_then_kept, params_pieces, function_word, head_pieces, body_pieces, function_pieces, parting, functions_behind, definition_pieces}
 
-pub inst_text : (i : InstTree) → text_of (inst_pieces i) ≡ (text_of (result_pieces i.result) ++ text_of (kind_pieces i.kind i.ty i.args i.labels)) ++ 10 ∷ []
+pub inst_text : (i : InstTree) → text_of (inst_pieces i)
+    ≡ text_of (result_pieces i.result) ++ (text_of (opening_pieces i.kind) ++ (text_of (operands_pieces i.kind i.ty i.args i.labels) ++ (text_of (ending_pieces i.kind i.ty i.labels) ++ (text_of (kept_behind [] i.kept) ++ 10 ∷ []))))
 unfolding inst_pieces
 inst_text i = simp (text_of-append, append_assoc)
 

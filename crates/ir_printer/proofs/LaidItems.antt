@@ -18,8 +18,11 @@ use Rattle.type_printer.specs.Pieces.{token, word, blank, line_feed, right_paren
 use Rattle.type_printer.proofs.Names.{global_kind}
 use Rattle.type_printer.proofs.Laid.{IsLaid, IsBehind, loose, nothing_behind, blank_laid, feed_laid, mark_laid, token_laid, laid-append, behind-append, separated_laid, all_laid}
 use Rattle.type_printer.proofs.LaidOut.{comma_laid, equal_laid, bracket_kinds, commas_part, feeds_part, local_laid, word_laid, type_laid, type_returned}
+use Rattle.type_printer.proofs.Writes.{each_is_laid}
 use Rattle.ir_printer.specs.Print.{dots, kept_then_blank, blank_then_kept, whole_line, block_pieces, param_pieces, dots_pieces, function_word, head_pieces, body_pieces, function_pieces, definition_pieces, type_at, variable_word, variable_pieces}
-use Rattle.ir_printer.proofs.LaidOut.{block_laid}
+use Rattle.ir_printer.proofs.KeptWritten.{then_blank_laid, blank_then_behind, behind_laid}
+use Rattle.ir_printer.proofs.Blocks.{block_writes}
+use Rattle.ir_printer.proofs.SpelledFunctions.{param_writes}
 
 -- behind these pieces any that are laid may stand
 pub record EndsLine (ps : List Piece) : Type 0 where
@@ -30,38 +33,14 @@ with_feed ps h = record { before = λ qs g. rw (append_assoc ps) (laid-append ps
 
 -- ---- what is kept
 
-kept_laid : (xs : KeptTexts) → AllByRecursion IsToken xs → IsLaid (kept_pieces xs)
-kept_laid xs h = record { tokens = kept_are xs h; joined = kept_joins xs }
-
 pub line_laid : (xs : KeptTexts) → AllByRecursion IsToken xs → EndsLine (whole_line xs)
 line_laid xs h = with_feed (line_pieces xs) (record { tokens = line_are xs h; joined = line_joins xs })
-
-then_blank_laid : (xs : KeptTexts) (ps : List Piece) → AllByRecursion IsToken xs → IsLaid ps → IsLaid (kept_then_blank xs ++ ps)
-then_blank_laid [] ps h g = g
-then_blank_laid (w ∷ ws) ps h g = rw (append_assoc (kept_pieces (w ∷ ws))) (laid-append (kept_pieces (w ∷ ws)) (blank ∷ ps) (kept_laid (w ∷ ws) h) (blank_laid g))
-
-blank_then_behind : (xs : KeptTexts) → AllByRecursion IsToken xs → IsBehind (blank_then_kept xs)
-blank_then_behind [] h = nothing_behind
-blank_then_behind (w ∷ ws) h = blank_laid (kept_laid (w ∷ ws) h)
-
--- behind a token that goes on
-behind_laid : (xs : KeptTexts) → AllByRecursion IsToken xs → IsBehind (kept_behind [] xs)
-unfolding token_of table
-behind_laid xs h = record { tokens = are xs h; joined = kept_joins ([] ∷ xs) }
-  where
-    are : (xs : KeptTexts) → AllByRecursion IsToken xs → AreTokens (kept_behind [] xs)
-    are [] h = tt
-    are (w ∷ ws) h = elim (test (touches [] w)) [ inl y ↦ rw y (kept_are (w ∷ ws) h) | inr n ↦ rw n (kept_are (w ∷ ws) h) ]
 
 -- ---- functions
 
 function_kinds : (kind_of (codes "define") ≡ Some kinds.Word) × (kind_of (codes "declare") ≡ Some kinds.Word) × (kind_of (codes "...") ≡ Some kinds.Dots)
 unfolding table
 function_kinds = (refl, refl, refl)
-
-param_laid : (p : ParamTree) → IsParam p → IsLaid (param_pieces p)
-unfolding param_pieces
-param_laid p h = laid-append (type_pieces p.ty) _ (type_laid p.ty (type_returned p.ty h.ty)) (behind-append (blank_then_kept p.kept) _ (blank_then_behind p.kept h.kept_texts.tokens) (blank_laid (local_laid p.name h.name nothing_behind)))
 
 dots_laid : IsLaid (dots ∷ [])
 dots_laid = token_laid (token kinds.Dots (codes "...")) function_kinds.2 nothing_behind
@@ -73,9 +52,9 @@ all_params_laid params further ps h g =
     laid-append (with_commas (map param_pieces params) ++ cond further (dots_pieces params) []) _ (with_dots params further h) closing
   where
     with_dots : (params : List ParamTree) (further : Bool) → AllByRecursion IsParam params → IsLaid (with_commas (map param_pieces params) ++ cond further (dots_pieces params) [])
-    with_dots params false h = laid-append (with_commas (map param_pieces params)) [] (separated_laid _ (map param_pieces params) commas_part (all_laid IsParam param_pieces param_laid params h)) nothing_behind
+    with_dots params false h = laid-append (with_commas (map param_pieces params)) [] (separated_laid _ (map param_pieces params) commas_part (each_is_laid param_writes params h)) nothing_behind
     with_dots [] true h = dots_laid
-    with_dots (p ∷ params) true h = laid-append (with_commas (map param_pieces (p ∷ params))) _ (separated_laid _ (map param_pieces (p ∷ params)) commas_part (all_laid IsParam param_pieces param_laid (p ∷ params) h)) (comma_laid (loose (blank_laid dots_laid)))
+    with_dots (p ∷ params) true h = laid-append (with_commas (map param_pieces (p ∷ params))) _ (separated_laid _ (map param_pieces (p ∷ params)) commas_part (each_is_laid param_writes (p ∷ params) h)) (comma_laid (loose (blank_laid dots_laid)))
 
 word_kind : (bs : List BlockTree) → kind_of (function_word bs) ≡ Some kinds.Word
 word_kind [] = function_kinds.1
@@ -91,7 +70,7 @@ head_laid f h =
 body_laid : (bs : List BlockTree) (qs : List Piece) → AllByRecursion IsBlock bs → IsLaid qs → IsBehind (body_pieces bs ++ qs)
 body_laid [] qs h g = feed_laid g
 body_laid (b ∷ bs) qs h g =
-    let blocks = separated_laid _ (map block_pieces (b ∷ bs)) feeds_part (all_laid IsBlock block_pieces block_laid (b ∷ bs) h) in
+    let blocks = separated_laid _ (map block_pieces (b ∷ bs)) feeds_part (each_is_laid block_writes (b ∷ bs) h) in
     let closing : IsBehind (right_brace ∷ line_feed ∷ qs) = mark_laid kinds.RightBrace (codes "}") refl bracket_kinds.5 (loose (feed_laid g)) in
     blank_laid (loose (mark_laid kinds.LeftBrace (codes "{") refl bracket_kinds.4 (loose (feed_laid (rw (append_assoc (separated (line_feed ∷ []) (map block_pieces (b ∷ bs)))) (laid-append _ (right_brace ∷ line_feed ∷ qs) blocks closing))))))
 

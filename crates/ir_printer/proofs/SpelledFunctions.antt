@@ -19,42 +19,25 @@ use Rattle.type_printer.specs.Pieces as pieces_of
 use Rattle.type_printer.specs.Pieces.{token, global_token, local_token, type_pieces, with_commas}
 use Rattle.type_printer.proofs.Says.{Says, pair_says, left_says, right_says, mapped_says, mark_says, by_word_says, there_says, marked_says, between_says, EachSays, some_says, commas_says, list_says}
 use Rattle.type_printer.proofs.Spelled.{local_says, global_says, type_says, return_type_says}
+use Rattle.type_printer.proofs.Writes.{both, spaced, mapped_writes, there_writes, EachWrites, each_says}
 use Rattle.ir_printer.specs.Print.{kept_then_blank, blank_then_kept, block_pieces, param_pieces, dots_pieces, params_pieces, function_word, head_pieces, body_pieces, function_pieces}
 use Rattle.ir_printer.proofs.Numbering.{written_param, written_block, written_function}
-use Rattle.ir_printer.proofs.Spelled.{block_says}
-
--- ---- what is kept
-
-pub kept_says : {f : Form KeptTexts} {xs : KeptTexts} → IsKept f xs → Says f xs (map token_of xs)
-kept_says h = record { spells = h.spelled }
-
-pub then_blank_tokens : (xs : KeptTexts) → tokens_of (kept_then_blank xs) ≡ map token_of xs
-then_blank_tokens [] = refl
-then_blank_tokens (w ∷ ws) = tokens_of-append (kept_pieces (w ∷ ws)) _ ∙ append-nil _ ∙ kept_tokens (w ∷ ws)
-
-blank_then_tokens : (xs : KeptTexts) → tokens_of (blank_then_kept xs) ≡ map token_of xs
-blank_then_tokens [] = refl
-blank_then_tokens (w ∷ ws) = kept_tokens (w ∷ ws)
+use Rattle.ir_printer.proofs.Values.{local_writes, type_writes}
+use Rattle.ir_printer.proofs.KeptWritten.{kept_says, then_blank_tokens, blank_then_tokens, spaced_kept}
+use Rattle.ir_printer.proofs.Blocks.{block_writes}
 
 -- ---- parameters
 
-param_tokens : (p : ParamTree) → tokens_of (param_pieces p) ≡ tokens_of (type_pieces p.ty) ++ (map token_of p.kept ++ local_token p.name ∷ [])
-unfolding param_pieces
-param_tokens p = rw (tokens_of-append (type_pieces p.ty), tokens_of-append (blank_then_kept p.kept), blank_then_tokens p.kept) refl
-
-param_says : EachSays parameter written_param param_pieces IsParam
-unfolding parameter
-param_says = record {
-  one = λ p h. rw (param_tokens p) (mapped_says (p.ty, (p.kept, Some p.name)) _ refl
-      (pair_says (tokens_of (type_pieces p.ty)) _ (type_says p.ty h.ty) (pair_says (map token_of p.kept) _ (kept_says h.kept_texts) (there_says (local_says p.name h.name)))));
-}
+pub param_writes : EachWrites parameter written_param param_pieces IsParam
+unfolding parameter param_pieces
+param_writes = record { one = λ p h. mapped_writes (p.ty, (p.kept, Some p.name)) _ refl (both (type_writes p.ty h.ty) (both (spaced_kept h.kept_texts) (spaced (there_writes (local_writes p.name h.name))))) }
 
 further_says : (params : List ParamTree) (further : Bool) → AllByRecursion IsParam params → Says dotted_parameters (map written_param params, further) (tokens_of (with_commas (map param_pieces params)) ++ tokens_of (cond further (dots_pieces params) []))
 unfolding dotted_parameters
 further_says [] false h = mapped_says None _ refl (record { spells = refl })
 further_says [] true h = mapped_says (Some ([], true)) _ refl (there_says (left_says (mapped_says tt _ refl (mark_says kinds.Dots (codes "...")))))
-further_says (p ∷ ps) false h = mapped_says (Some (map written_param (p ∷ ps), false)) _ refl (there_says (right_says (mapped_says (map written_param (p ∷ ps), None) _ refl (pair_says (tokens_of (with_commas (map param_pieces (p ∷ ps)))) [] (commas_says param_says (p ∷ ps) (omega arith) h) (record { spells = refl })))))
-further_says (p ∷ ps) true h = mapped_says (Some (map written_param (p ∷ ps), true)) _ refl (there_says (right_says (mapped_says (map written_param (p ∷ ps), Some tt) _ refl (pair_says (tokens_of (with_commas (map param_pieces (p ∷ ps)))) _ (commas_says param_says (p ∷ ps) (omega arith) h) (there_says (marked_says kinds.Comma (codes ",") (mark_says kinds.Dots (codes "..."))))))))
+further_says (p ∷ ps) false h = mapped_says (Some (map written_param (p ∷ ps), false)) _ refl (there_says (right_says (mapped_says (map written_param (p ∷ ps), None) _ refl (pair_says (tokens_of (with_commas (map param_pieces (p ∷ ps)))) [] (commas_says (each_says param_writes) (p ∷ ps) (omega arith) h) (record { spells = refl })))))
+further_says (p ∷ ps) true h = mapped_says (Some (map written_param (p ∷ ps), true)) _ refl (there_says (right_says (mapped_says (map written_param (p ∷ ps), Some tt) _ refl (pair_says (tokens_of (with_commas (map param_pieces (p ∷ ps)))) _ (commas_says (each_says param_writes) (p ∷ ps) (omega arith) h) (there_says (marked_says kinds.Comma (codes ",") (mark_says kinds.Dots (codes "..."))))))))
 
 params_tokens : (f : FunctionTree) → tokens_of (params_pieces f) ≡ tokens_of (with_commas (map param_pieces f.params)) ++ tokens_of (cond f.varargs (dots_pieces f.params) [])
 params_tokens f = tokens_of-append (with_commas (map param_pieces f.params)) _
@@ -108,11 +91,11 @@ defined_says f b bs e h =
     let blocks = subst (AllByRecursion IsBlock) e h.blocks in
     let fixed = no_further f b bs e h in
     let no_dots : tokens_of (params_pieces f) ≡ tokens_of (with_commas (map param_pieces f.params)) = params_tokens f ∙ rw fixed (append-nil _) in
-    let params : Says (list parameter) (map written_param f.params) (tokens_of (params_pieces f)) = rw no_dots (list_says param_says f.params h.params) in
+    let params : Says (list parameter) (map written_param f.params) (tokens_of (params_pieces f)) = rw no_dots (list_says (each_says param_writes) f.params h.params) in
     mapped_says (f.before, (f.ret, (f.name, (map written_param f.params, (f.after, map written_block (b ∷ bs)))))) _ (rw (e, fixed) refl)
     (pair_says (map token_of f.before) _ (kept_says before) (pair_says (tokens_of (type_pieces f.ret)) _ (return_type_says f.ret h.ret) (pair_says (global_token f.name ∷ []) _ (global_says f.name h.name)
     (pair_says (in_parens (tokens_of (params_pieces f))) _ (between_says (tokens_of (params_pieces f)) kinds.LeftParen kinds.RightParen _ _ params)
-    (pair_says (map token_of f.after) _ (kept_says after) (between_says (blocks_tokens (b ∷ bs)) kinds.LeftBrace kinds.RightBrace _ _ (some_says (10 ∷ []) block_says (b ∷ bs) (omega arith) blocks)))))))
+    (pair_says (map token_of f.after) _ (kept_says after) (between_says (blocks_tokens (b ∷ bs)) kinds.LeftBrace kinds.RightBrace _ _ (some_says (10 ∷ []) (each_says block_writes) (b ∷ bs) (omega arith) blocks)))))))
 
 abbrev up_to_params : FunctionTree → List Lexeme → List Lexeme
 up_to_params f ts = map token_of f.before ++ (tokens_of (type_pieces f.ret) ++ (global_token f.name ∷ (in_parens (tokens_of (params_pieces f)) ++ ts)))

@@ -24,7 +24,7 @@ use Rattle.type_printer.proofs.Says.{Says, pair_says, left_says, right_says, map
 use Rattle.ir_printer.specs.Print as print
 use Rattle.ir_printer.specs.Print.{whole_line, definition_pieces, type_at, variable_pieces}
 use Rattle.ir_printer.proofs.Lines.{head_parts, group_parts}
-use Rattle.ir_printer.proofs.SpelledFunctions.{kept_says, then_blank_tokens}
+use Rattle.ir_printer.proofs.KeptWritten.{kept_says, then_blank_tokens, behind_tokens}
 
 -- ---- lines
 
@@ -72,9 +72,6 @@ opaque_says m n h =
     right_says (right_says (right_says (left_says (made_says _ _ (rw (local_again n h) refl) (ahead_says kinds.Local _ (after_mark_says kinds.Equal _ (behind_says (codes "type") (right_says (word_says _ None)))))))))
 
 -- ---- variables
-
-behind_tokens : (xs : KeptTexts) → tokens_of (kept_behind [] xs) ≡ map token_of xs
-behind_tokens xs = let e = kept_tokens ([] ∷ xs) in cc
 
 word_tokens : (writable : Bool) → Says variable_word writable (token kinds.Word (print.variable_word writable) ∷ [])
 unfolding variable_word

@@ -1,18 +1,20 @@
 -- The text that a module is printed as, in pieces: its tokens and the white space between them.
-use Rattle.std.specs.Prelude.{ℕ, Bool, true, false, ◌==◌, List, [], ◌∷◌, ◌++◌, map, flat_map, codes, Option, Some, None, if◌then◌else◌}
+use Rattle.std.specs.Prelude.{ℕ, zero, suc, Bool, true, false, ◌==◌, List, [], ◌∷◌, ◌++◌, map, flat_map, codes, decimal, Option, Some, None, if◌then◌else◌}
+use Rattle.std.specs.List.{zip}
 use Rattle.forms.specs.declared.TokenKind.TheVariants as kinds
 use Rattle.forms.specs.Form.{Lexeme}
-use Rattle.text_lex.specs.Layout.{Piece, lexeme, text_of}
+use Rattle.text_lex.specs.Layout.{Piece, gap, lexeme, text_of}
 use Rattle.text_lex.specs.KeptText.{kept_behind, kept_pieces, line_pieces}
 use Rattle.ir_types.specs.declared.name.Name.{Name}
 use Rattle.ir_types.specs.declared.inst.Ty.{Ty}
-use Rattle.ir_types.specs.declared.inst.Ty.TheVariants.{Int}
+use Rattle.ir_types.specs.declared.inst.Ty.TheVariants.{Ptr}
 use Rattle.ir_types.specs.declared.inst.BinOp.{BinOp}
-use Rattle.ir_types.specs.declared.inst.BinOp.TheVariants.{Add}
+use Rattle.ir_types.specs.declared.inst.BinOp.TheVariants.{Add, Sub, Mul, Shl, UDiv, SDiv, URem, SRem, LShr, AShr, And, Or, Xor}
+use Rattle.ir_types.specs.declared.inst.Flags.{Flags}
 use Rattle.ir_types.specs.declared.inst.Pred.{Pred}
 use Rattle.ir_types.specs.declared.inst.Pred.TheVariants.{Eq, Ne, Ugt, Uge, Ult, Ule, Sgt, Sge, Slt, Sle}
 use Rattle.ir_types.specs.declared.inst.InstKind.{InstKind}
-use Rattle.ir_types.specs.declared.inst.InstKind.TheVariants.{Binary, Compare, Phi, Jump, Branch, Return, ReturnVoid}
+use Rattle.ir_types.specs.declared.inst.InstKind.TheVariants.{Binary, Compare, Select, Freeze, Trunc, Zext, Sext, PtrToInt, Phi, Load, Store, Extract, Insert, Shuffle, Jump, Branch, Switch, ReturnVoid, Return, Unreachable}
 use Rattle.ir_types.specs.declared.memory_type.TypeId.{TypeId}
 use Rattle.ir_types.specs.declared.memory_type.TypeName.{TypeName}
 use Rattle.ir_types.specs.declared.memory_type.NamedType.{NamedType}
@@ -23,17 +25,23 @@ use Rattle.ir_types.specs.declared.module.SymbolKind.TheVariants.{Variable}
 use Rattle.ir_types.specs.declared.module.SymbolKind.TheVariants as symbols
 use Rattle.ir_types.specs.declared.module.Module.{Module}
 use Rattle.ir_types.specs.Denotes.{type_names_of, tree_of_function}
-use Rattle.ir_types.specs.Grammar.{width_of}
-use Rattle.ir_types.specs.Tree.{KeptTexts, OperandTree, local, number, InstTree, BlockTree, ParamTree, FunctionTree}
+use Rattle.ir_types.specs.Grammar.{width_of, element_of}
+use Rattle.ir_types.specs.Meaning.{operand_types}
+use Rattle.ir_types.specs.Tree.{KeptTexts, OperandTree, local, number, null, poison, lanes, InstTree, BlockTree, ParamTree, FunctionTree}
 use Rattle.type_printer.specs.Texts.{signed_text}
 use Rattle.type_printer.specs.MemoryPieces.{memory_pieces}
-use Rattle.type_printer.specs.Pieces.{token, word, comma, equal, left_paren, right_paren, left_bracket, right_bracket, left_brace, right_brace, blank, line_feed, indent, each_behind, separated, with_commas, local_token, global_token, label_token, type_pieces}
+use Rattle.type_printer.specs.Pieces.{token, word, comma, equal, left_paren, right_paren, left_bracket, right_bracket, left_brace, right_brace, less, greater, blank, line_feed, indent, each_behind, separated, with_commas, local_token, global_token, label_token, width_word, type_pieces}
 
 -- ---- tokens
 
 -- `...`
 abbrev pub dots : Piece
 dots = lexeme (token kinds.Dots (codes "..."))
+
+-- what parts the one at a place from those before it
+abbrev pub comma_before : ℕ → List Piece
+comma_before zero = []
+comma_before (suc i) = comma ∷ blank ∷ []
 
 -- ---- values
 
@@ -42,20 +50,48 @@ unfoldable pub number_token : Ty → ℕ → Lexeme
 number_token t v =
     if width_of t == 1 then (if v == 1 then token kinds.Word (codes "true") else token kinds.Word (codes "false")) else token kinds.Number (signed_text (width_of t) v)
 
--- an operand: %name, or a number at the type
-abbrev pub operand_token : Ty → OperandTree → Lexeme
-operand_token t (local n) = local_token n
-operand_token t (number v) = number_token t v
+-- what a lane of a type holds: a number, or poison
+abbrev pub lane_value : Ty → Option ℕ → Piece
+lane_value t None = word (codes "poison")
+lane_value t (Some v) = lexeme (number_token t v)
 
--- the same as pieces
+-- T V of a lane
+abbrev pub lane_pieces : Ty → Option ℕ → List Piece
+lane_pieces t x = type_pieces t ++ (blank ∷ lane_value t x ∷ [])
+
+-- < T V, .. >
+abbrev pub lanes_pieces : Ty → List (Option ℕ) → List Piece
+lanes_pieces t xs = less ∷ (with_commas (map (lane_pieces t) xs) ++ (greater ∷ []))
+
+-- an operand at its type
 abbrev pub operand_pieces : Ty → OperandTree → List Piece
-operand_pieces t a = lexeme (operand_token t a) ∷ []
+operand_pieces t (local n) = lexeme (local_token n) ∷ []
+operand_pieces t (number v) = lexeme (number_token t v) ∷ []
+operand_pieces t null = word (codes "null") ∷ []
+operand_pieces t poison = word (codes "poison") ∷ []
+operand_pieces t (lanes xs) = lanes_pieces (element_of t) xs
 
--- ---- instructions
+-- T V
+abbrev pub typed_operand : Ty → OperandTree → List Piece
+typed_operand t a = type_pieces t ++ (blank ∷ operand_pieces t a)
+
+-- ---- words of instructions
 
 -- the word of an operator
 unfoldable pub operator_word : BinOp → List ℕ
 operator_word Add = codes "add"
+operator_word Sub = codes "sub"
+operator_word Mul = codes "mul"
+operator_word Shl = codes "shl"
+operator_word UDiv = codes "udiv"
+operator_word SDiv = codes "sdiv"
+operator_word URem = codes "urem"
+operator_word SRem = codes "srem"
+operator_word LShr = codes "lshr"
+operator_word AShr = codes "ashr"
+operator_word And = codes "and"
+operator_word Or = codes "or"
+operator_word Xor = codes "xor"
 
 -- the word of a predicate
 unfoldable pub predicate_word : Pred → List ℕ
@@ -70,9 +106,87 @@ predicate_word Sge = codes "sge"
 predicate_word Slt = codes "slt"
 predicate_word Sle = codes "sle"
 
--- the type, and the operands at it
+-- a flag behind a space, where it is set
+abbrev pub flag_pieces : Bool → List ℕ → List Piece
+flag_pieces b w = if b then blank ∷ word w ∷ [] else []
+
+-- `nuw` and `nsw`
+abbrev pub wrap_pieces : Bool → Bool → List Piece
+wrap_pieces nuw nsw = flag_pieces nuw (codes "nuw") ++ flag_pieces nsw (codes "nsw")
+
+-- the flags of an operator
+abbrev pub flags_pieces : Flags → List Piece
+flags_pieces f = wrap_pieces f.nuw f.nsw ++ (flag_pieces f.exact (codes "exact") ++ flag_pieces f.disjoint (codes "disjoint"))
+
+-- the word of an instruction, with its flags or its predicate
+abbrev pub opening_pieces : InstKind → List Piece
+opening_pieces (Binary op flags) = word (operator_word op) ∷ flags_pieces flags
+opening_pieces (Compare p u) = word (codes "icmp") ∷ blank ∷ word (predicate_word p) ∷ []
+opening_pieces (Select condition last) = word (codes "select") ∷ []
+opening_pieces Freeze = word (codes "freeze") ∷ []
+opening_pieces (Trunc from nuw nsw) = word (codes "trunc") ∷ wrap_pieces nuw nsw
+opening_pieces (Zext from nneg) = word (codes "zext") ∷ flag_pieces nneg (codes "nneg")
+opening_pieces (Sext from) = word (codes "sext") ∷ []
+opening_pieces PtrToInt = word (codes "ptrtoint") ∷ []
+opening_pieces Phi = word (codes "phi") ∷ []
+opening_pieces (Load align) = word (codes "load") ∷ []
+opening_pieces (Store of align) = word (codes "store") ∷ []
+opening_pieces (Extract of width) = word (codes "extractelement") ∷ []
+opening_pieces (Insert element width) = word (codes "insertelement") ∷ []
+opening_pieces (Shuffle one other mask) = word (codes "shufflevector") ∷ []
+opening_pieces Jump = word (codes "br") ∷ []
+opening_pieces Branch = word (codes "br") ∷ []
+opening_pieces (Switch width cases) = word (codes "switch") ∷ []
+opening_pieces ReturnVoid = word (codes "ret") ∷ []
+opening_pieces (Return of) = word (codes "ret") ∷ []
+opening_pieces Unreachable = word (codes "unreachable") ∷ []
+
+-- ---- operands of instructions
+
+-- T V, V
 abbrev pub typed_pieces : Ty → List OperandTree → List Piece
 typed_pieces t args = blank ∷ (type_pieces t ++ (blank ∷ with_commas (map (operand_pieces t) args)))
+
+-- each of some operands with its type
+abbrev pub each_typed : List Ty → List OperandTree → List (List Piece)
+each_typed ts args = map (λ x. typed_operand x.0 x.1) (zip ts args)
+
+-- T V, T V
+abbrev pub listed_pieces : List Ty → List OperandTree → List Piece
+listed_pieces ts args = blank ∷ with_commas (each_typed ts args)
+
+-- these in brackets
+abbrev pub in_brackets : List Piece → List Piece
+in_brackets ps = left_bracket ∷ blank ∷ (ps ++ (blank ∷ right_bracket ∷ []))
+
+-- [ V, %name ]
+abbrev pub entry_pieces : Ty → OperandTree → Name → List Piece
+entry_pieces t a l = in_brackets (operand_pieces t a ++ (comma ∷ blank ∷ lexeme (local_token l) ∷ []))
+
+-- an entry for each operand and its label
+abbrev pub entries_of : Ty → List OperandTree → List Name → List (List Piece)
+entries_of t args labels = map (λ x. entry_pieces t x.0 x.1) (zip args labels)
+
+-- the operands of an instruction with their types
+abbrev pub operands_pieces : InstKind → Ty → List OperandTree → List Name → List Piece
+operands_pieces (Binary op flags) t args labels = typed_pieces t args
+operands_pieces (Compare p u) t args labels = typed_pieces u args
+operands_pieces Phi t args labels = blank ∷ (type_pieces t ++ (blank ∷ with_commas (entries_of t args labels)))
+operands_pieces (Load align) t args labels = blank ∷ (type_pieces t ++ (comma ∷ listed_pieces (Ptr ∷ []) args))
+operands_pieces Jump t args labels = []
+operands_pieces ReturnVoid t args labels = blank ∷ word (codes "void") ∷ []
+operands_pieces Unreachable t args labels = []
+operands_pieces kind t args labels = listed_pieces (operand_types kind t) args
+
+-- ---- what stands behind the operands
+
+-- to T
+abbrev pub to_pieces : Ty → List Piece
+to_pieces t = blank ∷ word (codes "to") ∷ blank ∷ type_pieces t
+
+-- , align n
+abbrev pub align_pieces : ℕ → List Piece
+align_pieces n = comma ∷ blank ∷ word (codes "align") ∷ blank ∷ lexeme (token kinds.Number (decimal n)) ∷ []
 
 -- label %name
 abbrev pub target_pieces : Name → List Piece
@@ -82,25 +196,44 @@ target_pieces l = word (codes "label") ∷ blank ∷ lexeme (local_token l) ∷ 
 abbrev pub targets_pieces : List Name → List Piece
 targets_pieces ls = with_commas (map target_pieces ls)
 
--- [ V, %name ]
-abbrev pub entry_pieces : Ty → OperandTree → Name → List Piece
-entry_pieces t a l = left_bracket ∷ blank ∷ lexeme (operand_token t a) ∷ comma ∷ blank ∷ lexeme (local_token l) ∷ blank ∷ right_bracket ∷ []
+-- iN number, label %name, the number in digits at each type
+abbrev pub case_pieces : ℕ → ℕ → Name → List Piece
+case_pieces w n l = word (width_word w) ∷ blank ∷ lexeme (token kinds.Number (signed_text w n)) ∷ comma ∷ blank ∷ target_pieces l
 
--- an entry for each operand and its label
-abbrev pub entries_of : Ty → List OperandTree → List Name → List (List Piece)
-entries_of t (a ∷ args) (l ∷ labels) = entry_pieces t a l ∷ entries_of t args labels
-entries_of t [] labels = []
-entries_of t args [] = []
+-- a case for each number and its label
+abbrev pub cases_of : ℕ → List ℕ → List Name → List (List Piece)
+cases_of w ns labels = map (λ x. case_pieces w x.0 x.1) (zip ns labels)
 
--- an instruction behind its result
+-- what stands before a case, and before the end of the cases: a line of its own
+abbrev pub before_case : Piece
+before_case = gap (10 ∷ 32 ∷ 32 ∷ 32 ∷ 32 ∷ [])
+
+abbrev pub before_end : Piece
+before_end = gap (10 ∷ 32 ∷ 32 ∷ [])
+
+-- , label %name [ iN number, label %name .. ]
+abbrev pub switch_pieces : ℕ → List ℕ → List Name → List Piece
+switch_pieces w ns [] = []
+switch_pieces w ns (l ∷ labels) = comma ∷ blank ∷ (target_pieces l ++ (blank ∷ left_bracket ∷ (each_behind (before_case ∷ []) (cases_of w ns labels) ++ (before_end ∷ right_bracket ∷ []))))
+
+-- the type of a cast, an alignment, or labels
+abbrev pub ending_pieces : InstKind → Ty → List Name → List Piece
+ending_pieces (Trunc from nuw nsw) t labels = to_pieces t
+ending_pieces (Zext from nneg) t labels = to_pieces t
+ending_pieces (Sext from) t labels = to_pieces t
+ending_pieces PtrToInt t labels = to_pieces t
+ending_pieces (Load align) t labels = align_pieces align
+ending_pieces (Store of align) t labels = align_pieces align
+ending_pieces Jump t labels = blank ∷ targets_pieces labels
+ending_pieces Branch t labels = comma ∷ blank ∷ targets_pieces labels
+ending_pieces (Switch width cases) t labels = switch_pieces width cases labels
+ending_pieces kind t labels = []
+
+-- ---- instructions
+
+-- an instruction behind its result, without attachments
 abbrev pub kind_pieces : InstKind → Ty → List OperandTree → List Name → List Piece
-kind_pieces (Binary op) t args labels = word (operator_word op) ∷ typed_pieces t args
-kind_pieces (Compare p u) t args labels = word (codes "icmp") ∷ blank ∷ word (predicate_word p) ∷ typed_pieces u args
-kind_pieces Phi t args labels = word (codes "phi") ∷ blank ∷ (type_pieces t ++ (blank ∷ with_commas (entries_of t args labels)))
-kind_pieces Jump t args labels = word (codes "br") ∷ blank ∷ targets_pieces labels
-kind_pieces Branch t args labels = word (codes "br") ∷ (typed_pieces (Int 1) args ++ (comma ∷ blank ∷ targets_pieces labels))
-kind_pieces (Return u) t args labels = word (codes "ret") ∷ typed_pieces u args
-kind_pieces ReturnVoid t args labels = word (codes "ret") ∷ blank ∷ word (codes "void") ∷ []
+kind_pieces kind t args labels = opening_pieces kind ++ (operands_pieces kind t args labels ++ ending_pieces kind t labels)
 
 -- %name =
 abbrev pub result_pieces : Option Name → List Piece
@@ -109,7 +242,7 @@ result_pieces (Some n) = lexeme (local_token n) ∷ blank ∷ equal ∷ blank �
 
 -- a line, behind its indentation
 unfoldable pub inst_pieces : InstTree → List Piece
-inst_pieces i = result_pieces i.result ++ (kind_pieces i.kind i.ty i.args i.labels ++ (line_feed ∷ []))
+inst_pieces i = result_pieces i.result ++ (kind_pieces i.kind i.ty i.args i.labels ++ (kept_behind [] i.kept ++ (line_feed ∷ [])))
 
 -- ---- blocks
 

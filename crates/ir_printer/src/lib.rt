@@ -6,10 +6,12 @@ ghost use Rattle.text_lex.specs.Layout.{text_of};
 ghost use Rattle.ir_types.specs.Reads.{Reads, IsReadable};
 ghost use Rattle.ir_printer.specs.Print.{front_pieces, module_pieces};
 
+mod branching;
 mod function;
 mod item;
 mod kept;
 mod line;
+mod opening;
 #[cfg(test)]
 mod tests;
 mod value;

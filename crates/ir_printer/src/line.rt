@@ -1,161 +1,120 @@
 // Instructions, each on a line.
 
-ghost use Rattle.std.specs.Prelude.{◌≡◌, ◌<◌, ◌++◌, ◌∷◌, [], map, length, codes, OnOk};
-ghost use Rattle.std.specs.List.{AllByRecursion};
+ghost use Rattle.std.specs.Prelude.{◌≡◌, ◌<◌, ◌++◌, ◌∷◌, [], map, codes, OnOk};
 ghost use Rattle.std.specs.Option.{option_map};
 ghost use Rattle.text_lex.specs.Layout.{text_of};
 ghost use Rattle.ir_types.specs.Denotes.{name_in, operand_in, inst_in};
-ghost use Rattle.ir_shape.specs.Shape.{IsName, IsType, IsOperand, IsBody, IsResult, IsInst};
-ghost use Rattle.type_printer.specs.Pieces.{with_commas};
-ghost use Rattle.ir_printer.specs.Print.{predicate_word, operator_word, target_pieces, targets_pieces, entry_pieces, entries_of, kind_pieces, result_pieces, inst_pieces};
+ghost use Rattle.ir_shape.specs.Shape.{IsBody, IsResult, IsInst};
+ghost use Rattle.ir_printer.specs.Print.{operands_pieces, to_pieces, align_pieces, ending_pieces, result_pieces, inst_pieces};
 
-use crate::value::{put_operand, put_typed};
-use ir_types::{BinOp, Inst, InstKind, Names, Operand, Pred, Ty, ValueId};
+use crate::branching::{put_entries, put_switch, put_targets};
+use crate::kept::put_kept_behind;
+use crate::opening::put_opening;
+use crate::value::{put_listed, put_typed};
+use ir_types::{Inst, InstKind, Names, Ty, ValueId};
 use std::alloc::AllocError;
+use type_printer::name::put_digits;
 use type_printer::types::{put_local, put_type};
 
-#[tactic(auto, unfolding(crate::specs::Print::operator_word))]
-fn word_of_operator(operator: BinOp) -> &'static [u8]
-    ensures { result.now ≡ operator_word operator }
-{
-    match operator {
-        BinOp::Add => b"add",
-    }
-}
-
-#[tactic(auto, unfolding(crate::specs::Print::predicate_word))]
-fn word_of_predicate(predicate: Pred) -> &'static [u8]
-    ensures { result.now ≡ predicate_word predicate }
-{
-    match predicate {
-        Pred::Eq => b"eq",
-        Pred::Ne => b"ne",
-        Pred::Ugt => b"ugt",
-        Pred::Uge => b"uge",
-        Pred::Ult => b"ult",
-        Pred::Ule => b"ule",
-        Pred::Sgt => b"sgt",
-        Pred::Sge => b"sge",
-        Pred::Slt => b"slt",
-        Pred::Sle => b"sle",
-    }
-}
-
-fn put_target(out: &mut Vec<u8>, names: &Names, label: ValueId) -> Result<(), AllocError>
-    requires { IsName (name_in names.now label) }
-    ensures { OnOk result (out.new.items ≡ out.old.items
-        ++ text_of (target_pieces (name_in names.now label))) }
-{
-    out.extend_from_slice(b"label ")?;
-    put_local(out, names, label)
-}
-
-fn put_targets(out: &mut Vec<u8>, names: &Names, labels: &[ValueId]) -> Result<(), AllocError>
-    requires { AllByRecursion IsName (map (name_in names.now) labels.now) }
-    ensures { OnOk result (out.new.items ≡ out.old.items
-        ++ text_of (targets_pieces (map (name_in names.now) labels.now))) }
-{
-    let [first, rest @ ..] = labels else {
-        return Ok(());
-    };
-    put_target(out, names, *first)?;
-    for label in rest {
-        out.extend_from_slice(b", ")?;
-        put_target(out, names, *label)?;
-    }
-    Ok(())
-}
-
-fn put_entry(
-    out: &mut Vec<u8>,
-    names: &Names,
-    ty: Ty,
-    operand: Operand,
-    label: ValueId,
-) -> Result<(), AllocError>
-    requires typed { IsType ty }
-    requires operand { IsOperand ty (operand_in names.now operand) }
-    requires label { IsName (name_in names.now label) }
-    ensures { OnOk result (out.new.items ≡ out.old.items
-        ++ text_of (entry_pieces ty (operand_in names.now operand) (name_in names.now label))) }
-{
-    out.extend_from_slice(b"[ ")?;
-    put_operand(out, names, ty, operand)?;
-    out.extend_from_slice(b", ")?;
-    put_local(out, names, label)?;
-    out.extend_from_slice(b" ]")
-}
-
-fn put_entries(
-    out: &mut Vec<u8>,
-    names: &Names,
-    ty: Ty,
-    operands: &[Operand],
-    labels: &[ValueId],
-) -> Result<(), AllocError>
-    requires typed { IsType ty }
-    requires operands { AllByRecursion (IsOperand ty) (map (operand_in names.now) operands.now) }
-    requires labels { AllByRecursion IsName (map (name_in names.now) labels.now) }
-    requires pairs { length operands.now ≡ length labels.now }
-    ensures { OnOk result (out.new.items ≡ out.old.items
-        ++ text_of (with_commas (entries_of ty
-        (map (operand_in names.now) operands.now) (map (name_in names.now) labels.now)))) }
-{
-    let [operand, operands @ ..] = operands else {
-        return Ok(());
-    };
-    let [label, labels @ ..] = labels else {
-        return Ok(());
-    };
-    put_entry(out, names, ty, *operand, *label)?;
-    for (i, operand) in operands.iter().enumerate() {
-        out.extend_from_slice(b", ")?;
-        put_entry(out, names, ty, *operand, labels[i])?;
-    }
-    Ok(())
-}
-
-// Appends an instruction without its result's name.
-#[tactic(auto, using(type_printer::proofs::Appended::text_of_both, std::proofs::lemmas::Grind::common_steps))]
-fn put_kind(out: &mut Vec<u8>, names: &Names, inst: &Inst) -> Result<(), AllocError>
+// Appends the operands of an instruction with their types.
+#[tactic(auto, using(crate::proofs::Operands::all_alike, type_printer::proofs::Appended::text_of_both, std::proofs::lemmas::Grind::common_steps))]
+fn put_operands_of(out: &mut Vec<u8>, names: &Names, inst: &Inst) -> Result<(), AllocError>
     requires { IsBody (inst_in names.now inst.now) }
     ensures { OnOk result (out.new.items ≡ out.old.items
-        ++ text_of (kind_pieces inst.now.kind inst.now.ty
+        ++ text_of (operands_pieces inst.now.kind inst.now.ty
         (map (operand_in names.now) inst.now.args) (map (name_in names.now) inst.now.labels))) }
 {
-    let operands = inst.args.as_slice();
-    let labels = inst.labels.as_slice();
-    match inst.kind {
-        InstKind::Binary(operator) => {
-            out.extend_from_slice(word_of_operator(operator))?;
-            put_typed(out, names, inst.ty, operands)
+    let ty = inst.ty;
+    let args = inst.args.as_slice();
+    match &inst.kind {
+        InstKind::Binary(..) => put_typed(out, names, ty, args),
+        InstKind::Compare(_, of) => put_typed(out, names, *of, args),
+        InstKind::Select(condition, last) => {
+            put_listed(out, names, &[*condition, ty, *last], args)
         }
-        InstKind::Compare(predicate, ty) => {
-            out.extend_from_slice(b"icmp ")?;
-            out.extend_from_slice(word_of_predicate(predicate))?;
-            put_typed(out, names, ty, operands)
+        InstKind::Freeze => put_listed(out, names, &[ty], args),
+        InstKind::Trunc(from, ..) | InstKind::Zext(from, _) | InstKind::Sext(from) => {
+            put_listed(out, names, &[*from], args)
         }
+        InstKind::PtrToInt => put_listed(out, names, &[Ty::Ptr], args),
         InstKind::Phi => {
-            out.extend_from_slice(b"phi ")?;
-            put_type(out, inst.ty)?;
             out.push(b' ')?;
-            put_entries(out, names, inst.ty, operands, labels)
+            put_type(out, ty)?;
+            out.push(b' ')?;
+            put_entries(out, names, ty, args, inst.labels.as_slice())
         }
+        InstKind::Load(_) => {
+            out.push(b' ')?;
+            put_type(out, ty)?;
+            out.push(b',')?;
+            put_listed(out, names, &[Ty::Ptr], args)
+        }
+        InstKind::Store(of, _) => put_listed(out, names, &[*of, Ty::Ptr], args),
+        InstKind::Extract(of, width) => put_listed(out, names, &[*of, Ty::Int(*width)], args),
+        InstKind::Insert(element, width) => {
+            put_listed(out, names, &[ty, *element, Ty::Int(*width)], args)
+        }
+        InstKind::Shuffle(one, other, mask) => {
+            put_listed(out, names, &[*one, *other, *mask], args)
+        }
+        InstKind::Branch => put_listed(out, names, &[Ty::Int(1)], args),
+        InstKind::Switch(width, _) => put_listed(out, names, &[Ty::Int(*width)], args),
+        InstKind::Return(of) => put_listed(out, names, &[*of], args),
+        InstKind::ReturnVoid => out.extend_from_slice(b" void"),
+        InstKind::Jump | InstKind::Unreachable => Ok(()),
+    }
+}
+
+fn put_to(out: &mut Vec<u8>, ty: Ty) -> Result<(), AllocError>
+    ensures { OnOk result (out.new.items ≡ out.old.items ++ text_of (to_pieces ty)) }
+{
+    out.extend_from_slice(b" to ")?;
+    put_type(out, ty)
+}
+
+fn put_align(out: &mut Vec<u8>, align: u64) -> Result<(), AllocError>
+    ensures { OnOk result (out.new.items ≡ out.old.items ++ text_of (align_pieces align)) }
+{
+    out.extend_from_slice(b", align ")?;
+    put_digits(out, align)
+}
+
+// Appends the type of a cast, an alignment, or labels.
+#[tactic(auto, using(crate::proofs::Operands::first_type, type_printer::proofs::Appended::text_of_both, std::proofs::lemmas::Grind::common_steps))]
+fn put_ending(out: &mut Vec<u8>, names: &Names, inst: &Inst) -> Result<(), AllocError>
+    requires { IsBody (inst_in names.now inst.now) }
+    ensures { OnOk result (out.new.items ≡ out.old.items
+        ++ text_of (ending_pieces inst.now.kind inst.now.ty
+        (map (name_in names.now) inst.now.labels))) }
+{
+    let labels = inst.labels.as_slice();
+    match &inst.kind {
+        InstKind::Trunc(..) | InstKind::Zext(..) | InstKind::Sext(_) | InstKind::PtrToInt => {
+            put_to(out, inst.ty)
+        }
+        InstKind::Load(align) | InstKind::Store(_, align) => put_align(out, *align),
         InstKind::Jump => {
-            out.extend_from_slice(b"br ")?;
+            out.push(b' ')?;
             put_targets(out, names, labels)
         }
         InstKind::Branch => {
-            out.extend_from_slice(b"br")?;
-            put_typed(out, names, Ty::Int(1), operands)?;
             out.extend_from_slice(b", ")?;
             put_targets(out, names, labels)
         }
-        InstKind::Return(ty) => {
-            out.extend_from_slice(b"ret")?;
-            put_typed(out, names, ty, operands)
+        InstKind::Switch(width, numbers) => {
+            put_switch(out, names, *width, numbers.as_slice(), labels)
         }
-        InstKind::ReturnVoid => out.extend_from_slice(b"ret void"),
+        InstKind::Binary(..)
+        | InstKind::Compare(..)
+        | InstKind::Select(..)
+        | InstKind::Freeze
+        | InstKind::Phi
+        | InstKind::Extract(..)
+        | InstKind::Insert(..)
+        | InstKind::Shuffle(..)
+        | InstKind::ReturnVoid
+        | InstKind::Return(_)
+        | InstKind::Unreachable => Ok(()),
     }
 }
 
@@ -185,7 +144,10 @@ pub(crate) fn put_inst(out: &mut Vec<u8>, names: &Names, inst: &Inst) -> Result<
         ++ text_of (inst_pieces (inst_in names.now inst.now))) }
 {
     put_result(out, names, inst.ty, inst.result)?;
-    put_kind(out, names, inst)?;
+    put_opening(out, &inst.kind)?;
+    put_operands_of(out, names, inst)?;
+    put_ending(out, names, inst)?;
+    put_kept_behind(out, &inst.kept)?;
     out.push(b'\n')?;
     Ok(())
 }

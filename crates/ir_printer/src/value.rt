@@ -1,23 +1,33 @@
-// Operands.
+// Numbers, lanes and operands.
 
 ghost use Rattle.std.specs.Prelude.{◌≡◌, ◌<◌, ◌≤◌, ◌^◌, ◌++◌, ◌∷◌, [], map, length, OnOk};
-ghost use Rattle.std.specs.List.{AllByRecursion};
+ghost use Rattle.std.specs.List.{AllByRecursion, AllZip};
 ghost use Rattle.text_lex.specs.Layout.{text_of};
 ghost use Rattle.ir_types.specs.Grammar.{width_of};
 ghost use Rattle.ir_types.specs.Denotes.{name_in, operand_in};
-ghost use Rattle.ir_shape.specs.Shape.{IsName, IsType, IsOperand};
+ghost use Rattle.ir_shape.specs.Shape.{IsName, IsType, IsLane, IsOperand, IsTyped};
 ghost use Rattle.type_printer.specs.Texts.{signed_text};
 ghost use Rattle.type_printer.specs.Pieces.{with_commas};
-ghost use Rattle.ir_printer.specs.Print.{number_token, operand_token, operand_pieces, typed_pieces};
+ghost use Rattle.ir_printer.specs.Print.{comma_before, number_token, lane_pieces, lanes_pieces, operand_pieces, typed_operand, typed_pieces, each_typed, listed_pieces};
 
 use ir_types::{Names, Operand, Ty};
 use std::alloc::AllocError;
 use type_printer::name::put_digits;
 use type_printer::types::{put_local, put_type};
 
-// Appends a number of so many bits as the signed one that it stands for.
+/// Appends what parts the one at a place from those before it.
+pub(crate) fn put_comma(out: &mut Vec<u8>, place: usize) -> Result<(), AllocError>
+    ensures { OnOk result (out.new.items ≡ out.old.items ++ text_of (comma_before place)) }
+{
+    if place > 0 {
+        out.extend_from_slice(b", ")?;
+    }
+    Ok(())
+}
+
+/// Appends a number of so many bits as the signed one that it stands for.
 #[tactic(auto, unfolding(type_printer::specs::Texts::signed_text), using(crate::proofs::Numbers::two_halves))]
-fn put_signed(out: &mut Vec<u8>, width: u32, number: u64) -> Result<(), AllocError>
+pub(crate) fn put_signed(out: &mut Vec<u8>, width: u32, number: u64) -> Result<(), AllocError>
     requires some { 0 < width }
     requires most { width ≤ 64 }
     requires fits { number < 2 ^ width }
@@ -47,21 +57,67 @@ pub(crate) fn put_number(out: &mut Vec<u8>, ty: Ty, number: u64) -> Result<(), A
     }
 }
 
+// Appends a lane with its type.
+#[tactic(auto, using(type_printer::proofs::Appended::text_of_both, std::proofs::lemmas::Grind::common_steps))]
+fn put_lane(out: &mut Vec<u8>, ty: Ty, lane: Option<u64>) -> Result<(), AllocError>
+    requires typed { IsType ty }
+    requires known { IsLane (width_of ty) lane }
+    ensures { OnOk result (out.new.items ≡ out.old.items ++ text_of (lane_pieces ty lane)) }
+{
+    put_type(out, ty)?;
+    out.push(b' ')?;
+    match lane {
+        Some(number) => put_number(out, ty, number),
+        None => out.extend_from_slice(b"poison"),
+    }
+}
+
+fn put_each_lane(out: &mut Vec<u8>, ty: Ty, lanes: &[Option<u64>]) -> Result<(), AllocError>
+    requires typed { IsType ty }
+    requires known { AllByRecursion (IsLane (width_of ty)) lanes.now }
+    ensures { OnOk result (out.new.items ≡ out.old.items
+        ++ text_of (with_commas (map (lane_pieces ty) lanes.now))) }
+{
+    for (place, lane) in lanes.iter().enumerate() {
+        put_comma(out, place)?;
+        put_lane(out, ty, *lane)?;
+    }
+    Ok(())
+}
+
+// Appends lanes, each with its type.
+#[tactic(auto, using(type_printer::proofs::Appended::text_of_both, std::proofs::lemmas::Grind::common_steps))]
+fn put_lanes(out: &mut Vec<u8>, ty: Ty, lanes: &[Option<u64>]) -> Result<(), AllocError>
+    requires typed { IsType ty }
+    requires known { AllByRecursion (IsLane (width_of ty)) lanes.now }
+    ensures { OnOk result (out.new.items ≡ out.old.items ++ text_of (lanes_pieces ty lanes.now)) }
+{
+    out.push(b'<')?;
+    put_each_lane(out, ty, lanes)?;
+    out.push(b'>')?;
+    Ok(())
+}
+
 /// Appends an operand at its type.
 pub(crate) fn put_operand(
     out: &mut Vec<u8>,
     names: &Names,
     ty: Ty,
-    operand: Operand,
+    operand: &Operand,
 ) -> Result<(), AllocError>
-    requires typed { IsType ty }
-    requires known { IsOperand ty (operand_in names.now operand) }
+    requires { IsTyped ty (operand_in names.now operand.now) }
     ensures { OnOk result (out.new.items ≡ out.old.items
-        ++ (operand_token ty (operand_in names.now operand)).text) }
+        ++ text_of (operand_pieces ty (operand_in names.now operand.now))) }
 {
     match operand {
-        Operand::Local(name) => put_local(out, names, name),
-        Operand::Int(number) => put_number(out, ty, number),
+        Operand::Local(name) => put_local(out, names, *name),
+        Operand::Int(number) => put_number(out, ty, *number),
+        Operand::Null => out.extend_from_slice(b"null"),
+        Operand::Poison => out.extend_from_slice(b"poison"),
+        Operand::Lanes(lanes) => match ty {
+            Ty::Vector(_, width) => put_lanes(out, Ty::Int(width), lanes.as_slice()),
+            Ty::Int(_) | Ty::Ptr | Ty::Void => unreachable!(),
+        },
     }
 }
 
@@ -71,33 +127,27 @@ fn put_operands(
     ty: Ty,
     operands: &[Operand],
 ) -> Result<(), AllocError>
-    requires typed { IsType ty }
-    requires known { AllByRecursion (IsOperand ty) (map (operand_in names.now) operands.now) }
+    requires { AllByRecursion (IsTyped ty) (map (operand_in names.now) operands.now) }
     ensures { OnOk result (out.new.items ≡ out.old.items
         ++ text_of (with_commas
         (map (operand_pieces ty) (map (operand_in names.now) operands.now)))) }
 {
-    let [first, rest @ ..] = operands else {
-        return Ok(());
-    };
-    put_operand(out, names, ty, *first)?;
-    for operand in rest {
-        out.extend_from_slice(b", ")?;
-        put_operand(out, names, ty, *operand)?;
+    for (place, operand) in operands.iter().enumerate() {
+        put_comma(out, place)?;
+        put_operand(out, names, ty, operand)?;
     }
     Ok(())
 }
 
 /// Appends ` T V, V`.
-#[tactic(auto, using(type_printer::proofs::Appended::text_of_both, std::proofs::lemmas::Grind::common_steps))]
+#[tactic(auto, using(crate::proofs::Operands::two_alike, type_printer::proofs::Appended::text_of_both, std::proofs::lemmas::Grind::common_steps))]
 pub(crate) fn put_typed(
     out: &mut Vec<u8>,
     names: &Names,
     ty: Ty,
     operands: &[Operand],
 ) -> Result<(), AllocError>
-    requires typed { IsType ty }
-    requires known { AllByRecursion (IsOperand ty) (map (operand_in names.now) operands.now) }
+    requires { AllZip IsTyped (ty ∷ ty ∷ []) (map (operand_in names.now) operands.now) }
     ensures { OnOk result (out.new.items ≡ out.old.items
         ++ text_of (typed_pieces ty (map (operand_in names.now) operands.now))) }
 {
@@ -105,4 +155,54 @@ pub(crate) fn put_typed(
     put_type(out, ty)?;
     out.push(b' ')?;
     put_operands(out, names, ty, operands)
+}
+
+// Appends `T V`.
+#[tactic(auto, using(type_printer::proofs::Appended::text_of_both, std::proofs::lemmas::Grind::common_steps))]
+fn put_typed_operand(
+    out: &mut Vec<u8>,
+    names: &Names,
+    ty: Ty,
+    operand: &Operand,
+) -> Result<(), AllocError>
+    requires { IsTyped ty (operand_in names.now operand.now) }
+    ensures { OnOk result (out.new.items ≡ out.old.items
+        ++ text_of (typed_operand ty (operand_in names.now operand.now))) }
+{
+    put_type(out, ty)?;
+    out.push(b' ')?;
+    put_operand(out, names, ty, operand)
+}
+
+fn put_each_typed(
+    out: &mut Vec<u8>,
+    names: &Names,
+    types: &[Ty],
+    operands: &[Operand],
+) -> Result<(), AllocError>
+    requires { AllZip IsTyped types.now (map (operand_in names.now) operands.now) }
+    ensures { OnOk result (out.new.items ≡ out.old.items
+        ++ text_of (with_commas
+        (each_typed types.now (map (operand_in names.now) operands.now)))) }
+{
+    for (place, operand) in operands.iter().enumerate() {
+        put_comma(out, place)?;
+        put_typed_operand(out, names, types[place], operand)?;
+    }
+    Ok(())
+}
+
+/// Appends ` T V, T V`.
+pub(crate) fn put_listed(
+    out: &mut Vec<u8>,
+    names: &Names,
+    types: &[Ty],
+    operands: &[Operand],
+) -> Result<(), AllocError>
+    requires { AllZip IsTyped types.now (map (operand_in names.now) operands.now) }
+    ensures { OnOk result (out.new.items ≡ out.old.items
+        ++ text_of (listed_pieces types.now (map (operand_in names.now) operands.now))) }
+{
+    out.push(b' ')?;
+    put_each_typed(out, names, types, operands)
 }

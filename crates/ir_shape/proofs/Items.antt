@@ -1,6 +1,6 @@
 -- What is known of a module's items that tokens spell.
 use Rattle.std.proofs.Common.{◌≡◌, ◌<◌, ◌^◌, ℕ, zero, suc, Bool, true, false, cond, eqb, lit<, List, [], ◌∷◌, ◌++◌, length, map, Option, Some, None, refl, sym, ap, ◌∙◌, subst, arith, inl, inr}
-use Rattle.std.specs.Prelude.{codes, nat_lt, is_some}
+use Rattle.std.specs.Prelude.{codes, nat_lt}
 use Rattle.std.specs.List.{AllByRecursion}
 use Rattle.std.proofs.lemmas.Bool.Decides.{nat_tests}
 use Rattle.std.proofs.lemmas.Option.{cond_some}
@@ -8,31 +8,28 @@ use Rattle.forms.specs.declared.TokenKind.TheVariants.{Quoted, Local, Global, Co
 use Rattle.forms.specs.declared.TokenKind.{TokenKind}
 use Rattle.forms.specs.declared.Around.{Around}
 use Rattle.forms.specs.declared.Around.TheVariants.{InArray, InStruct}
-use Rattle.forms.specs.Bind.{◌>>=◌}
 use Rattle.forms.specs.Form.{Lexeme, Form, Spells, texts, ahead, either, mapped, made, many}
-use Rattle.forms.specs.Gives.{mark}
 use Rattle.forms.specs.Kept.{kept_token, attachments}
-use Rattle.forms.specs.Lexical.{kind_of, table}
-use Rattle.forms.specs.Nested.{concat, joined, comma_then, struct_head, struct_end, remainder, struct_of, array_of, one_deeper, memory}
+use Rattle.forms.specs.Lexical.{table}
+use Rattle.forms.specs.Nested.{concat, joined, struct_head, struct_end, remainder, struct_of, array_of, one_deeper}
 use Rattle.forms.proofs.Sound.{bind_some}
 use Rattle.forms.proofs.Exact.{some_is}
 use Rattle.text_lex.specs.KeptText.{token_of, IsToken, AreLexed}
 use Rattle.text_lex.proofs.Lexed.{lexed_split}
-use Rattle.ir_types.specs.declared.name.Name.{Name}
-use Rattle.ir_types.specs.declared.inst.Ty.{Ty}
 use Rattle.ir_types.specs.declared.opcode.ItemWord.{ItemWord}
 use Rattle.ir_types.specs.declared.opcode.ItemWord.TheVariants.{SourceFilename, Target, Declare, Define, Attributes}
 use Rattle.ir_types.specs.declared.opcode.Extra.{Extra}
 use Rattle.ir_types.specs.TypeNodes.{TypeNode, scalar, called, array, opening}
 use Rattle.ir_types.specs.Written.{number_of, name_behind}
-use Rattle.ir_types.specs.Tree.{KeptTexts, WrittenParam, WrittenBlock, WrittenFunction, VariableTree, Item, head_line, comdat_line, type_item, variable_item, function_item, attribute_line, metadata_line}
-use Rattle.ir_types.specs.Grammar.{elements_of, memory_leaf, array_begin, type_parts, memory_type, kept, parameter, dotted, or_no_params, dotted_parameters, declared_function, defined_function, equal_string, target_line, attribute_group, comdat, metadata, type_definition, initialiser_stops, extra_behind, extra, kept_once, behind_type, variable_word, variable_definition, item_behind, item, module_form}
-use Rattle.ir_shape.specs.Shape.{IsName, IsType, IsReturnType, IsNameThere, IsKept, head_form, attributes_form, IsNode, IsMemory, IsDefinition, IsVariable}
+use Rattle.ir_types.specs.Tree.{KeptTexts, WrittenParam, WrittenBlock, WrittenFunction, Item, head_line, comdat_line, type_item, variable_item, function_item, attribute_line, metadata_line}
+use Rattle.ir_types.specs.Grammar.{elements_of, memory_leaf, array_begin, type_parts, memory_type, kept, parameter, or_no_params, dotted_parameters, declared_function, defined_function, equal_string, target_line, attribute_group, comdat, metadata, type_definition, initialiser_stops, extra_behind, extra, kept_once, behind_type, variable_word, variable_definition, item_behind, item, module_form}
+use Rattle.ir_shape.specs.Shape.{IsName, IsReturnType, IsKept, head_form, attributes_form, IsNode, IsMemory, IsDefinition, IsVariable}
 use Rattle.ir_shape.proofs.Names.{behind_is}
 use Rattle.kept_runs.specs.Verbatim.{Verbatim}
 use Rattle.kept_runs.proofs.Verbatim.{verbatim_one, verbatim_token, verbatim_such, verbatim_joined, verbatim_either, verbatim_perhaps, verbatim_up_to, verbatim_braces, verbatim_run, verbatim_attachment, verbatim_attachments}
 use Rattle.ir_shape.proofs.Sure.{Sure, one_sure, mark_sure, exactly_sure, word_sure, pair_sure, either_sure, mapped_sure, made_sure, ahead_sure, IsThere, optional_sure, by_word_sure, many_sure, behind_sure, after_mark_sure, between_sure, marked_sure, Filled, some_sure, commas_sure, list_sure, joined_sure, joined_filled, concat_sure, filled_all, kept_sure}
-use Rattle.ir_shape.proofs.Written.{local_sure, global_sure, type_sure, return_type_sure, block_sure, there_name, IsWrittenBlock, IsWrittenParam}
+use Rattle.ir_shape.proofs.Values.{local_sure, global_sure, type_sure, return_type_sure}
+use Rattle.ir_shape.proofs.Written.{block_sure, there_name, IsWrittenBlock, IsWrittenParam}
 
 -- ---- what is kept
 

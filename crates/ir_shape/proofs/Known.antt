@@ -1,5 +1,5 @@
 -- What is known of a module that some text reads as.
-use Rattle.std.proofs.Common.{◌≡◌, length, sym, ◌∙◌}
+use Rattle.std.proofs.Common.{length, sym, ◌∙◌}
 use Rattle.forms.proofs.Exact.{some_is}
 use Rattle.text_lex.proofs.Lexed.{lexes_lexed}
 use Rattle.ir_types.specs.declared.module.Module.{Module}

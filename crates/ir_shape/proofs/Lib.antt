@@ -1,6 +1,8 @@
 pub mod Among
 pub mod Names
 pub mod Sure
+pub mod Values
+pub mod Instructions
 pub mod Written
 pub mod Items
 pub mod Numbering

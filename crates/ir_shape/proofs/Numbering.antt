@@ -16,7 +16,7 @@ use Rattle.ir_types.specs.declared.inst.Ty.TheVariants.{Int, Ptr, Vector, Void}
 use Rattle.ir_types.specs.Tree.{KeptTexts, InstTree, BlockTree, ParamTree, FunctionTree, WrittenParam, WrittenBlock, WrittenFunction, Item, head_line, comdat_line, type_item, variable_item, function_item, attribute_line, metadata_line}
 use Rattle.ir_types.specs.Grammar.{named_by}
 use Rattle.ir_types.specs.Numbered.{next_after, named, named_result, numbered_inst, numbered_block, numbered_param, numbered_function, numbered_item, numbered_module}
-use Rattle.ir_shape.specs.Shape.{IsName, IsBody, IsNameThere, IsResult, IsInst, EndsOnce, IsKept, before_form, after_form, IsBlock, IsParam, IsFunction, IsItem}
+use Rattle.ir_shape.specs.Shape.{IsName, IsNameThere, IsResult, IsInst, EndsOnce, IsKept, before_form, after_form, IsBlock, IsParam, IsFunction, IsItem}
 use Rattle.ir_shape.proofs.Written.{IsWrittenInst, IsWrittenBlock, IsWrittenParam, renamed}
 use Rattle.ir_shape.proofs.Items.{before_written, after_written, IsWrittenFunction, IsWrittenItem}
 
@@ -76,13 +76,13 @@ result_known next (Vector m w) None x h e = named_then next (Vector m w) None x 
 result_known next (Vector m w) (Some n) x h e = named_then next (Vector m w) (Some n) x h e
 result_known next Void (Some n) x h e = named_then next Void (Some n) x h e
 
-result_set : (i : InstTree) (o : Option Name) → IsBody i → IsResult i.ty o → IsInst (named_by i o)
-result_set i o h r = record { body = renamed i o h; result = r }
+result_set : (i : InstTree) (o : Option Name) → IsWrittenInst i → IsResult i.ty o → IsInst (named_by i o)
+result_set i o h r = record { body = renamed i o h.body; result = r; attachments = h.attachments }
 
 inst_known : (next : ℕ) (i : InstTree) (x : InstTree × ℕ) → IsWrittenInst i → numbered_inst next i ≡ Some x → IsInst x.0
 inst_known next i x h e =
     let p = bind_some (named_result next i.ty i.result) _ x e in
-    subst (λ (y : InstTree × ℕ). IsInst y.0) (some_is _ x p.2) (result_set i p.0.0 h.body (result_known next i.ty i.result p.0 h.result p.1))
+    subst (λ (y : InstTree × ℕ). IsInst y.0) (some_is _ x p.2) (result_set i p.0.0 h (result_known next i.ty i.result p.0 h.result p.1))
 
 inst_kind : (next : ℕ) (i : InstTree) (x : InstTree × ℕ) → numbered_inst next i ≡ Some x → i.kind ≡ x.0.kind
 inst_kind next i x e =

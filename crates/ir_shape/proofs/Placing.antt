@@ -2,7 +2,7 @@
 use Rattle.std.proofs.Common.{◌≡◌, ◌+◌, ◌<◌, ◌≤◌, ℕ, zero, suc, List, [], ◌∷◌, ◌++◌, length, Option, Some, None, ap, ◌∙◌, subst, arith}
 use Rattle.std.specs.Prelude.{map, IfSome}
 use Rattle.std.specs.Option.{option_map}
-use Rattle.std.specs.List.{AllByRecursion, filter_map}
+use Rattle.std.specs.List.{AllByRecursion, AllZip, filter_map}
 use Rattle.std.proofs.lemmas.List.{length-append, length-map}
 use Rattle.text_lex.proofs.Lexed.{each_append}
 use Rattle.ir_types.specs.declared.name.Name.{Name}
@@ -10,7 +10,7 @@ use Rattle.ir_types.specs.declared.name.ValueId.{ValueId}
 use Rattle.ir_types.specs.declared.inst.Ty.{Ty}
 use Rattle.ir_types.specs.declared.inst.Ty.TheVariants as types
 use Rattle.ir_types.specs.declared.inst.Operand.{Operand}
-use Rattle.ir_types.specs.declared.inst.Operand.TheVariants.{Local, Int}
+use Rattle.ir_types.specs.declared.inst.Operand.TheVariants.{Local, Int, Null, Poison, Lanes}
 use Rattle.ir_types.specs.declared.inst.Inst.{Inst}
 use Rattle.ir_types.specs.declared.module.Block.{Block}
 use Rattle.ir_types.specs.declared.module.Param.{Param}
@@ -31,7 +31,7 @@ use Rattle.ir_types.specs.Types.{AreTypes}
 use Rattle.ir_types.specs.TypeNodes.{TypeNode, nodes_at, nodes_from, all_nodes}
 use Rattle.ir_types.specs.Tree.{FunctionTree, NamedTree, defined, opaque, missing, SymbolKindTree, variable, function, missing_symbol, ModuleTree, Item, head_line, comdat_line, type_item, variable_item, function_item, attribute_line, metadata_line}
 use Rattle.ir_types.specs.Reads.{IsReadable}
-use Rattle.ir_shape.specs.Shape.{IsName, IsOperand, operand_type, IsResult, IsInst, IsBlock, IsParam, IsFunction, IsDefinition, IsItem, IsModule}
+use Rattle.ir_shape.specs.Shape.{IsName, IsOperand, IsTyped, IsResult, IsInst, IsBlock, IsParam, IsFunction, IsDefinition, IsItem, IsModule}
 use Rattle.ir_shape.specs.Placed.{IsPlace, IsOperandPlaced, IsInstPlaced, IsBlockPlaced, IsParamPlaced, IsFunctionPlaced, IsNamedPlaced, IsSymbolPlaced, IsPlaced}
 use Rattle.ir_shape.proofs.Known.{readable_known}
 use Rattle.ir_shape.proofs.Names.{within_names}
@@ -48,6 +48,14 @@ placed names id h = within_names names id.0 h
 operand_placed : (names : List Name) (t : Ty) (a : Operand) → IsOperand t (operand_in names a) → IsOperandPlaced names a
 operand_placed names t (Local id) h = placed names id h
 operand_placed names t (Int n) h = tt
+operand_placed names t Null h = tt
+operand_placed names t Poison h = tt
+operand_placed names t (Lanes xs) h = tt
+
+operands_placed : (names : List Name) (ts : List Ty) (args : List Operand) → AllZip IsTyped ts (map (operand_in names) args) → AllByRecursion (IsOperandPlaced names) args
+operands_placed names ts [] h = tt
+operands_placed names [] (a ∷ args) h = absurd h
+operands_placed names (t ∷ ts) (a ∷ args) h = (operand_placed names t a h.0.1, operands_placed names ts args h.1)
 
 result_placed : (names : List Name) (t : Ty) (o : Option ValueId) → IsResult t (option_map (name_in names) o) → IfSome o (IsPlace names)
 result_placed names t None h = tt
@@ -57,13 +65,11 @@ result_placed names (types.Vector n w) (Some id) h = placed names id h
 result_placed names types.Void (Some id) h = placed names id h
 
 inst_placed : (names : List Name) (i : Inst) → IsInst (inst_in names i) → IsInstPlaced names i
-inst_placed names i h =
-    let t = operand_type i.kind i.ty in
-    record {
-      args = each (IsOperand t) (IsOperandPlaced names) (operand_in names) (operand_placed names t) i.args h.body.args;
-      labels = each IsName (IsPlace names) (name_in names) (placed names) i.labels h.body.labels;
-      result = result_placed names i.ty i.result h.result;
-    }
+inst_placed names i h = record {
+  args = operands_placed names _ i.args h.body.args;
+  labels = each IsName (IsPlace names) (name_in names) (placed names) i.labels h.body.labels;
+  result = result_placed names i.ty i.result h.result;
+}
 
 block_placed : (names : List Name) (b : Block) → IsBlock (block_in names b) → IsBlockPlaced names b
 block_placed names b h = record {

@@ -3,9 +3,11 @@ use Rattle.std.proofs.Common.{◌≡◌, ◌<◌, ℕ, List, [], ◌∷◌, ◌+
 use Rattle.std.specs.List.{AllByRecursion}
 use Rattle.forms.specs.declared.TokenKind.{TokenKind}
 use Rattle.forms.specs.declared.TokenKind.TheVariants.{Comma, Word}
-use Rattle.forms.specs.Form.{Lexeme, Form, Spells, texts, exactly, one, ahead, pair, either, mapped, made, optional, many, by_word}
+use Rattle.forms.specs.Form.{Lexeme, Form, Spells, texts, exactly, one, ahead, pair, either, mapped, made, optional, many, by_word, entry, same_text}
 use Rattle.forms.specs.Gives.{mark}
 use Rattle.forms.specs.Nested.{joined, concat}
+use Rattle.forms.proofs.Begins.{test}
+use Rattle.forms.proofs.Exact.{some_is}
 use Rattle.text_lex.specs.KeptText.{token_of, IsToken, AreLexed}
 use Rattle.text_lex.proofs.Lexed.{lexed_split, each_append, tokens_again, lexed_are_tokens}
 use Rattle.kept_runs.specs.Verbatim.{Verbatim}
@@ -25,6 +27,10 @@ rest ts x y e l = (lexed_split x y (subst AreLexed e l)).1
 
 behind_one : (t : Lexeme) (ts us : List Lexeme) → ts ≡ t ∷ us → AreLexed ts → AreLexed us
 behind_one t ts us e l = (subst AreLexed e l).1
+
+-- something is known of every value where nothing is said
+pub any_sure : {A : Type 0} {f : Form A} → Sure f (λ a. Unit {0})
+any_sure = record { known = λ a ts l h. tt }
 
 pub one_sure : (k : TokenKind) → Sure (one k) (λ s. Unit {0})
 one_sure k = record { known = λ a ts l h. tt }
@@ -67,6 +73,17 @@ optional_sure p = record { known = if_there p }
 
 pub by_word_sure : {K A : Type 0} {P : A → Type 0} {table : List (List ℕ × K)} {f : K → Form A} → ((k : K) → Sure (f k) P) → Sure (by_word table f) P
 by_word_sure p = record { known = λ a ts l h. (p h.1).known a h.2 (behind_one _ ts h.2 h.3 l) h.5 }
+
+-- the same by the entries of the table
+entry_among : {K : Type 0} (P : K → Type 0) (table : List (List ℕ × K)) (w : List ℕ) (k : K) → AllByRecursion (λ e. P e.1) table → entry table w ≡ Some k → P k
+entry_among P [] w k h e = absurd cc
+entry_among P (x ∷ table) w k h e = elim (test (same_text w x.0)) [
+  | inl y ↦ let s : Some x.1 ≡ Some k = rw y at e in subst P (some_is x.1 k s) h.0
+  | inr n ↦ entry_among P table w k h.1 (rw n at e)
+]
+
+pub by_entry_sure : {K A : Type 0} {P : A → Type 0} {table : List (List ℕ × K)} {f : K → Form A} → AllByRecursion (λ e. Sure (f e.1) P) table → Sure (by_word table f) P
+by_entry_sure {P = P} {table = table} {f = f} p = record { known = λ a ts l h. (entry_among (λ k. Sure (f k) P) table h.0 h.1 p h.4).known a h.2 (behind_one _ ts h.2 h.3 l) h.5 }
 
 in_order : {A : Type 0} {P : A → Type 0} {f : Form A} → Sure f P → (items : List A) (ts : List Lexeme) → AreLexed ts → Spells (many f) items ts → AllByRecursion P items
 in_order p [] ts l h = tt

@@ -5,7 +5,7 @@ use Rattle.std.specs.List.{AllByRecursion}
 use Rattle.ir_types.specs.declared.name.Name.{Name}
 use Rattle.ir_types.specs.declared.name.ValueId.{ValueId}
 use Rattle.ir_types.specs.declared.inst.Operand.{Operand}
-use Rattle.ir_types.specs.declared.inst.Operand.TheVariants.{Local, Int}
+use Rattle.ir_types.specs.declared.inst.Operand.TheVariants.{Local}
 use Rattle.ir_types.specs.declared.inst.Inst.{Inst}
 use Rattle.ir_types.specs.declared.module.Block.{Block}
 use Rattle.ir_types.specs.declared.module.Param.{Param}
@@ -26,10 +26,10 @@ use Rattle.ir_types.specs.declared.memory_type.TypeName.{TypeName}
 abbrev pub IsPlace : List Name → ValueId → Type 0
 IsPlace names id = id.0 < length names
 
--- an operand: a number has no position
+-- an operand: only a local has a position
 abbrev pub IsOperandPlaced : List Name → Operand → Type 0
 IsOperandPlaced names (Local id) = IsPlace names id
-IsOperandPlaced names (Int n) = Unit {0}
+IsOperandPlaced names a = Unit {0}
 
 -- an instruction: its operands, its labels, and its result where there is one
 pub record IsInstPlaced (names : List Name) (i : Inst) : Type 0 where

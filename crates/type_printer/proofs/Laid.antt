@@ -2,10 +2,12 @@
 use Rattle.std.proofs.Common.{◌≡◌, ℕ, true, List, [], ◌∷◌, ◌++◌, Some, refl}
 use Rattle.std.specs.Prelude.{map}
 use Rattle.std.specs.List.{AllByRecursion}
+use Rattle.std.proofs.lemmas.Bool.{and_from}
 use Rattle.forms.specs.declared.TokenKind.{TokenKind}
 use Rattle.forms.specs.Form.{Lexeme}
-use Rattle.forms.specs.Lexical.{kind_of}
-use Rattle.text_lex.specs.Layout.{Piece, lexeme, AreTokens, is_mark, closed, open_, left_by, joins, end_of}
+use Rattle.forms.specs.Lexical.{kind_of, is_space}
+use Rattle.text_lex.specs.Layout.{Piece, gap, lexeme, AreTokens, is_mark, closed, open_, left_by, joins, end_of}
+use Rattle.text_lex.specs.Neighbours.{all_of}
 use Rattle.text_lex.proofs.Layouts.{AreTokens-append, joins-from, joins_closed, joins_any}
 use Rattle.type_printer.specs.Pieces.{token, blank, line_feed, indent, each_behind, separated}
 
@@ -33,6 +35,10 @@ feed_laid h = record { tokens = h.tokens; joined = h.joined }
 
 pub indent_laid : {ps : List Piece} → IsLaid ps → IsBehind (indent ∷ ps)
 indent_laid h = record { tokens = h.tokens; joined = h.joined }
+
+-- the same of any white space
+pub gap_laid : {ps : List Piece} (c : ℕ) (s : List ℕ) → all_of is_space (c ∷ s) ≡ true → IsLaid ps → IsBehind (gap (c ∷ s) ∷ ps)
+gap_laid c s e h = record { tokens = h.tokens; joined = and_from _ _ e h.joined }
 
 pub mark_laid : {ps : List Piece} (k : TokenKind) (s : List ℕ) → is_mark k ≡ true → kind_of s ≡ Some k → IsLaid ps → IsBehind (lexeme (token k s) ∷ ps)
 mark_laid k s m e h = record { tokens = (e, h.tokens); joined = rw m (h.joined) }

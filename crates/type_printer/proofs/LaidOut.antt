@@ -18,6 +18,10 @@ use Rattle.type_printer.proofs.Laid.{IsLaid, IsBehind, loose, nothing_behind, bl
 
 -- ---- marks and words
 
+pub comma_kind : kind_of (codes ",") ≡ Some kinds.Comma
+unfolding table
+comma_kind = refl
+
 pub comma_laid : {ps : List Piece} → IsLaid ps → IsBehind (comma ∷ ps)
 unfolding table
 comma_laid h = mark_laid kinds.Comma (codes ",") refl refl h
@@ -30,6 +34,11 @@ equal_laid h = mark_laid kinds.Equal (codes "=") refl refl h
 pub bracket_kinds : (kind_of (codes "(") ≡ Some kinds.LeftParen) × (kind_of (codes ")") ≡ Some kinds.RightParen) × (kind_of (codes "[") ≡ Some kinds.LeftBracket) × (kind_of (codes "]") ≡ Some kinds.RightBracket) × (kind_of (codes "{") ≡ Some kinds.LeftBrace) × (kind_of (codes "}") ≡ Some kinds.RightBrace)
 unfolding table
 bracket_kinds = (refl, refl, refl, refl, refl, refl)
+
+-- and those of angles
+pub angle_kinds : (kind_of (codes "<") ≡ Some kinds.Less) × (kind_of (codes ">") ≡ Some kinds.Greater)
+unfolding table
+angle_kinds = (refl, refl)
 
 pub width_kind : (w : ℕ) → IsOneOf widths w → kind_of (width_word w) ≡ Some kinds.Word
 unfolding width_word

@@ -14,3 +14,4 @@ pub mod MemoryRest
 pub mod TypeNames
 pub mod MemoryPlaced
 pub mod Frames
+pub mod Writes

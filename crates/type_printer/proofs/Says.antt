@@ -1,5 +1,5 @@
 -- Values and tokens by which forms are spelled.
-use Rattle.std.proofs.Common.{◌≡◌, ◌<◌, ℕ, List, [], ◌∷◌, ◌++◌, length, Option, Some, None, refl, ap, arith, inl, inr}
+use Rattle.std.proofs.Common.{◌≡◌, ◌<◌, ℕ, List, [], ◌∷◌, ◌++◌, length, Option, Some, None, refl, sym, ap, ◌∙◌, append_assoc, arith, inl, inr}
 use Rattle.std.specs.Prelude.{map}
 use Rattle.std.specs.List.{AllByRecursion}
 use Rattle.forms.specs.declared.TokenKind.{TokenKind}
@@ -74,6 +74,12 @@ none_says f = record { spells = refl }
 
 pub more_says : {A : Type 0} {f : Form A} {a : A} {more : List A} (x y ts : List Lexeme) → ts ≡ x ++ y → Says f a x → Says (many f) more y → Says (many f) (a ∷ more) ts
 more_says x y ts e p q = record { spells = (x, y, e, p.spells, q.spells) }
+
+-- one more before others
+pub cons_says : {A B : Type 0} {f : Form A} {g : Form B} {a : A} {more : List A} {b : B} (x ts : List Lexeme) → Says f a x → Says (pair (many f) g) (more, b) ts → Says (pair (many f) g) (a ∷ more, b) (x ++ ts)
+cons_says x ts p q =
+    let h = q.spells in
+    record { spells = (x ++ h.0, h.1, ap (λ (us : List Lexeme). x ++ us) h.2 ∙ sym (append_assoc x h.0 h.1), (x, h.0, refl, p.spells, h.3), h.4) }
 
 -- behind white space
 pub behind_each : {A B : Type 0} {f : Form A} {w : B → A} {pieces : B → List Piece} {P : B → Type 0} (s : List ℕ) → EachSays f w pieces P → (items : List B) → AllByRecursion P items → Says (many f) (map w items) (tokens_of (each_behind (gap s ∷ []) (map pieces items)))

@@ -1,0 +1,259 @@
+-- The pieces that an instruction is printed as, behind its result and before its attachments, write it.
+use Rattle.std.proofs.Common.{◌≡◌, ◌<◌, ℕ, true, Bool, List, [], ◌∷◌, ◌++◌, length, Option, Some, None, refl, sym, ap, subst, arith, eqb, inl}
+use Rattle.std.specs.Prelude.{map, codes, replicate}
+use Rattle.std.specs.List.{AllByRecursion, AllZip, list_all, zip}
+use Rattle.std.proofs.lemmas.Bool.{eq-eqb}
+use Rattle.forms.specs.declared.TokenKind.TheVariants as kinds
+use Rattle.forms.specs.Form.{Form, either, by_word}
+use Rattle.forms.specs.Combined.{word as word_form}
+use Rattle.forms.specs.Lexical.{kind_of, table}
+use Rattle.text_lex.specs.Layout.{Piece, gap, lexeme, closed, open_}
+use Rattle.ir_types.specs.declared.name.Name.{Name}
+use Rattle.ir_types.specs.declared.inst.Ty.{Ty}
+use Rattle.ir_types.specs.declared.inst.Ty.TheVariants.{Int, Ptr, Void}
+use Rattle.ir_types.specs.declared.inst.BinOp.{BinOp}
+use Rattle.ir_types.specs.declared.inst.BinOp.TheVariants.{Add, Sub, Mul, Shl, UDiv, SDiv, URem, SRem, LShr, AShr, And, Or, Xor}
+use Rattle.ir_types.specs.declared.inst.Flags.{Flags}
+use Rattle.ir_types.specs.declared.inst.Pred.{Pred}
+use Rattle.ir_types.specs.declared.inst.Pred.TheVariants.{Eq, Ne, Ugt, Uge, Ult, Ule, Sgt, Sge, Slt, Sle}
+use Rattle.ir_types.specs.declared.inst.InstKind.{InstKind}
+use Rattle.ir_types.specs.declared.inst.InstKind.TheVariants.{Binary, Compare, Select, Freeze, Trunc, Zext, Sext, PtrToInt, Phi, Load, Store, Extract, Insert, Shuffle, Jump, Branch, Switch, ReturnVoid, Return, Unreachable}
+use Rattle.ir_types.specs.declared.opcode.Operation.TheVariants as operations
+use Rattle.ir_types.specs.declared.opcode.Terminator.TheVariants as terminators
+use Rattle.ir_types.specs.Written.{number_at}
+use Rattle.ir_types.specs.Tree.{OperandTree, InstTree}
+use Rattle.ir_types.specs.Grammar.{WrittenValue, operand_at, wrap_flags, exact_flag, disjoint_flag, no_flags, bits_for, element_of, shuffled, bare_inst, overflowing, possibly_exact, plain_binary, or_operation, predicates, compared, compare, select, freeze, trunc, zext, sext, ptrtoint, entry_of_phi, entries_at, phi, load, store, extractelement, insertelement, shufflevector, branch, case_of_switch, cases_at, switch, void_tree, unreachable_tree, ret, operation_words, operation_behind, terminator_words, terminator_behind}
+use Rattle.ir_shape.specs.Shape.{IsName, IsOneOf, widths, IsType, IsBelow, IsTyped, IsTerminator, HasFlags, IsBody}
+use Rattle.type_printer.specs.Texts.{signed_text}
+use Rattle.type_printer.specs.Pieces.{word, comma, blank, left_bracket, right_bracket, type_pieces, width_word, each_behind, with_commas}
+use Rattle.type_printer.proofs.Spelled.{decimals}
+use Rattle.type_printer.proofs.Widths.{width_within}
+use Rattle.type_printer.proofs.Laid.{Separates, loose, blank_laid, mark_laid, nothing_behind, gap_laid}
+use Rattle.type_printer.proofs.LaidOut.{bracket_kinds}
+use Rattle.type_printer.proofs.Writes.{Writes, both, spaced, ended, regrouped, left_writes, right_writes, mapped_writes, made_writes, word_writes, behind_writes, by_word_writes, after_comma, between_writes, bracketed, EachWrites, commas_write, many_behind}
+use Rattle.ir_printer.specs.Print.{operator_word, predicate_word, flags_pieces, typed_operand, typed_pieces, entry_pieces, entries_of, before_case, case_pieces, cases_of, switch_pieces, align_pieces, kind_pieces}
+use Rattle.ir_printer.proofs.Numbers.{signed_again}
+use Rattle.ir_printer.proofs.Values.{local_writes, width_writes, type_writes, signed_writes, IsWritten, operand_written, typed_writes, pointer_writes, index_writes, by_none, by_one, by_two, by_three}
+use Rattle.ir_printer.proofs.Parts.{flag_writes, wrap_writes, pair_writes, to_writes, target_writes, align_writes, by_no_label, by_first_label, by_one_label, by_two_labels}
+
+-- ---- binary operators and comparisons
+
+flag_kinds : (kind_of (codes "exact") ≡ Some kinds.Word) × (kind_of (codes "disjoint") ≡ Some kinds.Word) × (kind_of (codes "nneg") ≡ Some kinds.Word)
+unfolding table
+flag_kinds = (refl, refl, refl)
+
+-- an operator of these flags behind its word
+abbrev WritesBinary : BinOp → Ty → OperandTree → OperandTree → Form InstTree → Flags → Type 0
+WritesBinary op t a b form f = Writes open_ form (bare_inst (Binary op f) t (a ∷ b ∷ []) []) (flags_pieces f ++ (typed_pieces t (a ∷ b ∷ []) ++ []))
+
+module _ (op : BinOp) (f : Flags) (t : Ty) (a b : OperandTree) (x : IsWritten t a) (y : IsWritten t b) where
+  overflowing_writes : f ≡ wrap_flags (f.nuw, f.nsw) → WritesBinary op t a b (overflowing op) f
+  unfolding overflowing
+  overflowing_writes e = subst (WritesBinary op t a b (overflowing op)) (sym e) (mapped_writes ((f.nuw, f.nsw), (t, (a, b))) _ refl (both (ended (wrap_writes f.nuw f.nsw)) (ended (pair_writes x y))))
+
+  exact_writes : f ≡ exact_flag f.exact → WritesBinary op t a b (possibly_exact op) f
+  unfolding possibly_exact
+  exact_writes e = subst (WritesBinary op t a b (possibly_exact op)) (sym e) (mapped_writes (f.exact, (t, (a, b))) _ refl (both (ended (flag_writes (codes "exact") f.exact flag_kinds.0)) (ended (pair_writes x y))))
+
+  plain_writes : f ≡ no_flags → WritesBinary op t a b (plain_binary op) f
+  unfolding plain_binary
+  plain_writes e = subst (WritesBinary op t a b (plain_binary op)) (sym e) (mapped_writes (t, (a, b)) _ refl (ended (pair_writes x y)))
+
+or_writes : (f : Flags) (t : Ty) (a b : OperandTree) → IsWritten t a → IsWritten t b → f ≡ disjoint_flag f.disjoint → WritesBinary Or t a b or_operation f
+unfolding or_operation
+or_writes f t a b x y e = subst (WritesBinary Or t a b or_operation) (sym e) (mapped_writes (f.disjoint, (t, (a, b))) _ refl (both (flag_writes (codes "disjoint") f.disjoint flag_kinds.1) (ended (pair_writes x y))))
+
+binary_writes : (op : BinOp) (f : Flags) (t : Ty) (a b : OperandTree) → HasFlags op f → IsWritten t a → IsWritten t b → Writes closed (by_word operation_words operation_behind) (bare_inst (Binary op f) t (a ∷ b ∷ []) []) (kind_pieces (Binary op f) t (a ∷ b ∷ []) [])
+unfolding operation_words operator_word table
+binary_writes Add f t a b h x y = by_word_writes _ (operations.Overflowing Add) refl refl (overflowing_writes Add f t a b x y h)
+binary_writes Sub f t a b h x y = by_word_writes _ (operations.Overflowing Sub) refl refl (overflowing_writes Sub f t a b x y h)
+binary_writes Mul f t a b h x y = by_word_writes _ (operations.Overflowing Mul) refl refl (overflowing_writes Mul f t a b x y h)
+binary_writes Shl f t a b h x y = by_word_writes _ (operations.Overflowing Shl) refl refl (overflowing_writes Shl f t a b x y h)
+binary_writes UDiv f t a b h x y = by_word_writes _ (operations.PossiblyExact UDiv) refl refl (exact_writes UDiv f t a b x y h)
+binary_writes SDiv f t a b h x y = by_word_writes _ (operations.PossiblyExact SDiv) refl refl (exact_writes SDiv f t a b x y h)
+binary_writes LShr f t a b h x y = by_word_writes _ (operations.PossiblyExact LShr) refl refl (exact_writes LShr f t a b x y h)
+binary_writes AShr f t a b h x y = by_word_writes _ (operations.PossiblyExact AShr) refl refl (exact_writes AShr f t a b x y h)
+binary_writes URem f t a b h x y = by_word_writes _ (operations.Plain URem) refl refl (plain_writes URem f t a b x y h)
+binary_writes SRem f t a b h x y = by_word_writes _ (operations.Plain SRem) refl refl (plain_writes SRem f t a b x y h)
+binary_writes And f t a b h x y = by_word_writes _ (operations.Plain And) refl refl (plain_writes And f t a b x y h)
+binary_writes Xor f t a b h x y = by_word_writes _ (operations.Plain Xor) refl refl (plain_writes Xor f t a b x y h)
+binary_writes Or f t a b h x y = by_word_writes _ operations.Or refl refl (or_writes f t a b x y h)
+
+compared_writes : (p : Pred) (t : Ty) (a b : OperandTree) → IsWritten t a → IsWritten t b → Writes open_ (compared p) (bare_inst (Compare p t) (bits_for t) (a ∷ b ∷ []) []) (typed_pieces t (a ∷ b ∷ []) ++ [])
+unfolding compared
+compared_writes p t a b x y = mapped_writes (t, (a, b)) _ refl (ended (pair_writes x y))
+
+compare_writes : (p : Pred) (t : Ty) (a b : OperandTree) → IsWritten t a → IsWritten t b → Writes closed compare (bare_inst (Compare p t) (bits_for t) (a ∷ b ∷ []) []) (word (predicate_word p) ∷ (typed_pieces t (a ∷ b ∷ []) ++ []))
+unfolding compare predicates predicate_word table
+compare_writes Eq t a b x y = by_word_writes _ Eq refl refl (compared_writes Eq t a b x y)
+compare_writes Ne t a b x y = by_word_writes _ Ne refl refl (compared_writes Ne t a b x y)
+compare_writes Ugt t a b x y = by_word_writes _ Ugt refl refl (compared_writes Ugt t a b x y)
+compare_writes Uge t a b x y = by_word_writes _ Uge refl refl (compared_writes Uge t a b x y)
+compare_writes Ult t a b x y = by_word_writes _ Ult refl refl (compared_writes Ult t a b x y)
+compare_writes Ule t a b x y = by_word_writes _ Ule refl refl (compared_writes Ule t a b x y)
+compare_writes Sgt t a b x y = by_word_writes _ Sgt refl refl (compared_writes Sgt t a b x y)
+compare_writes Sge t a b x y = by_word_writes _ Sge refl refl (compared_writes Sge t a b x y)
+compare_writes Slt t a b x y = by_word_writes _ Slt refl refl (compared_writes Slt t a b x y)
+compare_writes Sle t a b x y = by_word_writes _ Sle refl refl (compared_writes Sle t a b x y)
+
+-- ---- the entries of a phi
+
+-- how an entry is written
+record Entry (t : Ty) : Type 0 where
+  operand : OperandTree
+  label : Name
+  written : IsWritten t operand
+  named : IsName label
+
+abbrev written_entry : (t : Ty) → Entry t → WrittenValue × Name
+written_entry t e = (e.written.as_value, e.label)
+
+abbrev pieces_of_entry : (t : Ty) → Entry t → List Piece
+pieces_of_entry t e = entry_pieces t e.operand e.label
+
+entry_writes : (t : Ty) → EachWrites entry_of_phi (written_entry t) (pieces_of_entry t) (λ e. Unit {0})
+unfolding entry_of_phi
+entry_writes t = record { one = λ e h. bracketed _ (both e.written.writes (after_comma (local_writes e.label e.named))) }
+
+-- the entries of operands and labels
+record Entries (t : Ty) (args : List OperandTree) (labels : List Name) : Type 0 where
+  items : List (Entry t)
+  pieces : map (pieces_of_entry t) items ≡ entries_of t args labels
+  operands : entries_at t (map (written_entry t) items) ≡ Some args
+  names : map (λ (e : WrittenValue × Name). e.1) (map (written_entry t) items) ≡ labels
+  as_many : length items ≡ length args
+
+more_entries : (t : Ty) (e : Entry t) (args : List OperandTree) (labels : List Name) → Entries t args labels → Entries t (e.operand ∷ args) (e.label ∷ labels)
+more_entries t e args labels es = record {
+  items = e ∷ es.items;
+  pieces = ap (λ (ps : List (List Piece)). pieces_of_entry t e ∷ ps) es.pieces;
+  operands = rw (e.written.is, es.operands) refl;
+  names = ap (λ (ns : List Name). e.label ∷ ns) es.names;
+  as_many = omega (arith, es.as_many);
+}
+
+entries : (t : Ty) (args : List OperandTree) (labels : List Name) → length labels ≡ length args → AllZip IsTyped (replicate (length args) t) args → AllByRecursion IsName labels → Entries t args labels
+entries t [] [] e h g = record { items = []; pieces = refl; operands = refl; names = refl; as_many = refl }
+entries t (a ∷ args) (l ∷ labels) e h g = more_entries t (record { operand = a; label = l; written = operand_written t a h.0; named = g.0 }) args labels (entries t args labels (omega arith) h.1 g.1)
+entries t [] (l ∷ labels) e h g = absurd (omega arith)
+entries t (a ∷ args) [] e h g = absurd (omega arith)
+
+all_known : (t : Ty) (es : List (Entry t)) → AllByRecursion (λ e. Unit {0}) es
+all_known t [] = tt
+all_known t (e ∷ es) = (tt, all_known t es)
+
+phi_writes : (t : Ty) (args : List OperandTree) (labels : List Name) → IsType t → Entries t args labels → 0 < length args → Writes closed phi (bare_inst Phi t args labels) (type_pieces t ++ (blank ∷ with_commas (entries_of t args labels)))
+unfolding phi
+phi_writes t args labels i es lt =
+    rw (← es.pieces) (made_writes (t, map (written_entry t) es.items) _ (rw (es.operands, es.names) refl)
+    (both (type_writes t i) (spaced (commas_write (entry_writes t) es.items (omega (arith, es.as_many)) (all_known t es.items)))))
+
+-- ---- operations
+
+abbrev pub WritesOperation : InstKind → Ty → List OperandTree → List Name → Type 0
+WritesOperation k t args labels = Writes closed (by_word operation_words operation_behind) (bare_inst k t args labels) (kind_pieces k t args labels)
+
+with_one : (k : InstKind) (t : Ty) {u : Ty} {args : List OperandTree} {labels : List Name} → AllZip IsTyped (u ∷ []) args → length labels ≡ 0 → ((a : OperandTree) → IsWritten u a → WritesOperation k t (a ∷ []) []) → WritesOperation k t args labels
+with_one k t {args = args} h e p = by_no_label (λ ls. WritesOperation k t args ls) e (by_one (λ xs. WritesOperation k t xs []) h p)
+
+with_two : (k : InstKind) (t : Ty) {u v : Ty} {args : List OperandTree} {labels : List Name} → AllZip IsTyped (u ∷ v ∷ []) args → length labels ≡ 0 → ((a b : OperandTree) → IsWritten u a → IsWritten v b → WritesOperation k t (a ∷ b ∷ []) []) → WritesOperation k t args labels
+with_two k t {args = args} h e p = by_no_label (λ ls. WritesOperation k t args ls) e (by_two (λ xs. WritesOperation k t xs []) h p)
+
+with_three : (k : InstKind) (t : Ty) {u v w : Ty} {args : List OperandTree} {labels : List Name} → AllZip IsTyped (u ∷ v ∷ w ∷ []) args → length labels ≡ 0 → ((a b c : OperandTree) → IsWritten u a → IsWritten v b → IsWritten w c → WritesOperation k t (a ∷ b ∷ c ∷ []) []) → WritesOperation k t args labels
+with_three k t {args = args} h e p = by_no_label (λ ls. WritesOperation k t args ls) e (by_three (λ xs. WritesOperation k t xs []) h p)
+
+pub operation_writes : (k : InstKind) (t : Ty) (args : List OperandTree) (labels : List Name) → IsBody (bare_inst k t args labels) → ¬ IsTerminator k → WritesOperation k t args labels
+unfolding operation_words select freeze trunc zext sext ptrtoint load store extractelement insertelement shufflevector table
+operation_writes (Binary op f) t args labels h g = with_two (Binary op f) t h.args h.count (λ a b x y. binary_writes op f t a b h.parts x y)
+operation_writes (Compare p u) t args labels h g = rw (h.result) (with_two (Compare p u) (bits_for u) h.args h.count (λ a b x y. by_word_writes _ operations.Icmp refl refl (spaced (compare_writes p u a b x y))))
+operation_writes (Select u v) t args labels h g = with_three (Select u v) t h.args h.count (λ a b c x y z. by_word_writes _ operations.Select refl refl (spaced (ended (mapped_writes ((u, a), ((t, b), (v, c))) _ refl (both (typed_writes x) (both (after_comma (typed_writes y)) (after_comma (ended (typed_writes z)))))))))
+operation_writes Freeze t args labels h g = with_one Freeze t h.args h.count (λ a x. by_word_writes _ operations.Freeze refl refl (spaced (ended (mapped_writes (t, a) _ refl (ended (typed_writes x))))))
+operation_writes (Trunc u nuw nsw) t args labels h g = with_one (Trunc u nuw nsw) t h.args h.count (λ a x. by_word_writes _ operations.Trunc refl refl (mapped_writes ((nuw, nsw), ((u, a), t)) _ refl (both (wrap_writes nuw nsw) (spaced (both (ended (typed_writes x)) (to_writes t h.result))))))
+operation_writes (Zext u nneg) t args labels h g = with_one (Zext u nneg) t h.args h.count (λ a x. by_word_writes _ operations.Zext refl refl (mapped_writes (nneg, ((u, a), t)) _ refl (both (flag_writes (codes "nneg") nneg flag_kinds.2) (spaced (both (ended (typed_writes x)) (to_writes t h.result))))))
+operation_writes (Sext u) t args labels h g = with_one (Sext u) t h.args h.count (λ a x. by_word_writes _ operations.Sext refl refl (spaced (mapped_writes ((u, a), t) _ refl (both (ended (typed_writes x)) (to_writes t h.result)))))
+operation_writes PtrToInt t args labels h g = with_one PtrToInt t h.args h.count (λ a x. by_word_writes _ operations.PtrToInt refl refl (spaced (mapped_writes (a, t) _ refl (both (ended (pointer_writes x)) (to_writes t h.result)))))
+operation_writes Phi t args labels h g = by_word_writes _ operations.Phi refl refl (spaced (ended (phi_writes t args labels h.result (entries t args labels h.count h.args h.labels) h.parts)))
+operation_writes (Load n) t args labels h g = with_one (Load n) t h.args h.count (λ a x. by_word_writes _ operations.Load refl refl (spaced (regrouped (type_pieces t) _ (align_pieces n) (mapped_writes (t, (a, Some n)) _ refl (both (type_writes t h.result) (both (after_comma (ended (pointer_writes x))) (align_writes n h.parts)))))))
+operation_writes (Store u n) t args labels h g = rw (h.result) (with_two (Store u n) Void h.args h.count (λ a b x y. by_word_writes _ operations.Store refl refl (spaced (regrouped (typed_operand u a) _ (align_pieces n) (mapped_writes ((u, a), (b, Some n)) _ refl (both (typed_writes x) (both (after_comma (ended (pointer_writes y))) (align_writes n h.parts))))))))
+operation_writes (Extract u w) t args labels h g = rw (h.result) (with_two (Extract u w) (element_of u) h.args h.count (λ a b x y. by_word_writes _ operations.ExtractElement refl refl (spaced (ended (mapped_writes ((u, a), (w, b)) _ refl (both (typed_writes x) (after_comma (ended (index_writes y)))))))))
+operation_writes (Insert u w) t args labels h g = with_three (Insert u w) t h.args h.count (λ a b c x y z. by_word_writes _ operations.InsertElement refl refl (spaced (ended (mapped_writes ((t, a), ((u, b), (w, c))) _ refl (both (typed_writes x) (both (after_comma (typed_writes y)) (after_comma (ended (index_writes z)))))))))
+operation_writes (Shuffle u v m) t args labels h g = rw (h.result) (with_three (Shuffle u v m) (shuffled u m) h.args h.count (λ a b c x y z. by_word_writes _ operations.ShuffleVector refl refl (spaced (ended (mapped_writes ((u, a), ((v, b), (m, c))) _ refl (both (typed_writes x) (both (after_comma (typed_writes y)) (after_comma (ended (typed_writes z))))))))))
+operation_writes k t args labels h g = absurd (g tt)
+
+-- ---- the cases of a switch
+
+abbrev written_case : ℕ → ℕ × Name → (ℕ × List ℕ) × Name
+written_case w c = ((w, signed_text w c.0), c.1)
+
+abbrev IsCase : ℕ → ℕ × Name → Type 0
+IsCase w c = IsBelow w c.0 × IsName c.1
+
+case_writes : (w : ℕ) → IsOneOf widths w → EachWrites case_of_switch (written_case w) (λ c. case_pieces w c.0 c.1) (IsCase w)
+unfolding case_of_switch
+case_writes w i = record { one = λ c h. both (both (width_writes w i) (spaced (signed_writes w c.0 (width_within w i).1 h.0))) (after_comma (target_writes c.1 h.1)) }
+
+cases_known : (w : ℕ) (ns : List ℕ) (labels : List Name) → AllByRecursion (IsBelow w) ns → AllByRecursion IsName labels → AllByRecursion (IsCase w) (zip ns labels)
+cases_known w [] labels h g = tt
+cases_known w (n ∷ ns) [] h g = tt
+cases_known w (n ∷ ns) (l ∷ labels) h g = ((h.0, g.0), cases_known w ns labels h.1 g.1)
+
+same_widths : (w : ℕ) (cs : List (ℕ × Name)) → list_all (λ (c : (ℕ × List ℕ) × Name). eqb c.0.0 w) (map (written_case w) cs) ≡ true
+same_widths w [] = refl
+same_widths w (c ∷ cs) = let e : eqb w w ≡ true = eq-eqb w w refl in rw e (same_widths w cs)
+
+numbers_again : (w : ℕ) → IsOneOf widths w → (ns : List ℕ) (labels : List Name) → length labels ≡ length ns → AllByRecursion (IsBelow w) ns → map (λ (c : (ℕ × List ℕ) × Name). number_at w c.0.1) (map (written_case w) (zip ns labels)) ≡ ns
+numbers_again w i [] labels e h = refl
+numbers_again w i (n ∷ ns) [] e h = absurd (omega arith)
+numbers_again w i (n ∷ ns) (l ∷ labels) e h = let b = width_within w i in rw (signed_again w n b.0 b.1 h.0, numbers_again w i ns labels (omega arith) h.1) refl
+
+labels_again : (w : ℕ) (ns : List ℕ) (labels : List Name) → length labels ≡ length ns → map (λ (c : (ℕ × List ℕ) × Name). c.1) (map (written_case w) (zip ns labels)) ≡ labels
+labels_again w [] [] e = refl
+labels_again w [] (l ∷ labels) e = absurd (omega arith)
+labels_again w (n ∷ ns) [] e = absurd (omega arith)
+labels_again w (n ∷ ns) (l ∷ labels) e = ap (λ (ls : List Name). l ∷ ls) (labels_again w ns labels (omega arith))
+
+cases_part : Separates (before_case ∷ [])
+cases_part = record { apart = λ ps h. gap_laid 10 _ refl h }
+
+switch_writes : (w : ℕ) (ns : List ℕ) (a : OperandTree) (l : Name) (labels : List Name) → IsWritten (Int w) a → IsName l → AllByRecursion (IsBelow w) ns → AllByRecursion IsName labels → length labels ≡ length ns
+    → Writes open_ switch (bare_inst (Switch w ns) Void (a ∷ []) (l ∷ labels)) ((blank ∷ (typed_operand (Int w) a ++ [])) ++ switch_pieces w ns (l ∷ labels))
+unfolding switch
+switch_writes w ns a l labels x i h g e =
+    made_writes ((w, a), (l, map (written_case w) (zip ns labels))) _ (rw (same_widths w (zip ns labels), numbers_again w x.typed ns labels e h, labels_again w ns labels e) refl)
+    (spaced (both (ended (index_writes x)) (both (after_comma (target_writes l i)) (spaced (between_writes kinds.LeftBracket kinds.RightBracket (codes "[") (codes "]") (each_behind (before_case ∷ []) (cases_of w ns labels)) _ bracket_kinds.2 refl
+    (gap_laid 10 _ refl (loose (mark_laid kinds.RightBracket (codes "]") refl bracket_kinds.3 (loose nothing_behind)))) refl (many_behind _ cases_part (case_writes w x.typed) (zip ns labels) (cases_known w ns labels h g)))))))
+
+-- ---- terminators
+
+end_kinds : (kind_of (codes "i1") ≡ Some kinds.Word) × (kind_of (codes "void") ≡ Some kinds.Word)
+unfolding table
+end_kinds = (refl, refl)
+
+bit_type : type_pieces (Int 1) ≡ word (codes "i1") ∷ []
+unfolding type_pieces width_word
+bit_type = rw (decimals.0) refl
+
+abbrev pub WritesTerminator : InstKind → Ty → List OperandTree → List Name → Type 0
+WritesTerminator k t args labels = Writes closed (either (by_word terminator_words terminator_behind) (word_form (codes "unreachable") unreachable_tree)) (bare_inst k t args labels) (kind_pieces k t args labels)
+
+branch_writes : (a : OperandTree) (l m : Name) → IsWritten (Int 1) a → IsName l → IsName m → WritesTerminator Branch Void (a ∷ []) (l ∷ m ∷ [])
+unfolding terminator_words branch table
+branch_writes a l m x i j =
+    left_writes (by_word_writes _ terminators.Br refl refl (rw bit_type (right_writes (made_writes (x.as_value, (l, m)) _ (rw (x.is) refl)
+    (spaced (behind_writes (codes "i1") end_kinds.0 (spaced (both (ended x.writes) (both (after_comma (target_writes l i)) (after_comma (ended (target_writes m j))))))))))))
+
+pub terminator_writes : (k : InstKind) (t : Ty) (args : List OperandTree) (labels : List Name) → IsBody (bare_inst k t args labels) → IsTerminator k → WritesTerminator k t args labels
+unfolding terminator_words branch ret table
+terminator_writes Jump t args labels h g =
+    rw (h.result) (by_none (λ xs. WritesTerminator Jump Void xs labels) h.args (by_one_label (WritesTerminator Jump Void []) h.labels h.count (λ l i. left_writes (by_word_writes _ terminators.Br refl refl (left_writes (mapped_writes l _ refl (spaced (ended (target_writes l i)))))))))
+terminator_writes Branch t args labels h g =
+    rw (h.result) (by_one (λ xs. WritesTerminator Branch Void xs labels) h.args (λ a x. by_two_labels (WritesTerminator Branch Void (a ∷ [])) h.labels h.count (λ l m i j. branch_writes a l m x i j)))
+terminator_writes (Switch w ns) t args labels h g =
+    rw (h.result) (by_one (λ xs. WritesTerminator (Switch w ns) Void xs labels) h.args (λ a x. by_first_label (WritesTerminator (Switch w ns) Void (a ∷ [])) (length ns) h.labels h.count (λ l more i hs e. left_writes (by_word_writes _ terminators.Switch refl refl (switch_writes w ns a l more x i h.parts hs e)))))
+terminator_writes ReturnVoid t args labels h g =
+    rw (h.result) (by_none (λ xs. WritesTerminator ReturnVoid Void xs labels) h.args (by_no_label (WritesTerminator ReturnVoid Void []) h.count (left_writes (by_word_writes _ terminators.Ret refl refl (spaced (right_writes (word_writes _ void_tree end_kinds.1)))))))
+terminator_writes (Return u) t args labels h g =
+    rw (h.result) (by_one (λ xs. WritesTerminator (Return u) Void xs labels) h.args (λ a x. by_no_label (WritesTerminator (Return u) Void (a ∷ [])) h.count (left_writes (by_word_writes _ terminators.Ret refl refl (spaced (ended (left_writes (mapped_writes (u, a) _ refl (ended (typed_writes x))))))))))
+terminator_writes Unreachable t args labels h g =
+    rw (h.result) (by_none (λ xs. WritesTerminator Unreachable Void xs labels) h.args (by_no_label (WritesTerminator Unreachable Void []) h.count (right_writes (word_writes _ unreachable_tree refl))))
+terminator_writes k t args labels h g = absurd g

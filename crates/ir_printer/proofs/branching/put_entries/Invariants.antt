@@ -1,0 +1,10 @@
+use Rattle.std.proofs.Common.{◌≡◌, ◌++◌, take}
+use Rattle.std.specs.Prelude.{map}
+use Rattle.text_lex.specs.Layout.{text_of}
+use Rattle.ir_types.specs.Denotes.{name_in, operand_in}
+use Rattle.type_printer.specs.Pieces.{with_commas}
+use Rattle.ir_printer.specs.Print.{entries_of}
+use Rattle.ir_printer.proofs.branching.put_entries.Given as goal
+
+abbrev pub invariant-loop-place : goal.invariant-loop-place
+invariant-loop-place l = l.out.items ≡ l.initial.out.items ++ text_of (with_commas (take l.place (entries_of l.ty (map (operand_in l.names) l.operands) (map (name_in l.names) l.labels))))

@@ -1,0 +1,35 @@
+use Rattle.std.proofs.Common.{◌≡◌, length, arith}
+use Rattle.std.specs.Prelude.{map}
+use Rattle.std.proofs.lemmas.List.{length-map}
+
+use Rattle.std.proofs.lemmas.Slice.Zip.{length-zip}
+use Rattle.type_printer.specs.Pieces.{with_commas}
+use Rattle.ir_types.specs.declared.inst.Ty.TheVariants.{Int}
+use Rattle.ir_types.specs.Denotes.{operand_in}
+use Rattle.ir_shape.specs.Shape.{IsTyped}
+use Rattle.ir_printer.specs.Print.{typed_operand, each_typed}
+use Rattle.ir_printer.proofs.Operands.{as_many_types}
+use Rattle.ir_printer.proofs.Places.{IsAt, at_index, at_map, at_zip, known_pair, next_part, all_parts}
+use Rattle.ir_printer.proofs.value.put_each_typed.Goals as goal
+
+pub bounds-types-place : goal.bounds-types-place
+bounds-types-place c = omega (arith, as_many_types c.args.names.now c.args.types.now c.args.operands.now c.requires)
+
+pub put_typed_operand-requires : goal.put_typed_operand-requires
+put_typed_operand-requires c =
+    let many = as_many_types c.args.names.now c.args.types.now c.args.operands.now c.requires in
+    let ty = at_index c.args.types.now c.loop-place.place (Int 0) (omega arith) in
+    let operand : IsAt c.args.operands.now c.loop-place.place c.index-operands-place.result = record { within = omega arith; is = c.index-operands-place.is } in
+    known_pair IsTyped _ _ _ _ _ ty (at_map (operand_in c.args.names.now) _ _ _ operand) c.requires
+
+pub loop-place-preserved : goal.loop-place-preserved
+loop-place-preserved c =
+    let many = as_many_types c.args.names.now c.args.types.now c.args.operands.now c.requires in
+    let ty = at_index c.args.types.now c.loop-place.place (Int 0) (omega arith) in
+    let operand : IsAt c.args.operands.now c.loop-place.place c.index-operands-place.result = record { within = omega arith; is = c.index-operands-place.is } in
+    next_part _ _ _ _ _ _ _ (at_map (λ x. typed_operand x.0 x.1) _ _ _ (at_zip _ _ _ _ _ ty (at_map (operand_in c.args.names.now) _ _ _ operand))) c.in_ok-put_comma.ensures c.in_ok-put_typed_operand.ensures c.loop-place.invariant
+
+pub returns : goal.returns
+returns c =
+    let many = as_many_types c.args.names.now c.args.types.now c.args.operands.now c.requires in
+    all_parts with_commas (each_typed c.args.types.now (map (operand_in c.args.names.now) c.args.operands.now)) c.loop-place.place _ _ (simp (length-map, length-zip) (omega arith)) c.loop-place.invariant

@@ -1,0 +1,10 @@
+use Rattle.std.proofs.Common.{◌≡◌, ◌++◌, take}
+use Rattle.std.specs.Prelude.{map}
+use Rattle.text_lex.specs.Layout.{text_of}
+use Rattle.ir_types.specs.Denotes.{operand_in}
+use Rattle.type_printer.specs.Pieces.{with_commas}
+use Rattle.ir_printer.specs.Print.{each_typed}
+use Rattle.ir_printer.proofs.value.put_each_typed.Given as goal
+
+abbrev pub invariant-loop-place : goal.invariant-loop-place
+invariant-loop-place l = l.out.items ≡ l.initial.out.items ++ text_of (with_commas (take l.place (each_typed l.types (map (operand_in l.names) l.operands))))

@@ -1,0 +1,152 @@
+// Labels: those of branches, of the entries of a phi and of the cases of a switch.
+
+ghost use Rattle.std.specs.Prelude.{◌≡◌, ◌<◌, ◌++◌, ◌∷◌, [], suc, map, length, OnOk};
+ghost use Rattle.std.specs.List.{AllByRecursion};
+ghost use Rattle.text_lex.specs.Layout.{text_of};
+ghost use Rattle.ir_types.specs.Denotes.{name_in, operand_in};
+ghost use Rattle.ir_shape.specs.Shape.{IsOneOf, widths, IsName, IsBelow, IsTyped};
+ghost use Rattle.type_printer.specs.Pieces.{with_commas, each_behind};
+ghost use Rattle.ir_printer.specs.Print.{target_pieces, targets_pieces, entry_pieces, entries_of, before_case, case_pieces, cases_of, switch_pieces};
+
+use crate::value::{put_comma, put_operand, put_signed};
+use ir_types::{Names, Operand, Ty, ValueId};
+use std::alloc::AllocError;
+use type_printer::types::{put_local, put_width};
+
+fn put_target(out: &mut Vec<u8>, names: &Names, label: ValueId) -> Result<(), AllocError>
+    requires { IsName (name_in names.now label) }
+    ensures { OnOk result (out.new.items ≡ out.old.items
+        ++ text_of (target_pieces (name_in names.now label))) }
+{
+    out.extend_from_slice(b"label ")?;
+    put_local(out, names, label)
+}
+
+/// Appends labels with commas between them.
+pub(crate) fn put_targets(
+    out: &mut Vec<u8>,
+    names: &Names,
+    labels: &[ValueId],
+) -> Result<(), AllocError>
+    requires { AllByRecursion IsName (map (name_in names.now) labels.now) }
+    ensures { OnOk result (out.new.items ≡ out.old.items
+        ++ text_of (targets_pieces (map (name_in names.now) labels.now))) }
+{
+    for (place, label) in labels.iter().enumerate() {
+        put_comma(out, place)?;
+        put_target(out, names, *label)?;
+    }
+    Ok(())
+}
+
+#[tactic(auto, using(type_printer::proofs::Appended::text_of_both, std::proofs::lemmas::Grind::common_steps))]
+fn put_entry(
+    out: &mut Vec<u8>,
+    names: &Names,
+    ty: Ty,
+    operand: &Operand,
+    label: ValueId,
+) -> Result<(), AllocError>
+    requires operand { IsTyped ty (operand_in names.now operand.now) }
+    requires label { IsName (name_in names.now label) }
+    ensures { OnOk result (out.new.items ≡ out.old.items
+        ++ text_of (entry_pieces ty (operand_in names.now operand.now) (name_in names.now label))) }
+{
+    out.extend_from_slice(b"[ ")?;
+    put_operand(out, names, ty, operand)?;
+    out.extend_from_slice(b", ")?;
+    put_local(out, names, label)?;
+    out.extend_from_slice(b" ]")
+}
+
+/// Appends the entries of a phi with commas between them.
+pub(crate) fn put_entries(
+    out: &mut Vec<u8>,
+    names: &Names,
+    ty: Ty,
+    operands: &[Operand],
+    labels: &[ValueId],
+) -> Result<(), AllocError>
+    requires operands { AllByRecursion (IsTyped ty) (map (operand_in names.now) operands.now) }
+    requires labels { AllByRecursion IsName (map (name_in names.now) labels.now) }
+    requires pairs { length operands.now ≡ length labels.now }
+    ensures { OnOk result (out.new.items ≡ out.old.items
+        ++ text_of (with_commas (entries_of ty
+        (map (operand_in names.now) operands.now) (map (name_in names.now) labels.now)))) }
+{
+    for (place, operand) in operands.iter().enumerate() {
+        put_comma(out, place)?;
+        put_entry(out, names, ty, operand, labels[place])?;
+    }
+    Ok(())
+}
+
+#[tactic(auto, using(type_printer::proofs::Widths::width_within))]
+fn put_case(
+    out: &mut Vec<u8>,
+    names: &Names,
+    width: u32,
+    number: u64,
+    label: ValueId,
+) -> Result<(), AllocError>
+    requires width { IsOneOf widths width }
+    requires number { IsBelow width number }
+    requires label { IsName (name_in names.now label) }
+    ensures { OnOk result (out.new.items ≡ out.old.items
+        ++ text_of (case_pieces width number (name_in names.now label))) }
+{
+    put_width(out, width)?;
+    out.push(b' ')?;
+    put_signed(out, width, number)?;
+    out.extend_from_slice(b", ")?;
+    put_target(out, names, label)
+}
+
+// Appends the cases of a switch, each on a line of its own.
+fn put_cases(
+    out: &mut Vec<u8>,
+    names: &Names,
+    width: u32,
+    numbers: &[u64],
+    labels: &[ValueId],
+) -> Result<(), AllocError>
+    requires width { IsOneOf widths width }
+    requires numbers { AllByRecursion (IsBelow width) numbers.now }
+    requires labels { AllByRecursion IsName (map (name_in names.now) labels.now) }
+    requires pairs { length labels.now ≡ length numbers.now }
+    ensures { OnOk result (out.new.items ≡ out.old.items
+        ++ text_of (each_behind (before_case ∷ [])
+        (cases_of width numbers.now (map (name_in names.now) labels.now)))) }
+{
+    for (place, number) in numbers.iter().enumerate() {
+        out.extend_from_slice(b"\n    ")?;
+        put_case(out, names, width, *number, labels[place])?;
+    }
+    Ok(())
+}
+
+/// Appends the labels of a switch: the default's and those of its cases.
+#[tactic(auto, using(type_printer::proofs::Appended::text_of_both, std::proofs::lemmas::Grind::common_steps))]
+pub(crate) fn put_switch(
+    out: &mut Vec<u8>,
+    names: &Names,
+    width: u32,
+    numbers: &[u64],
+    labels: &[ValueId],
+) -> Result<(), AllocError>
+    requires width { IsOneOf widths width }
+    requires numbers { AllByRecursion (IsBelow width) numbers.now }
+    requires labels { AllByRecursion IsName (map (name_in names.now) labels.now) }
+    requires pairs { length labels.now ≡ suc (length numbers.now) }
+    ensures { OnOk result (out.new.items ≡ out.old.items
+        ++ text_of (switch_pieces width numbers.now (map (name_in names.now) labels.now))) }
+{
+    let [default, labels @ ..] = labels else {
+        return Ok(());
+    };
+    out.extend_from_slice(b", ")?;
+    put_target(out, names, *default)?;
+    out.extend_from_slice(b" [")?;
+    put_cases(out, names, width, numbers, labels)?;
+    out.extend_from_slice(b"\n  ]")
+}
