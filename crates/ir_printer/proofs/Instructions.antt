@@ -1,5 +1,5 @@
 -- The pieces that an instruction is printed as, behind its result and before its attachments, write it.
-use Rattle.std.proofs.Common.{◌≡◌, ◌<◌, ℕ, true, Bool, List, [], ◌∷◌, ◌++◌, length, Option, Some, None, refl, sym, ap, subst, arith, eqb, inl}
+use Rattle.std.proofs.Common.{◌≡◌, ◌<◌, ℕ, true, List, [], ◌∷◌, ◌++◌, length, Some, refl, sym, ap, subst, arith, eqb}
 use Rattle.std.specs.Prelude.{map, codes, replicate}
 use Rattle.std.specs.List.{AllByRecursion, AllZip, list_all, zip}
 use Rattle.std.proofs.lemmas.Bool.{eq-eqb}
@@ -7,10 +7,10 @@ use Rattle.forms.specs.declared.TokenKind.TheVariants as kinds
 use Rattle.forms.specs.Form.{Form, either, by_word}
 use Rattle.forms.specs.Combined.{word as word_form}
 use Rattle.forms.specs.Lexical.{kind_of, table}
-use Rattle.text_lex.specs.Layout.{Piece, gap, lexeme, closed, open_}
+use Rattle.text_lex.specs.Layout.{Piece, closed, open_}
 use Rattle.ir_types.specs.declared.name.Name.{Name}
 use Rattle.ir_types.specs.declared.inst.Ty.{Ty}
-use Rattle.ir_types.specs.declared.inst.Ty.TheVariants.{Int, Ptr, Void}
+use Rattle.ir_types.specs.declared.inst.Ty.TheVariants.{Int, Void}
 use Rattle.ir_types.specs.declared.inst.BinOp.{BinOp}
 use Rattle.ir_types.specs.declared.inst.BinOp.TheVariants.{Add, Sub, Mul, Shl, UDiv, SDiv, URem, SRem, LShr, AShr, And, Or, Xor}
 use Rattle.ir_types.specs.declared.inst.Flags.{Flags}
@@ -22,13 +22,13 @@ use Rattle.ir_types.specs.declared.opcode.Operation.TheVariants as operations
 use Rattle.ir_types.specs.declared.opcode.Terminator.TheVariants as terminators
 use Rattle.ir_types.specs.Written.{number_at}
 use Rattle.ir_types.specs.Tree.{OperandTree, InstTree}
-use Rattle.ir_types.specs.Grammar.{WrittenValue, operand_at, wrap_flags, exact_flag, disjoint_flag, no_flags, bits_for, element_of, shuffled, bare_inst, overflowing, possibly_exact, plain_binary, or_operation, predicates, compared, compare, select, freeze, trunc, zext, sext, ptrtoint, entry_of_phi, entries_at, phi, load, store, extractelement, insertelement, shufflevector, branch, case_of_switch, cases_at, switch, void_tree, unreachable_tree, ret, operation_words, operation_behind, terminator_words, terminator_behind}
+use Rattle.ir_types.specs.Grammar.{WrittenValue, wrap_flags, exact_flag, disjoint_flag, no_flags, bits_for, element_of, shuffled, bare_inst, overflowing, possibly_exact, plain_binary, or_operation, predicates, compared, compare, select, freeze, trunc, zext, sext, ptrtoint, entry_of_phi, entries_at, phi, load, store, extractelement, insertelement, shufflevector, branch, case_of_switch, switch, void_tree, unreachable_tree, ret, operation_words, operation_behind, terminator_words, terminator_behind}
 use Rattle.ir_shape.specs.Shape.{IsName, IsOneOf, widths, IsType, IsBelow, IsTyped, IsTerminator, HasFlags, IsBody}
 use Rattle.type_printer.specs.Texts.{signed_text}
-use Rattle.type_printer.specs.Pieces.{word, comma, blank, left_bracket, right_bracket, type_pieces, width_word, each_behind, with_commas}
+use Rattle.type_printer.specs.Pieces.{word, blank, type_pieces, width_word, each_behind, with_commas}
 use Rattle.type_printer.proofs.Spelled.{decimals}
 use Rattle.type_printer.proofs.Widths.{width_within}
-use Rattle.type_printer.proofs.Laid.{Separates, loose, blank_laid, mark_laid, nothing_behind, gap_laid}
+use Rattle.type_printer.proofs.Laid.{Separates, loose, mark_laid, nothing_behind, gap_laid}
 use Rattle.type_printer.proofs.LaidOut.{bracket_kinds}
 use Rattle.type_printer.proofs.Writes.{Writes, both, spaced, ended, regrouped, left_writes, right_writes, mapped_writes, made_writes, word_writes, behind_writes, by_word_writes, after_comma, between_writes, bracketed, EachWrites, commas_write, many_behind}
 use Rattle.ir_printer.specs.Print.{operator_word, predicate_word, flags_pieces, typed_operand, typed_pieces, entry_pieces, entries_of, before_case, case_pieces, cases_of, switch_pieces, align_pieces, kind_pieces}

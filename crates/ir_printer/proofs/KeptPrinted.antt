@@ -47,9 +47,6 @@ next_printed xs i v w out out1 out2 whole some lt ev ew e1 e2 so_far =
 pub all_printed : (xs : List (List ℕ)) (i : ℕ) (v out whole : List ℕ) → length xs ≤ i → out ++ text_of (kept_behind v (drop i xs)) ≡ whole → out ≡ whole
 all_printed xs i v out whole le so_far = sym (append-nil out) ∙ sym (ap (λ (ys : List (List ℕ)). out ++ text_of (kept_behind v ys)) (drop_all i xs le)) ∙ so_far
 
-pub nothing_printed : (xs : List (List ℕ)) (i : ℕ) (out : List ℕ) → i ≡ length xs → out ≡ out ++ text_of (kept_pieces (drop i xs))
-nothing_printed xs i out e = sym (append-nil out) ∙ sym (ap (λ (ys : List (List ℕ)). out ++ text_of (kept_pieces ys)) (drop_all i xs (omega arith)))
-
 pub then_blank_text : (xs : List (List ℕ)) → eqb (length xs) 0 ≡ false → text_of (kept_then_blank xs) ≡ text_of (kept_pieces xs) ++ 32 ∷ []
 then_blank_text [] e = absurd cc
 then_blank_text (w ∷ ws) e = text_of-append (kept_pieces (w ∷ ws)) _
@@ -71,7 +68,3 @@ line_equal xs i w out out1 out2 whole lt e y e1 e2 so_far =
     ap (λ (ys : List (List ℕ)). text_of (line_pieces ys)) (from_place xs i w lt e) ∙ line_equal_text w (drop (i + 1) xs) y in
     let regroup : ((out ++ w) ++ 32 ∷ []) ++ text_of (kept_pieces (drop (i + 1) xs)) ≡ out ++ (w ++ (32 ∷ text_of (kept_pieces (drop (i + 1) xs)))) = simp append_assoc in
     rw (e2, e1) (regroup ∙ sym (ap (λ (t : List ℕ). out ++ t) step) ∙ so_far)
-
-pub line_printed : (xs : List (List ℕ)) (i : ℕ) (out whole : List ℕ) → length xs ≤ i → out ++ text_of (line_pieces (drop i xs)) ≡ whole → out ++ text_of (kept_pieces (drop (length xs) xs)) ≡ whole
-line_printed xs i out whole le so_far =
-    ap (λ (ys : List (List ℕ)). out ++ text_of (kept_pieces ys)) (drop_all (length xs) xs (omega arith)) ∙ sym (ap (λ (ys : List (List ℕ)). out ++ text_of (line_pieces ys)) (drop_all i xs le)) ∙ so_far

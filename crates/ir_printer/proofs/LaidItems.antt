@@ -1,13 +1,12 @@
 -- The pieces that items are printed as are tokens and join.
-use Rattle.std.proofs.Common.{◌≡◌, Bool, true, false, cond, List, [], ◌∷◌, ◌++◌, Some, refl, append_assoc, inl, inr}
+use Rattle.std.proofs.Common.{◌≡◌, Bool, true, false, cond, List, [], ◌∷◌, ◌++◌, Some, refl, append_assoc}
 use Rattle.std.specs.Prelude.{map, codes}
 use Rattle.std.specs.List.{AllByRecursion}
 use Rattle.forms.specs.declared.TokenKind.TheVariants as kinds
 use Rattle.forms.specs.Lexical.{kind_of, table}
-use Rattle.forms.proofs.Begins.{test}
-use Rattle.text_lex.specs.Layout.{Piece, AreTokens}
-use Rattle.text_lex.specs.KeptText.{token_of, IsToken, touches, kept_behind, kept_pieces, line_pieces}
-use Rattle.text_lex.proofs.KeptTexts.{kept_are, line_are, kept_joins, line_joins}
+use Rattle.text_lex.specs.Layout.{Piece}
+use Rattle.text_lex.specs.KeptText.{IsToken, kept_behind, line_pieces}
+use Rattle.text_lex.proofs.KeptTexts.{line_are, line_joins}
 use Rattle.ir_types.specs.declared.name.Name.{Name}
 use Rattle.ir_types.specs.declared.module.Symbol.{Symbol}
 use Rattle.ir_types.specs.declared.module.Module.{Module}
@@ -16,10 +15,10 @@ use Rattle.ir_types.specs.Tree.{KeptTexts, BlockTree, ParamTree, FunctionTree}
 use Rattle.ir_shape.specs.Shape.{IsName, IsBlock, IsParam, IsFunction}
 use Rattle.type_printer.specs.Pieces.{token, word, blank, line_feed, right_paren, right_brace, separated, with_commas, global_token, type_pieces}
 use Rattle.type_printer.proofs.Names.{global_kind}
-use Rattle.type_printer.proofs.Laid.{IsLaid, IsBehind, loose, nothing_behind, blank_laid, feed_laid, mark_laid, token_laid, laid-append, behind-append, separated_laid, all_laid}
-use Rattle.type_printer.proofs.LaidOut.{comma_laid, equal_laid, bracket_kinds, commas_part, feeds_part, local_laid, word_laid, type_laid, type_returned}
+use Rattle.type_printer.proofs.Laid.{IsLaid, IsBehind, loose, nothing_behind, blank_laid, feed_laid, mark_laid, token_laid, laid-append, behind-append, separated_laid}
+use Rattle.type_printer.proofs.LaidOut.{comma_laid, equal_laid, bracket_kinds, commas_part, feeds_part, local_laid, word_laid, type_laid}
 use Rattle.type_printer.proofs.Writes.{each_is_laid}
-use Rattle.ir_printer.specs.Print.{dots, kept_then_blank, blank_then_kept, whole_line, block_pieces, param_pieces, dots_pieces, function_word, head_pieces, body_pieces, function_pieces, definition_pieces, type_at, variable_word, variable_pieces}
+use Rattle.ir_printer.specs.Print.{dots, kept_then_blank, whole_line, block_pieces, param_pieces, dots_pieces, function_word, head_pieces, body_pieces, function_pieces, definition_pieces, type_at, variable_word, variable_pieces}
 use Rattle.ir_printer.proofs.KeptWritten.{then_blank_laid, blank_then_behind, behind_laid}
 use Rattle.ir_printer.proofs.Blocks.{block_writes}
 use Rattle.ir_printer.proofs.SpelledFunctions.{param_writes}

@@ -43,7 +43,7 @@ one_behind s [] p = simp (text_of-append, append-nil)
 one_behind s (q ∷ ps) p = simp (text_of-append, append_assoc) (ap (λ (t : List ℕ). text_of s ++ (text_of q ++ t)) (one_behind s ps p))
 
 one_comma : (ps : List (List Piece)) (p : List Piece) → text_of (with_commas (ps ++ p ∷ [])) ≡ text_of (with_commas ps) ++ (text_of (comma_before (length ps)) ++ text_of p)
-one_comma [] p = simp (text_of-append, append-nil)
+one_comma [] p = simp append-nil
 one_comma (q ∷ ps) p = simp (text_of-append, append_assoc) (ap (λ (t : List ℕ). text_of q ++ t) (one_behind (comma ∷ blank ∷ []) ps p))
 
 up_to_next : (ps : List (List Piece)) (i : ℕ) (p : List Piece) → IsAt ps i p → take (i + 1) ps ≡ take i ps ++ p ∷ []

@@ -6,20 +6,19 @@ use Rattle.std.proofs.lemmas.List.{append-nil}
 use Rattle.forms.specs.declared.TokenKind.TheVariants as kinds
 use Rattle.forms.specs.Form.{Lexeme, Form}
 use Rattle.forms.proofs.Begins.{test}
-use Rattle.text_lex.specs.KeptText.{token_of, kept_pieces}
+use Rattle.text_lex.specs.KeptText.{token_of}
 use Rattle.text_lex.specs.Layout.{Piece, lexeme, tokens_of}
-use Rattle.text_lex.proofs.KeptTexts.{kept_tokens}
 use Rattle.text_lex.proofs.Layouts.{tokens_of-append}
 use Rattle.ir_types.specs.declared.opcode.ItemWord.TheVariants as items
 use Rattle.ir_types.specs.TypeNodes.{TypeNode}
-use Rattle.ir_types.specs.Tree.{KeptTexts, BlockTree, ParamTree, FunctionTree, function_item}
+use Rattle.ir_types.specs.Tree.{BlockTree, ParamTree, FunctionTree, function_item}
 use Rattle.ir_types.specs.Grammar.{list, parameter, dotted_parameters, declared_function, defined_function, item_words, item}
 use Rattle.ir_shape.specs.Shape.{IsKept, before_form, after_form, IsBlock, IsParam, IsFunction}
 use Rattle.type_printer.specs.Pieces as pieces_of
 use Rattle.type_printer.specs.Pieces.{token, global_token, local_token, type_pieces, with_commas}
-use Rattle.type_printer.proofs.Says.{Says, pair_says, left_says, right_says, mapped_says, mark_says, by_word_says, there_says, marked_says, between_says, EachSays, some_says, commas_says, list_says}
-use Rattle.type_printer.proofs.Spelled.{local_says, global_says, type_says, return_type_says}
-use Rattle.type_printer.proofs.Writes.{both, spaced, mapped_writes, there_writes, EachWrites, each_says}
+use Rattle.type_printer.proofs.Says.{Says, pair_says, left_says, right_says, mapped_says, mark_says, by_word_says, there_says, marked_says, between_says, some_says, commas_says}
+use Rattle.type_printer.proofs.Spelled.{global_says, return_type_says}
+use Rattle.type_printer.proofs.Writes.{both, spaced, mapped_writes, there_writes, EachWrites, each_says, list_write}
 use Rattle.ir_printer.specs.Print.{kept_then_blank, blank_then_kept, block_pieces, param_pieces, dots_pieces, params_pieces, function_word, head_pieces, body_pieces, function_pieces}
 use Rattle.ir_printer.proofs.Numbering.{written_param, written_block, written_function}
 use Rattle.ir_printer.proofs.Values.{local_writes, type_writes}
@@ -91,7 +90,7 @@ defined_says f b bs e h =
     let blocks = subst (AllByRecursion IsBlock) e h.blocks in
     let fixed = no_further f b bs e h in
     let no_dots : tokens_of (params_pieces f) ≡ tokens_of (with_commas (map param_pieces f.params)) = params_tokens f ∙ rw fixed (append-nil _) in
-    let params : Says (list parameter) (map written_param f.params) (tokens_of (params_pieces f)) = rw no_dots (list_says (each_says param_writes) f.params h.params) in
+    let params : Says (list parameter) (map written_param f.params) (tokens_of (params_pieces f)) = rw no_dots (list_write param_writes f.params h.params).says in
     mapped_says (f.before, (f.ret, (f.name, (map written_param f.params, (f.after, map written_block (b ∷ bs)))))) _ (rw (e, fixed) refl)
     (pair_says (map token_of f.before) _ (kept_says before) (pair_says (tokens_of (type_pieces f.ret)) _ (return_type_says f.ret h.ret) (pair_says (global_token f.name ∷ []) _ (global_says f.name h.name)
     (pair_says (in_parens (tokens_of (params_pieces f))) _ (between_says (tokens_of (params_pieces f)) kinds.LeftParen kinds.RightParen _ _ params)

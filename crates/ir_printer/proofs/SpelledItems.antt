@@ -4,9 +4,9 @@ use Rattle.std.specs.Prelude.{map, codes}
 use Rattle.std.proofs.lemmas.List.{append-nil}
 use Rattle.forms.specs.declared.TokenKind.TheVariants as kinds
 use Rattle.forms.specs.Form.{Lexeme, Form}
-use Rattle.text_lex.specs.KeptText.{token_of, kept_behind, line_pieces}
+use Rattle.text_lex.specs.KeptText.{token_of, line_pieces}
 use Rattle.text_lex.specs.Layout.{Piece, tokens_of}
-use Rattle.text_lex.proofs.KeptTexts.{kept_tokens, line_tokens}
+use Rattle.text_lex.proofs.KeptTexts.{line_tokens}
 use Rattle.text_lex.proofs.Layouts.{tokens_of-append}
 use Rattle.ir_types.specs.declared.name.Name.{Name}
 use Rattle.ir_types.specs.declared.opcode.ItemWord.TheVariants as items

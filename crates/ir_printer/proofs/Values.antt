@@ -1,5 +1,5 @@
 -- The pieces that names, types and operands are printed as write them.
-use Rattle.std.proofs.Common.{◌≡◌, ◌<◌, ◌^◌, ◌≤◌, ℕ, zero, suc, true, false, cond, eqb, List, [], ◌∷◌, length, map, Option, Some, None, refl, ap, arith, inl, inr}
+use Rattle.std.proofs.Common.{◌≡◌, ◌<◌, ◌≤◌, ℕ, zero, suc, true, false, cond, eqb, List, [], ◌∷◌, map, Option, Some, None, refl, ap, arith, inl, inr}
 use Rattle.std.specs.Prelude.{codes}
 use Rattle.std.specs.List.{AllByRecursion, AllZip, list_all}
 use Rattle.std.proofs.lemmas.Bool.{eqb-true, eq-eqb}
@@ -7,21 +7,21 @@ use Rattle.forms.specs.declared.TokenKind.TheVariants as kinds
 use Rattle.forms.specs.Form.{one}
 use Rattle.forms.specs.Lexical.{kind_of, table}
 use Rattle.forms.proofs.Begins.{test}
-use Rattle.text_lex.specs.Layout.{Piece, lexeme, closed}
+use Rattle.text_lex.specs.Layout.{lexeme, closed}
 use Rattle.ir_types.specs.declared.name.Name.{Name}
 use Rattle.ir_types.specs.declared.inst.Ty.{Ty}
-use Rattle.ir_types.specs.declared.inst.Ty.TheVariants.{Int, Ptr, Vector, Void}
+use Rattle.ir_types.specs.declared.inst.Ty.TheVariants.{Int, Ptr, Vector}
 use Rattle.ir_types.specs.Tree.{OperandTree, local, number, null, poison, lanes}
 use Rattle.ir_types.specs.Grammar.{local_name, width, value_type, WrittenLane, lane_digits, lane_true, lane_false, lane_poison, lane, typed_lane, WrittenValue, named, digits, yes, no, null_word, poison_word, lane_list, constant_word, value, width_of, lane_at, is_int, operand_at, typed_value, pointer_value, index_value}
 use Rattle.ir_shape.specs.Shape.{IsName, IsOneOf, widths, IsType, IsBelow, IsLane, IsOperand, IsTyped}
 use Rattle.type_printer.specs.Texts.{signed_text}
 use Rattle.type_printer.specs.Pieces.{token, word, greater, local_token, width_word, type_pieces}
-use Rattle.type_printer.proofs.Laid.{IsBehind, loose, nothing_behind, mark_laid, token_laid}
+use Rattle.type_printer.proofs.Laid.{loose, nothing_behind, mark_laid}
 use Rattle.type_printer.proofs.LaidOut.{angle_kinds, local_laid, width_kind, word_laid, type_laid, type_returned}
 use Rattle.type_printer.proofs.Spelled.{local_says, width_says, type_says}
 use Rattle.type_printer.proofs.Widths.{width_within, type_within}
 use Rattle.type_printer.proofs.Writes.{Writes, laid_writes, both, spaced, left_writes, right_writes, mapped_writes, made_writes, word_writes, behind_writes, one_writes, between_writes, EachWrites, commas_write}
-use Rattle.ir_printer.specs.Print.{number_token, lane_value, lane_pieces, lanes_pieces, operand_pieces, typed_operand}
+use Rattle.ir_printer.specs.Print.{number_token, lane_value, lane_pieces, operand_pieces, typed_operand}
 use Rattle.ir_printer.proofs.Numbers.{signed_again, signed_kind}
 
 -- ---- names and types

@@ -1,8 +1,9 @@
-//! Texts of numbers and of what is kept.
+//! Texts of numbers, of the words of instructions and of what is kept.
 
 use crate::kept::{put_blank_then_kept, put_kept_behind, put_kept_then_blank, put_line};
+use crate::opening::put_opening;
 use crate::value::put_number;
-use ir_types::{Kept, Ty};
+use ir_types::{BinOp, Flags, InstKind, Kept, Pred, Ty};
 use std::alloc::{AllocError, Global};
 use std::test::Fail;
 
@@ -45,6 +46,53 @@ fn wide_numbers(rt: HostRuntime) -> Result<(), Fail> {
     assert_eq!(rt;
         out.as_slice(),
         b"9223372036854775807 -9223372036854775808 -1 -2 255".as_slice()
+    );
+    Ok(())
+}
+
+#[test]
+fn openings(rt: HostRuntime) -> Result<(), Fail> {
+    let none = Flags {
+        nuw: false,
+        nsw: false,
+        exact: false,
+        disjoint: false,
+    };
+    let wrap = Flags {
+        nuw: true,
+        nsw: true,
+        ..none
+    };
+    let kinds = [
+        InstKind::Binary(BinOp::Add, wrap),
+        InstKind::Binary(
+            BinOp::LShr,
+            Flags {
+                exact: true,
+                ..none
+            },
+        ),
+        InstKind::Binary(
+            BinOp::Or,
+            Flags {
+                disjoint: true,
+                ..none
+            },
+        ),
+        InstKind::Binary(BinOp::Xor, none),
+        InstKind::Compare(Pred::Sle, Ty::Ptr),
+        InstKind::Trunc(Ty::Int(32), false, true),
+        InstKind::Zext(Ty::Int(8), true),
+        InstKind::Unreachable,
+    ];
+    let mut out = Vec::new(rt.alloc());
+    for kind in &kinds {
+        put_opening(&mut out, kind)?;
+        out.push(b'\n')?;
+    }
+    assert_eq!(rt;
+        out.as_slice(),
+        b"add nuw nsw\nlshr exact\nor disjoint\nxor\nicmp sle\ntrunc nsw\nzext nneg\nunreachable\n".as_slice()
     );
     Ok(())
 }

@@ -43,9 +43,6 @@ first_parts : {A : Type 0} (xs : List A) (x : A) → 0 < length xs → x ≡ get
 first_parts [] x lt e = absurd (omega arith)
 first_parts (y ∷ xs) x lt e = let k : suc (length xs) - 1 ≡ length xs = omega arith in rw (k, take-length xs) (ap (λ (z : _). z ∷ xs) (sym e))
 
-pub known_first : {A B : Type 0} (g : A → B) (P : B → Type 0) (xs : List A) (x : A) → 0 < length xs → x ≡ get_or xs 0 x → AllByRecursion P (map g xs) → P (g x) × AllByRecursion P (map g (behind_first xs))
-known_first g P xs x lt e h = subst (λ (ys : List _). AllByRecursion P (map g ys)) (first_parts xs x lt e) h
-
 -- the first one was printed, and then the others
 pub printed_separated : {A B : Type 0} (g : A → B) (f : B → List Piece) (s : List Piece) (xs : List A) (x : A) (i : ℕ) (out out1 out2 : List ℕ) → 0 < length xs → x ≡ get_or xs 0 x → length (behind_first xs) ≤ i
     → out1 ≡ out ++ text_of (f (g x)) → out2 ++ text_of (each_behind s (map f (map g (drop i (behind_first xs))))) ≡ out1 ++ text_of (each_behind s (map f (map g (behind_first xs)))) → out2 ≡ out ++ text_of (separated s (map f (map g xs)))

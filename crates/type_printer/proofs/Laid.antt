@@ -9,7 +9,7 @@ use Rattle.forms.specs.Lexical.{kind_of, is_space}
 use Rattle.text_lex.specs.Layout.{Piece, gap, lexeme, AreTokens, is_mark, closed, open_, left_by, joins, end_of}
 use Rattle.text_lex.specs.Neighbours.{all_of}
 use Rattle.text_lex.proofs.Layouts.{AreTokens-append, joins-from, joins_closed, joins_any}
-use Rattle.type_printer.specs.Pieces.{token, blank, line_feed, indent, each_behind, separated}
+use Rattle.type_printer.specs.Pieces.{token, blank, line_feed, each_behind, separated}
 
 -- tokens that join
 pub record IsLaid (ps : List Piece) : Type 0 where
@@ -32,9 +32,6 @@ blank_laid h = record { tokens = h.tokens; joined = h.joined }
 
 pub feed_laid : {ps : List Piece} → IsLaid ps → IsBehind (line_feed ∷ ps)
 feed_laid h = record { tokens = h.tokens; joined = h.joined }
-
-pub indent_laid : {ps : List Piece} → IsLaid ps → IsBehind (indent ∷ ps)
-indent_laid h = record { tokens = h.tokens; joined = h.joined }
 
 -- the same of any white space
 pub gap_laid : {ps : List Piece} (c : ℕ) (s : List ℕ) → all_of is_space (c ∷ s) ≡ true → IsLaid ps → IsBehind (gap (c ∷ s) ∷ ps)

@@ -10,11 +10,11 @@ use Rattle.ir_types.specs.declared.name.Name.{Name}
 use Rattle.ir_types.specs.declared.inst.Ty.{Ty}
 use Rattle.ir_types.specs.declared.inst.Ty.TheVariants.{Int, Ptr, Vector, Void}
 use Rattle.ir_shape.specs.Shape.{IsName, IsOneOf, widths, IsType, IsReturnType}
-use Rattle.type_printer.specs.Pieces.{token, comma, blank, line_feed, indent, equal, local_token, width_word, type_pieces}
+use Rattle.type_printer.specs.Pieces.{token, comma, blank, line_feed, equal, local_token, width_word, type_pieces}
 use Rattle.type_printer.proofs.Names.{local_kind}
 use Rattle.type_printer.proofs.Widths.{width_within}
 use Rattle.type_printer.proofs.Spelled.{few_lanes}
-use Rattle.type_printer.proofs.Laid.{IsLaid, IsBehind, loose, nothing_behind, blank_laid, feed_laid, indent_laid, mark_laid, token_laid, laid-append, Separates}
+use Rattle.type_printer.proofs.Laid.{IsLaid, IsBehind, loose, nothing_behind, blank_laid, feed_laid, mark_laid, token_laid, Separates}
 
 -- ---- marks and words
 
@@ -52,9 +52,6 @@ commas_part = record { apart = λ ps h. comma_laid (loose (blank_laid h)) }
 pub feeds_part : Separates (line_feed ∷ [])
 feeds_part = record { apart = λ ps h. feed_laid h }
 
-pub indents_part : Separates (indent ∷ [])
-indents_part = record { apart = λ ps h. indent_laid h }
-
 -- ---- names and types
 
 pub local_laid : {ps : List Piece} (n : Name) → IsName n → IsBehind ps → IsLaid (lexeme (local_token n) ∷ ps)
@@ -77,7 +74,3 @@ type_returned (Int w) h = h
 type_returned Ptr h = h
 type_returned (Vector n w) h = h
 type_returned Void h = absurd h
-
--- a type, and a space behind it
-pub spaced_laid : {ps : List Piece} (t : Ty) → IsReturnType t → IsLaid ps → IsLaid (type_pieces t ++ (blank ∷ ps))
-spaced_laid t i h = laid-append (type_pieces t) _ (type_laid t i) (blank_laid h)

@@ -86,11 +86,6 @@ pub behind_each : {A B : Type 0} {f : Form A} {w : B → A} {pieces : B → List
 behind_each {f = f} s says [] h = none_says f
 behind_each {pieces = pieces} s says (b ∷ more) h = more_says (tokens_of (pieces b)) _ _ (tokens_of-append (pieces b) _) (says.one b h.0) (behind_each s says more h.1)
 
--- parted by white space
-pub separated_says : {A B : Type 0} {f : Form A} {w : B → A} {pieces : B → List Piece} {P : B → Type 0} (s : List ℕ) → EachSays f w pieces P → (items : List B) → AllByRecursion P items → Says (many f) (map w items) (tokens_of (separated (gap s ∷ []) (map pieces items)))
-separated_says {f = f} s says [] h = none_says f
-separated_says {pieces = pieces} s says (b ∷ more) h = more_says (tokens_of (pieces b)) _ _ (tokens_of-append (pieces b) _) (says.one b h.0) (behind_each s says more h.1)
-
 -- at least one
 pub some_says : {A B : Type 0} {f : Form A} {w : B → A} {pieces : B → List Piece} {P : B → Type 0} (s : List ℕ) → EachSays f w pieces P → (items : List B) → 0 < length items → AllByRecursion P items → Says (some f) (map w items) (tokens_of (separated (gap s ∷ []) (map pieces items)))
 some_says s says [] lt h = absurd (omega arith)

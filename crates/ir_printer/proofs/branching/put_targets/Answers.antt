@@ -1,5 +1,4 @@
-use Rattle.std.proofs.Common.{get_or, arith}
-use Rattle.std.specs.Prelude.{map}
+use Rattle.std.proofs.Common.{arith}
 use Rattle.ir_types.specs.Denotes.{name_in}
 use Rattle.ir_shape.specs.Shape.{IsName}
 use Rattle.ir_printer.specs.Print.{target_pieces}

@@ -1,7 +1,6 @@
-use Rattle.std.proofs.Common.{◌≡◌, length, arith}
+use Rattle.std.proofs.Common.{arith}
 use Rattle.std.specs.Prelude.{map}
 use Rattle.std.proofs.lemmas.List.{length-map}
-
 use Rattle.std.proofs.lemmas.Slice.Zip.{length-zip}
 use Rattle.type_printer.specs.Pieces.{with_commas}
 use Rattle.ir_types.specs.declared.inst.Ty.TheVariants.{Int}
