@@ -5,23 +5,24 @@ use Rattle.forms.specs.Bind.{◌>>=◌}
 use Rattle.ir_types.specs.declared.name.Name.{Name}
 use Rattle.ir_types.specs.declared.name.ValueId.{ValueId}
 use Rattle.ir_types.specs.declared.inst.Ty.{Ty}
-use Rattle.ir_types.specs.declared.inst.Ty.TheVariants.{Int as IntTy, Ptr as PtrTy, Vector, Void}
+use Rattle.ir_types.specs.declared.inst.Ty.TheVariants.{Int as IntTy}
 use Rattle.ir_types.specs.declared.inst.Operand.{Operand}
-use Rattle.ir_types.specs.declared.inst.BinOp.TheVariants.{Add}
 use Rattle.ir_types.specs.declared.inst.InstKind.{InstKind}
 use Rattle.ir_types.specs.declared.inst.InstKind.TheVariants.{Binary, Compare, Jump, Branch, Return, ReturnVoid}
 use Rattle.ir_types.specs.declared.inst.Inst.{Inst}
 use Rattle.ir_types.specs.declared.module.Module.{Module}
 use Rattle.ir_types.specs.declared.module.Param.{Param}
 use Rattle.ir_types.specs.declared.value.Value.{Value}
+use Rattle.ir_types.specs.declared.value.Outcome.{Outcome}
+use Rattle.ir_types.specs.declared.value.Outcome.TheVariants.{Value as Result, Undefined}
 use Rattle.ir_types.specs.declared.value.Value.TheVariants.{Int, Ptr, Poison, Lanes}
 use Rattle.ir_types.specs.Names.{IsTable}
-use Rattle.ir_types.specs.Values.{typed, Typed}
+use Rattle.ir_types.specs.Values.{typed, Typed, combined}
 use Rattle.ir_types.specs.Memory.{Memory}
 use Rattle.ir_types.specs.State.{Env, same_id, set_value}
-use Rattle.ir_types.specs.Meaning.{operand_value, operand_types, values_of, Effect, Sets, Goes, Leaves, Fails, Waits, branched, effect_of, effect_with, effect_in, entry_for, phi_value, set_result, after_phis, arguments_in}
+use Rattle.ir_types.specs.Meaning.{operand_value, operand_types, values_of, Effect, Sets, Goes, Leaves, Fails, Waits, gives, branched, effect_of, effect_with, effect_in, entry_for, phi_value, set_result, after_phis, arguments_in}
 use Rattle.ir_laws.proofs.Pairs.{Both, both_none, both_some, both-equal, both-same}
-use Rattle.ir_laws.proofs.Positions.{SameId, same-test, SameOperand, same_local, same_int, SameInst, SameParam}
+use Rattle.ir_laws.proofs.Positions.{SameId, same-test, SameOperand, same_local, same_int, same_null, same_poison, same_lanes, SameInst, SameParam}
 
 -- positions that name the same have the same values
 pub record SameValues (ns ns' : List Name) (env env' : Env) : Type 0 where
@@ -65,6 +66,9 @@ module _ (m m' : Module) (memory : Memory) (ns ns' : List Name) where
   operand-same : (env env' : Env) → SameValues ns ns' env env' → (ty : Ty) (a b : Operand) → SameOperand ns ns' a b → operand_value m memory env ty a ≡ operand_value m' memory env' ty b
   operand-same env env' h ty a b (same_local {i = i} {j = j} s) = ap (λ o. o >>= typed ty) (h.at i j s)
   operand-same env env' h ty a b same_int = refl
+  operand-same env env' h ty a b same_null = refl
+  operand-same env env' h ty a b same_poison = refl
+  operand-same env env' h ty a b same_lanes = refl
 
   values-same : (env env' : Env) → SameValues ns ns' env env' → (types : List Ty) (args args' : List Operand) → AllZip (SameOperand ns ns') args args' → values_of m memory env types args ≡ values_of m' memory env' types args'
   values-same env env' h types [] (b ∷ others) s = absurd s
@@ -77,6 +81,11 @@ module _ (m m' : Module) (memory : Memory) (ns ns' : List Name) where
       ∙ ap (λ o. operand_value m' memory env' ty b >>= λ v. o >>= λ vs. Some (v ∷ vs)) (values-same env env' h types more others s.1)
 
   -- ---- effects
+
+  gives-same : (o : Option Outcome) → SameEffect ns ns' (gives o) (gives o)
+  gives-same None = same_waits
+  gives-same (Some (Result v)) = same_sets
+  gives-same (Some Undefined) = same_fails
 
   branched-same : (labels labels' : List ValueId) (v : Value) → AllZip (SameId ns ns') labels labels' → SameEffect ns ns' (branched labels v) (branched labels' v)
   branched-same [] [] v h = same_waits
@@ -94,10 +103,7 @@ module _ (m m' : Module) (memory : Memory) (ns ns' : List Name) where
   branched-same (i ∷ k ∷ n ∷ ks) (j ∷ l ∷ m ∷ ms) v h = same_waits
 
   effect_of-same : (kind : InstKind) (ty : Ty) (labels labels' : List ValueId) (values : List Value) → AllZip (SameId ns ns') labels labels' → SameEffect ns ns' (effect_of m memory kind ty labels values) (effect_of m' memory kind ty labels' values)
-  effect_of-same (Binary Add) (IntTy w) labels labels' (x ∷ y ∷ []) h = same_sets
-  effect_of-same (Binary Add) PtrTy labels labels' values h = same_waits
-  effect_of-same (Binary Add) (Vector n w) labels labels' values h = same_waits
-  effect_of-same (Binary Add) Void labels labels' values h = same_waits
+  effect_of-same (Binary op flags) (IntTy w) labels labels' (x ∷ y ∷ []) h = gives-same (combined op flags x y)
   effect_of-same (Compare p (IntTy w)) ty labels labels' (x ∷ y ∷ []) h = same_sets
   effect_of-same Branch ty labels labels' (x ∷ []) h = branched-same labels labels' x h
   effect_of-same (Return of) ty labels labels' (x ∷ []) h = same_leaves

@@ -5,16 +5,16 @@ use Rattle.forms.specs.Bind.{◌>>=◌}
 use Rattle.ir_types.specs.declared.name.ValueId.{ValueId}
 use Rattle.ir_types.specs.declared.inst.Ty.{Ty}
 use Rattle.ir_types.specs.declared.inst.Operand.{Operand}
-use Rattle.ir_types.specs.declared.inst.Operand.TheVariants.{Local, Int as IntOperand}
+use Rattle.ir_types.specs.declared.inst.Operand.TheVariants.{Local, Int as IntOperand, Null, Poison as PoisonOperand, Lanes as LanesOperand}
 use Rattle.ir_types.specs.declared.inst.Inst.{Inst}
 use Rattle.ir_types.specs.declared.module.Module.{Module}
 use Rattle.ir_types.specs.declared.value.Value.{Value}
-use Rattle.ir_types.specs.declared.value.Value.TheVariants.{Int}
+use Rattle.ir_types.specs.declared.value.Value.TheVariants.{Int, Ptr, Lanes}
 use Rattle.ir_types.specs.Grammar.{width_of}
 use Rattle.ir_types.specs.Values.{has_type, HasType, typed}
 use Rattle.ir_types.specs.Memory.{Memory}
 use Rattle.ir_types.specs.State.{Env, same_id}
-use Rattle.ir_types.specs.Meaning.{operand_value, values_of, entry_for, phi_value}
+use Rattle.ir_types.specs.Meaning.{null_pointer, poison_of, lane_width, operand_value, values_of, entry_for, phi_value}
 use Rattle.ir_types.specs.Refines.{ValueRefines, same_value, MemoryRefines}
 use Rattle.ir_laws.specs.Respect.{EnvRefines, IsOperandOf, OperandsRefine}
 
@@ -34,6 +34,10 @@ typed-some ty v t = rw t refl
 abbrev Given : Ty → Option Value → Value → Type 0
 Given ty o w = (v : Value) × (o ≡ Some v) × HasType ty v × HasType ty w × ValueRefines ty v w
 
+-- a constant has one value
+constant-given : (ty : Ty) (v w : Value) → typed ty v ≡ Some w → Given ty (typed ty v) w
+constant-given ty v w e = let t = typed-is ty v w e in (w, e, subst (HasType ty) t.0 t.1, subst (HasType ty) t.0 t.1, same_value)
+
 module _ (m : Module) (here other : Memory) (types : ValueId → Ty) (env there : Env) where
   operand-respects : (ty : Ty) (a : Operand) (w : Value) → MemoryRefines here other → EnvRefines types env there → IsOperandOf types ty a → operand_value m other there ty a ≡ Some w → Given ty (operand_value m here env ty a) w
   operand-respects ty (Local name) w mem h is e = by (there name) refl e
@@ -45,7 +49,10 @@ module _ (m : Module) (here other : Memory) (types : ValueId → Ty) (env there 
           let r = h name x f in
           let found : Given ty (env name) x = subst (λ s. Given s (env name) x) is r in
           (found.0, rw found.1 (typed-some ty found.0 found.2), found.2, subst (HasType ty) t.0 found.3, subst (ValueRefines ty found.0) t.0 found.4)
-  operand-respects ty (IntOperand x) w mem h is e = let t = typed-is ty (Int (width_of ty) x) w e in (w, e, subst (HasType ty) t.0 t.1, subst (HasType ty) t.0 t.1, same_value)
+  operand-respects ty (IntOperand x) w mem h is e = constant-given ty (Int (width_of ty) x) w e
+  operand-respects ty Null w mem h is e = constant-given ty (Ptr null_pointer) w e
+  operand-respects ty PoisonOperand w mem h is e = constant-given ty (poison_of ty) w e
+  operand-respects ty (LanesOperand xs) w mem h is e = constant-given ty (Lanes (lane_width ty) xs) w e
 
   -- the values of a list of operands
   abbrev GivenAll : List Ty → Option (List Value) → List Value → Type 0

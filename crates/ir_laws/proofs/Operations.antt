@@ -1,5 +1,5 @@
 -- The operations of a step respect refinement.
-use Rattle.std.proofs.Common.{◌≡◌, ℕ, ◌+◌, ◌%◌, ◌^◌, ◌&&◌, eqb, ltb, eqb-true, List, [], ◌∷◌, Bool, true, false, if◌then◌else◌, nat_eq, refl, sym, subst, ◌⊎◌, inl, inr}
+use Rattle.std.proofs.Common.{◌≡◌, ℕ, ◌+◌, ◌%◌, ◌^◌, ◌&&◌, eqb, ltb, eqb-true, List, [], ◌∷◌, Bool, true, false, if◌then◌else◌, nat_eq, Some, None, refl, sym, subst, ◌⊎◌, inl, inr}
 use Rattle.std.proofs.lemmas.Bool.{eq-eqb, lt-ltb}
 use Rattle.std.proofs.lemmas.Nat.{mod_below, pow_pos}
 use Rattle.ir_types.specs.declared.name.ValueId.{ValueId}
@@ -7,15 +7,17 @@ use Rattle.ir_types.specs.declared.inst.Ty.{Ty}
 use Rattle.ir_types.specs.declared.inst.Ty.TheVariants.{Int as IntTy, Ptr as PtrTy, Vector, Void}
 use Rattle.ir_types.specs.declared.inst.BinOp.{BinOp}
 use Rattle.ir_types.specs.declared.inst.BinOp.TheVariants.{Add}
+use Rattle.ir_types.specs.declared.inst.Flags.{Flags}
 use Rattle.ir_types.specs.declared.inst.Pred.{Pred}
 use Rattle.ir_types.specs.declared.inst.InstKind.{InstKind}
 use Rattle.ir_types.specs.declared.inst.InstKind.TheVariants.{Binary, Compare, Phi, Jump, Branch, Return, ReturnVoid}
 use Rattle.ir_types.specs.declared.module.Module.{Module}
+use Rattle.ir_types.specs.declared.value.Outcome.TheVariants.{Value as Result}
 use Rattle.ir_types.specs.declared.value.Value.{Value}
 use Rattle.ir_types.specs.declared.value.Value.TheVariants.{Int, Ptr, Poison, Lanes}
-use Rattle.ir_types.specs.Values.{HasType, of_numbers, sum, holds, truth}
+use Rattle.ir_types.specs.Values.{HasType, of_numbers, sum, has_flag, holds, truth}
 use Rattle.ir_types.specs.Memory.{Memory}
-use Rattle.ir_types.specs.Meaning.{effect_of, branched, operand_types}
+use Rattle.ir_types.specs.Meaning.{gives, effect_of, branched, operand_types}
 use Rattle.ir_types.specs.Refines.{ValueRefines, same_value, of_poison, of_pointer, of_lanes, MemoryRefines, no_result, result as a_result}
 use Rattle.ir_laws.specs.Respect.{OperandsRefine, result_type, EffectRefines, sets, goes, leaves, of_fails, waits}
 
@@ -136,11 +138,17 @@ module _ (m : Module) (here other : Memory) (labels : List ValueId) where
   abbrev Asked : InstKind → Ty → List Value → List Value → Type 0
   Asked kind ty vs ws = EffectRefines (result_type kind ty) (effect_of m here kind ty labels vs) (effect_of m other kind ty labels ws)
 
-  of_binary : (op : BinOp) (ty : Ty) (vs ws : List Value) → OperandsRefine (ty ∷ ty ∷ []) vs ws → Asked (Binary op) ty vs ws
-  of_binary Add (IntTy w) vs ws h = two_of (IntTy w) (IntTy w) vs ws (Asked (Binary Add) (IntTy w)) h (λ v w' x y a b r c d q. sets (typed_result w (IntTy w) sum (sum_typed (IntTy w) w refl) refl v x a c) (typed_result w (IntTy w) sum (sum_typed (IntTy w) w refl) refl w' y b d) (respects w (IntTy w) sum (sum_typed (IntTy w) w refl) refl v w' x y a b r c d q))
-  of_binary Add PtrTy vs ws h = waits
-  of_binary Add (Vector n w) vs ws h = waits
-  of_binary Add Void vs ws h = waits
+  -- a sum, where there is no flag
+  added : (flagged : Bool) (w : ℕ) (v w' x y : Value) → HasType (IntTy w) v → HasType (IntTy w) w' → ValueRefines (IntTy w) v w' → HasType (IntTy w) x → HasType (IntTy w) y → ValueRefines (IntTy w) x y → EffectRefines (IntTy w) (gives (if flagged then None else Some (Result (of_numbers sum v x)))) (gives (if flagged then None else Some (Result (of_numbers sum w' y))))
+  added true w v w' x y a b r c d q = waits
+  added false w v w' x y a b r c d q = sets (typed_result w (IntTy w) sum (sum_typed (IntTy w) w refl) refl v x a c) (typed_result w (IntTy w) sum (sum_typed (IntTy w) w refl) refl w' y b d) (respects w (IntTy w) sum (sum_typed (IntTy w) w refl) refl v w' x y a b r c d q)
+
+  of_binary : (op : BinOp) (flags : Flags) (ty : Ty) (vs ws : List Value) → OperandsRefine (ty ∷ ty ∷ []) vs ws → Asked (Binary op flags) ty vs ws
+  of_binary Add flags (IntTy w) vs ws h = two_of (IntTy w) (IntTy w) vs ws (Asked (Binary Add flags) (IntTy w)) h (added (has_flag flags) w)
+  of_binary op flags (IntTy w) vs ws h = two_of (IntTy w) (IntTy w) vs ws (Asked (Binary op flags) (IntTy w)) h (λ v w' x y a b r c d q. waits)
+  of_binary op flags PtrTy vs ws h = waits
+  of_binary op flags (Vector n w) vs ws h = waits
+  of_binary op flags Void vs ws h = waits
 
   of_compare : (p : Pred) (of ty : Ty) (vs ws : List Value) → OperandsRefine (of ∷ of ∷ []) vs ws → Asked (Compare p of) ty vs ws
   of_compare p (IntTy w) ty vs ws h = two_of (IntTy w) (IntTy w) vs ws (Asked (Compare p (IntTy w)) ty) h (λ v w' x y a b r c d q. sets (typed_result w (IntTy 1) (λ w x y. truth (holds p w x y)) (holds_typed p w) refl v x a c) (typed_result w (IntTy 1) (λ w x y. truth (holds p w x y)) (holds_typed p w) refl w' y b d) (respects w (IntTy 1) (λ w x y. truth (holds p w x y)) (holds_typed p w) refl v w' x y a b r c d q))
@@ -154,10 +162,11 @@ module _ (m : Module) (here other : Memory) (labels : List ValueId) where
   jumped (a ∷ b ∷ ls) ty = waits
 
   pub respected : (kind : InstKind) (ty : Ty) (vs ws : List Value) → MemoryRefines here other → OperandsRefine (operand_types kind ty) vs ws → Asked kind ty vs ws
-  respected (Binary op) ty vs ws mem h = of_binary op ty vs ws h
+  respected (Binary op flags) ty vs ws mem h = of_binary op flags ty vs ws h
   respected (Compare p of) ty vs ws mem h = of_compare p of ty vs ws h
   respected Phi ty vs ws mem h = none_of vs ws (Asked Phi ty) h waits
   respected Jump ty vs ws mem h = none_of vs ws (Asked Jump ty) h (jumped labels ty)
   respected Branch ty vs ws mem h = one_of (IntTy 1) vs ws (Asked Branch ty) h (λ v w a b r. branch_respects ty labels v w b r)
   respected (Return of) ty vs ws mem h = one_of of vs ws (Asked (Return of) ty) h (λ v w a b r. leaves (a_result (record { ty = refl; value = r })))
   respected ReturnVoid ty vs ws mem h = none_of vs ws (Asked ReturnVoid ty) h (leaves no_result)
+  respected kind ty vs ws mem h = waits

@@ -7,7 +7,7 @@ use Rattle.ir_types.specs.declared.name.Name.{Name}
 use Rattle.ir_types.specs.declared.name.Name.TheVariants.{Number}
 use Rattle.ir_types.specs.declared.name.ValueId.{ValueId}
 use Rattle.ir_types.specs.declared.inst.Operand.{Operand}
-use Rattle.ir_types.specs.declared.inst.Operand.TheVariants.{Local, Int}
+use Rattle.ir_types.specs.declared.inst.Operand.TheVariants.{Local, Int, Null, Poison, Lanes}
 use Rattle.ir_types.specs.declared.inst.Inst.{Inst}
 use Rattle.ir_types.specs.declared.module.Block.{Block}
 use Rattle.ir_types.specs.declared.module.Param.{Param}
@@ -61,6 +61,9 @@ same-test ns ns' one other i j i' j' h h' =
 pub data SameOperand (ns ns' : List Name) : Operand → Operand → Type 0 where
   same_local : {i j : ValueId} → SameId ns ns' i j → SameOperand ns ns' (Local i) (Local j)
   same_int : {n : ℕ} → SameOperand ns ns' (Int n) (Int n)
+  same_null : SameOperand ns ns' Null Null
+  same_poison : SameOperand ns ns' Poison Poison
+  same_lanes : {xs : List (Option ℕ)} → SameOperand ns ns' (Lanes xs) (Lanes xs)
 
 pub record SameInst (ns ns' : List Name) (i j : Inst) : Type 0 where
   pub kind : i.kind ≡ j.kind
@@ -97,9 +100,11 @@ module _ (ns ns' : List Name) where
 
   operand-images : (a b : Operand) → IsOperandPlaced ns a → IsOperandPlaced ns' b → operand_in ns a ≡ operand_in ns' b → SameOperand ns ns' a b
   operand-images (Local i) (Local j) p q e = same_local (id-images i j p q (cc))
-  operand-images (Local i) (Int n) p q e = absurd (cc)
-  operand-images (Int n) (Local j) p q e = absurd (cc)
   operand-images (Int n) (Int k) p q e = let same : n ≡ k = cc in subst (λ x. SameOperand ns ns' (Int n) (Int x)) same same_int
+  operand-images Null Null p q e = same_null
+  operand-images Poison Poison p q e = same_poison
+  operand-images (Lanes xs) (Lanes ys) p q e = let same : xs ≡ ys = cc in subst (λ x. SameOperand ns ns' (Lanes xs) (Lanes x)) same same_lanes
+  operand-images a b p q e = absurd (cc)
 
   result-images : (o p : Option ValueId) → IfSome o (IsPlace ns) → IfSome p (IsPlace ns') → option_map (name_in ns) o ≡ option_map (name_in ns') p → Both (SameId ns ns') o p
   result-images None None p q e = both_none

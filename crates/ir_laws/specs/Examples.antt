@@ -1,15 +1,16 @@
 -- Small modules, to try the definitions on.
-use Rattle.std.specs.Prelude.{false, ◌≡◌, ℕ, suc, ◌+◌, codes, List, [], ◌∷◌, ◌++◌, map, Some, None}
+use Rattle.std.specs.Prelude.{true, false, ◌≡◌, ℕ, suc, ◌+◌, codes, List, [], ◌∷◌, ◌++◌, map, Option, Some, None}
 use Rattle.ir_types.specs.declared.name.Name.{Name}
 use Rattle.ir_types.specs.declared.name.Name.TheVariants.{Text, Number}
 use Rattle.ir_types.specs.declared.name.ValueId.{ValueId}
 use Rattle.ir_types.specs.declared.inst.Ty.{Ty}
-use Rattle.ir_types.specs.declared.inst.Ty.TheVariants.{Int as IntTy, Void}
+use Rattle.ir_types.specs.declared.inst.Ty.TheVariants.{Int as IntTy, Vector, Void}
 use Rattle.ir_types.specs.declared.inst.BinOp.TheVariants.{Add}
 use Rattle.ir_types.specs.declared.inst.Pred.{Pred}
 use Rattle.ir_types.specs.declared.inst.Pred.TheVariants.{Ne}
 use Rattle.ir_types.specs.declared.inst.Operand.{Operand}
 use Rattle.ir_types.specs.declared.inst.Operand.TheVariants.{Local, Int as IntOperand}
+use Rattle.ir_types.specs.declared.inst.InstKind.{InstKind}
 use Rattle.ir_types.specs.declared.inst.InstKind.TheVariants.{Binary, Compare, Phi, Jump, Branch, Return}
 use Rattle.ir_types.specs.declared.inst.Inst.{Inst}
 use Rattle.ir_types.specs.declared.module.Block.{Block}
@@ -20,6 +21,7 @@ use Rattle.ir_types.specs.declared.module.SymbolKind.TheVariants.{Function as Fu
 use Rattle.ir_types.specs.declared.module.Module.{Module}
 use Rattle.ir_types.specs.declared.value.Value.{Value}
 use Rattle.ir_types.specs.declared.value.Value.TheVariants.{Int}
+use Rattle.ir_types.specs.Grammar.{no_flags}
 use Rattle.ir_types.specs.Values.{Typed}
 use Rattle.ir_types.specs.Memory.{Memory}
 use Rattle.ir_types.specs.State.{World}
@@ -54,34 +56,45 @@ bit x = Int 1 x
 abbrev pub of_i32 : ℕ → Typed
 of_i32 x = record { ty = i32; value = int32 x }
 
+-- a returned value of a type
+abbrev pub of_type : Ty → Value → Typed
+of_type t v = record { ty = t; value = v }
+
+abbrev pub i8x2 : Ty
+i8x2 = Vector 2 8
+
 abbrev pub param : Ty → ℕ → Param
 param t n = record { ty = t; kept = []; name = id n }
 
 -- ---- instructions
 
+-- an instruction without attachments
+abbrev pub inst : InstKind → Ty → List Operand → List ValueId → Option ValueId → Inst
+inst kind ty args labels result = record { kind = kind; ty = ty; args = args; labels = labels; result = result; wide = false; kept = [] }
+
 -- `br label %n`
 abbrev pub jump : ℕ → Inst
-jump n = record { kind = Jump; ty = Void; args = []; labels = id n ∷ []; result = None }
+jump n = inst Jump Void [] (id n ∷ []) None
 
 -- `br i1 %c, label %on, label %off`
 abbrev pub branch : (c on off : ℕ) → Inst
-branch c on off = record { kind = Branch; ty = Void; args = at c ∷ []; labels = id on ∷ id off ∷ []; result = None }
+branch c on off = inst Branch Void (at c ∷ []) (id on ∷ id off ∷ []) None
 
 -- `ret i32 x`
 abbrev pub ret : Operand → Inst
-ret x = record { kind = Return i32; ty = Void; args = x ∷ []; labels = []; result = None }
+ret x = inst (Return i32) Void (x ∷ []) [] None
 
 -- `%n = phi i32 [ x, %l ], [ y, %m ]`
 abbrev pub phi : (n : ℕ) (x : Operand) (l : ℕ) (y : Operand) (m : ℕ) → Inst
-phi n x l y m = record { kind = Phi; ty = i32; args = x ∷ y ∷ []; labels = id l ∷ id m ∷ []; result = Some (id n) }
+phi n x l y m = inst Phi i32 (x ∷ y ∷ []) (id l ∷ id m ∷ []) (Some (id n))
 
 -- `%n = add i32 x, y`
 abbrev pub add : (n : ℕ) → (x y : Operand) → Inst
-add n x y = record { kind = Binary Add; ty = i32; args = x ∷ y ∷ []; labels = []; result = Some (id n) }
+add n x y = inst (Binary Add no_flags) i32 (x ∷ y ∷ []) [] (Some (id n))
 
 -- `%n = icmp p i32 x, y`
 abbrev pub icmp : (n : ℕ) → Pred → (x y : Operand) → Inst
-icmp n p x y = record { kind = Compare p i32; ty = i1; args = x ∷ y ∷ []; labels = []; result = Some (id n) }
+icmp n p x y = inst (Compare p i32) i1 (x ∷ y ∷ []) [] (Some (id n))
 
 abbrev pub block : ℕ → List Inst → Block
 block n insts = record { name = id n; insts = insts }
@@ -132,6 +145,15 @@ empty = with_functions []
 -- define i32 @f(): %1 = add i32 x, y; ret i32 %1
 abbrev pub adds : (x y : ℕ) → Module
 adds x y = one_function [] (block 0 (add 1 (IntOperand x) (IntOperand y) ∷ ret (at 1) ∷ []) ∷ [])
+
+-- the same sum with `nuw`
+abbrev pub adds_with_flag : (x y : ℕ) → Module
+adds_with_flag x y =
+    one_function [] (block 0 (inst (Binary Add (record no_flags { nuw = true })) i32 (IntOperand x ∷ IntOperand y ∷ []) [] (Some (id 1)) ∷ ret (at 1) ∷ []) ∷ [])
+
+-- define i32 @f(): returns an operand at a type
+abbrev pub gives_back : Ty → Operand → Module
+gives_back ty x = one_function [] (block 0 (inst (Return ty) Void (x ∷ []) [] None ∷ []) ∷ [])
 
 -- define i32 @f(): returns 1 where the predicate holds of x and y, and else 0
 abbrev pub tests : Pred → (x y : ℕ) → Module

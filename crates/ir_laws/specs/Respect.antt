@@ -5,7 +5,7 @@ use Rattle.ir_types.specs.declared.inst.Ty.{Ty}
 use Rattle.ir_types.specs.declared.inst.InstKind.{InstKind}
 use Rattle.ir_types.specs.declared.inst.InstKind.TheVariants.{Compare}
 use Rattle.ir_types.specs.declared.inst.Operand.{Operand}
-use Rattle.ir_types.specs.declared.inst.Operand.TheVariants.{Local, Int as IntOperand}
+use Rattle.ir_types.specs.declared.inst.Operand.TheVariants.{Local}
 use Rattle.ir_types.specs.declared.value.Value.{Value}
 use Rattle.ir_types.specs.Grammar.{bits_for}
 use Rattle.ir_types.specs.Values.{HasType, Typed}
@@ -18,10 +18,10 @@ abbrev pub EnvRefines : (types : ValueId → Ty) → (here other : Env) → Type
 EnvRefines types here other =
     (name : ValueId) (w : Value) → other name ≡ Some w → (v : Value) × (here name ≡ Some v) × HasType (types name) v × HasType (types name) w × ValueRefines (types name) v w
 
--- an operand of that type: a name that has it, or a number
+-- an operand of that type: a name that has it, or a constant
 abbrev pub IsOperandOf : (types : ValueId → Ty) → Ty → Operand → Type 0
 IsOperandOf types ty (Local name) = types name ≡ ty
-IsOperandOf types ty (IntOperand x) = Unit {0}
+IsOperandOf types ty a = Unit {0}
 
 -- values of these types, one by one, those here refining those there
 abbrev pub OperandsRefine : List Ty → (here other : List Value) → Type 0

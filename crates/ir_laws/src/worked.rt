@@ -1,31 +1,39 @@
 // Worked runs, a worked toll, and what no module allows.
 
-ghost use Rattle.std.specs.Prelude.{◌≡◌, ℕ, false, List, [], ◌∷◌, Some, codes};
-ghost use Rattle.ir_types.specs.declared.value.Value.TheVariants.{Poison};
+ghost use Rattle.std.specs.Prelude.{◌≡◌, ℕ, false, List, [], ◌∷◌, Some, None, codes};
+ghost use Rattle.ir_types.specs.declared.inst.Ty.TheVariants.{Ptr as PtrTy};
+ghost use Rattle.ir_types.specs.declared.inst.Operand.TheVariants.{Null, Poison as PoisonOperand, Lanes as LanesOperand};
+ghost use Rattle.ir_types.specs.declared.value.Value.TheVariants.{Ptr, Poison, Lanes};
+ghost use Rattle.ir_types.specs.Meaning.{null_pointer};
 ghost use Rattle.ir_types.specs.declared.inst.Pred.TheVariants.{Eq, Ne, Ugt, Uge, Ult, Ule, Sgt, Sge, Slt, Sle};
 ghost use Rattle.ir_types.specs.Memory.{Memory};
 ghost use Rattle.ir_types.specs.State.{World};
 ghost use Rattle.ir_types.specs.Runs.{observed, Undefined, Going, Returned};
 ghost use Rattle.ir_types.specs.Allows.{Allows};
 ghost use Rattle.ir_laws.specs.Tolls.{AllowsAtToll};
-ghost use Rattle.ir_laws.specs.Examples.{f, int32, bit, of_i32, chooses, swapped, another_entry, loops, direct, detour, one_more, empty, adds, reads_the_old, without_value, of_another_type, without_block, phi_at_the_start, phi_behind, without_entry, two_functions, two_parameters, two_blocks, two_entries, StandsStill, table_of, lines};
+ghost use Rattle.ir_laws.specs.Examples.{f, int32, bit, of_i32, chooses, swapped, another_entry, loops, direct, detour, one_more, empty, adds, adds_with_flag, gives_back, of_type, i8x2, reads_the_old, without_value, of_another_type, without_block, phi_at_the_start, phi_behind, without_entry, two_functions, two_parameters, two_blocks, two_entries, StandsStill, table_of, lines};
 
 /// Runs that are worked out, from any memory and any world. The first example of the README with 5 and false, with 5 and true, and with
-/// 5 and poison; a sum that wraps; a phi that reads another one of its block.
+/// 5 and poison; a sum that wraps; a phi that reads another one of its block; constants that are returned.
 pub fn worked_runs()
     ensures off { (memory : Memory) (v : World) → observed chooses f (int32 5 ∷ bit 0 ∷ []) memory v 2 ≡ Returned [] (Some (of_i32 5)) memory }
     ensures going { (memory : Memory) (v : World) → observed chooses f (int32 5 ∷ bit 1 ∷ []) memory v 2 ≡ Going [] }
     ensures on { (memory : Memory) (v : World) → observed chooses f (int32 5 ∷ bit 1 ∷ []) memory v 3 ≡ Returned [] (Some (of_i32 7)) memory }
     ensures poison { (memory : Memory) (v : World) → observed chooses f (int32 5 ∷ Poison ∷ []) memory v 1 ≡ Undefined }
     ensures wraps { (memory : Memory) (v : World) → observed (adds 4294967295 1) f [] memory v 2 ≡ Returned [] (Some (of_i32 0)) memory }
+    ensures null { (memory : Memory) (v : World) → observed (gives_back PtrTy Null) f [] memory v 1 ≡ Returned [] (Some (of_type PtrTy (Ptr null_pointer))) memory }
+    ensures poison_lanes { (memory : Memory) (v : World) → observed (gives_back i8x2 PoisonOperand) f [] memory v 1 ≡ Returned [] (Some (of_type i8x2 (Lanes 8 (None ∷ None ∷ [])))) memory }
+    ensures lanes { (memory : Memory) (v : World) → observed (gives_back i8x2 (LanesOperand (Some 255 ∷ None ∷ []))) f [] memory v 1 ≡ Returned [] (Some (of_type i8x2 (Lanes 8 (Some 255 ∷ None ∷ [])))) memory }
     ensures old { (memory : Memory) (v : World) → observed reads_the_old f [] memory v 6 ≡ Returned [] (Some (of_i32 5)) memory }
 {}
 
-/// Where no value of the type, no block or no entry is there, and at a phi that no branch enters, a run stands still. Of several functions,
+/// Where no value of the type, no block or no entry is there, at a phi that no branch enters, and at an instruction without a meaning, a run stands still. Of several functions,
 /// parameters, blocks or entries with one name the first counts.
 pub fn worked_stops()
     ensures value { (memory : Memory) (v : World) → StandsStill without_value [] memory v }
     ensures ty { (memory : Memory) (v : World) → StandsStill of_another_type (bit 1 ∷ []) memory v }
+    ensures lanes { (memory : Memory) (v : World) → StandsStill (gives_back i8x2 (LanesOperand (Some 1 ∷ []))) [] memory v }
+    ensures flag { (memory : Memory) (v : World) → StandsStill (adds_with_flag 1 1) [] memory v }
     ensures block { (memory : Memory) (v : World) → StandsStill without_block [] memory v }
     ensures start { (memory : Memory) (v : World) → StandsStill phi_at_the_start [] memory v }
     ensures behind { (memory : Memory) (v : World) → StandsStill phi_behind [] memory v }

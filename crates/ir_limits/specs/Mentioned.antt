@@ -4,14 +4,14 @@ use Rattle.forms.specs.Nested.{concat}
 use Rattle.ir_types.specs.declared.name.Name.{Name}
 use Rattle.ir_types.specs.declared.inst.InstKind.{InstKind}
 use Rattle.ir_types.specs.declared.inst.InstKind.TheVariants.{Phi}
-use Rattle.ir_types.specs.Tree.{OperandTree, local, number, InstTree, BlockTree, ParamTree, FunctionTree, Item, head_line, comdat_line, type_item, variable_item, function_item, attribute_line, metadata_line}
+use Rattle.ir_types.specs.Tree.{OperandTree, local, InstTree, BlockTree, ParamTree, FunctionTree, Item, head_line, comdat_line, type_item, variable_item, function_item, attribute_line, metadata_line}
 use Rattle.ir_types.specs.TypeNodes.{TypeNode}
 use Rattle.ir_types.specs.Collected.{names_used}
 
--- in an operand
+-- in an operand: a local's
 abbrev pub in_operand : OperandTree → List Name
 in_operand (local n) = n ∷ []
-in_operand (number v) = []
+in_operand a = []
 
 -- in operands behind one another
 abbrev pub in_operands : List OperandTree → List Name

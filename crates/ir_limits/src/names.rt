@@ -41,12 +41,12 @@ fn long_result(names: &Names, result_name: Option<ValueId>) -> Option<u64>
     }
 }
 
-fn long_operand(names: &Names, operand: Operand) -> Option<u64>
-    ensures { result ≡ first_long (in_operand (operand_in names.now operand)) }
+fn long_operand(names: &Names, operand: &Operand) -> Option<u64>
+    ensures { result ≡ first_long (in_operand (operand_in names.now operand.now)) }
 {
     match operand {
-        Operand::Local(id) => long_at(names, id),
-        Operand::Int(_) => None,
+        Operand::Local(id) => long_at(names, *id),
+        Operand::Int(_) | Operand::Null | Operand::Poison | Operand::Lanes(_) => None,
     }
 }
 
@@ -54,7 +54,7 @@ fn long_operands(names: &Names, operands: &[Operand]) -> Option<u64>
     ensures { result ≡ first_long (in_operands (map (operand_in names.now) operands.now)) }
 {
     for operand in operands {
-        if let Some(count) = long_operand(names, *operand) {
+        if let Some(count) = long_operand(names, operand) {
             return Some(count);
         }
     }
@@ -92,7 +92,7 @@ fn long_entries(names: &Names, operands: &[Operand], labels: &[ValueId]) -> Opti
         let Some((label, labels_behind)) = labels_left.split_first() else {
             return long_operands(names, operands_left);
         };
-        if let Some(count) = either(long_operand(names, *operand), long_at(names, *label)) {
+        if let Some(count) = either(long_operand(names, operand), long_at(names, *label)) {
             return Some(count);
         }
         operands_left = operands_behind;
@@ -107,7 +107,7 @@ fn long_inst(names: &Names, inst: &Inst) -> Option<u64>
 {
     let operands = inst.args.as_slice();
     let labels = inst.labels.as_slice();
-    let parts = match inst.kind {
+    let parts = match &inst.kind {
         InstKind::Phi => long_entries(names, operands, labels),
         _ => either(long_operands(names, operands), long_labels(names, labels)),
     };

@@ -29,6 +29,8 @@ fn function(alloc: Global, block: Name, target: Name) -> Result<Function, Fail> 
         args: Few::new(alloc),
         labels,
         result: None,
+        wide: false,
+        kept: Texts::new(alloc),
     };
     let body = Block {
         name: label,

@@ -54,6 +54,50 @@ define void @h() !note !0 {
 !0 = !{}
 ";
 
+const INSTRUCTIONS: &str = "define i32 @f(i32 %a, <2 x i8> %v, ptr %p) {
+  %b = mul nsw nuw i32 %a, 4294967293
+  %c = icmp ult <2 x i8> %v, splat (i8 200)
+  %d = select <2 x i1> %c, <2 x i8> %v, <2 x i8> zeroinitializer
+  %e = load i64, ptr %p, !tbaa !0
+  %g = trunc i64 %e to i8
+  store ptr null, ptr %p, align 1
+  %h = shufflevector <2 x i8> %d, <2 x i8> poison, <4 x i32> <i32 1, i32 poison, i32 3, i32 0>
+  %i = extractelement <4 x i8> %h, i32 2
+  %j = insertelement <2 x i8> %d, i8 %i, i64 1
+  switch i32 %b, label %m [ i32 1, label %n i32 4294967294, label %m ], !prof !0
+m:
+  unreachable
+n:
+  ret i32 %b
+}
+!0 = !{}
+";
+
+const INSTRUCTIONS_PRINTED: &str = "define i32 @f(i32 %a, <2 x i8> %v, ptr %p) {
+0:
+  %b = mul nuw nsw i32 %a, -3
+  %c = icmp ult <2 x i8> %v, <i8 -56, i8 -56>
+  %d = select <2 x i1> %c, <2 x i8> %v, <2 x i8> <i8 0, i8 0>
+  %e = load i64, ptr %p, align 8, !tbaa !0
+  %g = trunc i64 %e to i8
+  store ptr null, ptr %p, align 1
+  %h = shufflevector <2 x i8> %d, <2 x i8> poison, <4 x i32> <i32 1, i32 poison, i32 3, i32 0>
+  %i = extractelement <4 x i8> %h, i32 2
+  %j = insertelement <2 x i8> %d, i8 %i, i64 1
+  switch i32 %b, label %m [
+    i32 1, label %n
+    i32 -2, label %m
+  ], !prof !0
+
+m:
+  unreachable
+
+n:
+  ret i32 %b
+}
+!0 = !{}
+";
+
 fn strings(alloc: Global, words: &[&str]) -> Result<Vec<String>, Fail> {
     let mut given = Vec::new(alloc);
     for word in words {
@@ -123,6 +167,17 @@ fn prints_items(rt: HostRuntime) -> Result<(), Fail> {
     for text in [ITEMS, ITEMS_PRINTED] {
         let text = Vec::from_slice(alloc, text.as_bytes())?;
         let wanted = (0, ITEMS_PRINTED, "");
+        compare(&rt, alloc, &["m"], text, Vec::new(alloc), wanted)?;
+    }
+    Ok(())
+}
+
+#[test]
+fn prints_instructions(rt: HostRuntime) -> Result<(), Fail> {
+    let alloc = rt.alloc();
+    for text in [INSTRUCTIONS, INSTRUCTIONS_PRINTED] {
+        let text = Vec::from_slice(alloc, text.as_bytes())?;
+        let wanted = (0, INSTRUCTIONS_PRINTED, "");
         compare(&rt, alloc, &["m"], text, Vec::new(alloc), wanted)?;
     }
     Ok(())

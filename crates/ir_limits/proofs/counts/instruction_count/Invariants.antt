@@ -1,5 +1,4 @@
-use Rattle.std.proofs.Common.{◌≡◌, length, take, map}
-use Rattle.std.specs.Prelude.{sum_by}
+use Rattle.std.proofs.Common.{◌≡◌, take, map}
 use Rattle.ir_types.specs.Denotes.{tree_of_function}
 use Rattle.ir_limits.specs.Limits.{instructions_of}
 use Rattle.ir_limits.proofs.counts.instruction_count.Given as goal

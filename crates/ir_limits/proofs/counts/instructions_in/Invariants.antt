@@ -1,4 +1,4 @@
-use Rattle.std.proofs.Common.{◌≡◌, length, take, map}
+use Rattle.std.proofs.Common.{◌≡◌, length, take}
 use Rattle.std.specs.Prelude.{sum_by}
 use Rattle.ir_types.specs.declared.module.Block.{Block}
 use Rattle.ir_limits.proofs.counts.instructions_in.Given as goal

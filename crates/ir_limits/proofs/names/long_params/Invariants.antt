@@ -1,6 +1,6 @@
 use Rattle.std.proofs.Common.{◌≡◌, drop}
 use Rattle.ir_types.specs.declared.module.Param.{Param}
-use Rattle.ir_types.specs.Denotes.{name_in, param_in}
+use Rattle.ir_types.specs.Denotes.{name_in}
 use Rattle.ir_limits.specs.Limits.{long_name}
 use Rattle.ir_limits.proofs.Firsts.{first_of}
 use Rattle.ir_limits.proofs.names.long_params.Given as goal
