@@ -36,11 +36,11 @@ fn case<'t>(
     ensures stays { Stays case_in names.new result }
 {
     let (written, rest) = width(tokens)?;
-    let (digits, rest) = rest.one(TokenKind::Number)?;
-    let (label, rest) = comma_target(alloc, rest, names)?;
     if written != bits {
         return Err(tokens.refusal());
     }
+    let (digits, rest) = rest.one(TokenKind::Number)?;
+    let (label, rest) = comma_target(alloc, rest, names)?;
     Ok(((number_at(bits, digits), label), rest))
 }
 

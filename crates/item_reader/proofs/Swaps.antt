@@ -1,20 +1,9 @@
 -- Two forms of which the one begins where the other doesn't.
-use Rattle.std.proofs.Common.{◌≡◌, Bool, true, false, cond, List, [], ◌∷◌, ◌++◌, Option, Some, None, refl, sym, ap, ◌∙◌, true≢false}
+use Rattle.std.proofs.Common.{◌≡◌, Bool, true, false, cond, List, [], ◌∷◌, refl, sym, ap, ◌∙◌}
 use Rattle.forms.specs.Form.{Lexeme, Form, either}
 use Rattle.forms.specs.Reading.{Terminal, next_in, nullable, first, opens, read, all_apart}
-use Rattle.forms.proofs.Begins.{opened, all_apart_none}
-use Rattle.forms.proofs.Fronts.{front}
-
--- where a form doesn't begin that takes a token, nothing is read
-pub not_begun : {A : Type 0} (f : Form A) (ts : List Lexeme) → nullable f ≡ false → opens f ts ≡ false → read f ts ≡ None
-not_begun {A} f ts n o = by (read f ts) refl
-  where
-    by : (r : Option (A × List Lexeme)) → read f ts ≡ r → r ≡ None
-    by None e = refl
-    by (Some x) e =
-        let t = front f ts x e in
-        let begun : opens f ts ≡ true = ap (λ (us : List Lexeme). opens f us) t.parts ∙ opened (first f) (nullable f) t.used x.1 n t.spelled in
-        absurd (true≢false (sym begun ∙ o))
+use Rattle.forms.proofs.Begins.{all_apart_none}
+use Rattle.function_reader.proofs.Lines.{not_begun}
 
 pub apart_next : (ss rs : List Terminal) (ts : List Lexeme) → all_apart ss rs ≡ true → next_in rs ts ≡ true → next_in ss ts ≡ false
 apart_next ss rs [] a e = refl
