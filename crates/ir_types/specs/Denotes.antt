@@ -1,5 +1,5 @@
 -- Which tree a module denotes: each position replaced by what it names.
-use Rattle.std.specs.Prelude.{◌≡◌, ◌≢◌, ℕ, List, map, slice_get, Option, Some, None}
+use Rattle.std.specs.Prelude.{◌≡◌, ℕ, List, [], map, Option, Some, None}
 use Rattle.std.specs.Option.{option_map}
 use Rattle.std.specs.List.{AllByRecursion, filter_map}
 use Rattle.ir_types.specs.declared.name.Name.{Name}
@@ -23,6 +23,7 @@ use Rattle.ir_types.specs.Types.{AreTypes}
 use Rattle.ir_types.specs.TypeNodes.{TypeNode, type_nodes}
 use Rattle.ir_types.specs.Sizes.{AreExtents}
 use Rattle.ir_types.specs.Names.{name_at, IsTable}
+use Rattle.ir_types.specs.Used.{all_type_names, all_symbol_names}
 use Rattle.ir_types.specs.Kinds.{Kind, Binary, Compare, Select, Freeze, Trunc, Zext, Sext, PtrToInt, Phi, Offset, Load, Store, Call, Extract, Insert, Shuffle, Jump, Branch, Switch, ReturnVoid, Return, Unreachable}
 use Rattle.ir_types.specs.Tree.{OperandTree, local, number, null, poison, lanes, global, InstTree, BlockTree, ParamTree, FunctionTree, defined, opaque, TypeNameTree, variable, function, SymbolTree, ModuleTree}
 
@@ -114,9 +115,9 @@ tables_of m = record { symbols = map (λ (s : Symbol). s.name) m.symbols; type_n
 abbrev pub tree_of : Module → ModuleTree
 tree_of m = record { head = m.head; type_names = filter_map (type_name_in m) m.type_names; symbols = filter_map (symbol_in m) m.symbols; functions = map (function_in (tables_of m)) m.functions; tail = m.tail }
 
--- a name that is in the list because it is used: no other entry has it
-abbrev pub AreMissingApart : {A : Type 0} → (A → Name) → (A → Type 0) → List A → Type 0
-AreMissingApart {A} name IsMissing entries = (i j : ℕ) (x y : A) → slice_get entries i ≡ Some x → slice_get entries j ≡ Some y → IsMissing x → i ≢ j → name x ≢ name y
+-- a symbol that is only used has no texts
+abbrev pub IsBare : Symbol → Type 0
+IsBare s = elim s.kind as (λ _. Type 0) [ symbols.Variable id writable ↦ Unit {0} | symbols.Function f ↦ Unit {0} | symbols.Missing ↦ (s.before ≡ []) × (s.after ≡ []) ]
 
 -- the module says what the tree says
 pub record Denotes (m : Module) (tree : ModuleTree) : Type 0 where
@@ -127,6 +128,8 @@ pub record Denotes (m : Module) (tree : ModuleTree) : Type 0 where
   pub types : AreTypes (type_names_of m) 0 m.types
   -- the extents are those of the types
   pub extents : AreExtents m.types m.type_names m.extents
-  -- a name that is only used stands in its list once
-  pub missing_types : AreMissingApart (λ (n : TypeName). n.name) (λ (n : TypeName). n.ty ≡ Missing) m.type_names
-  pub missing_symbols : AreMissingApart (λ (s : Symbol). s.name) (λ (s : Symbol). s.kind ≡ symbols.Missing) m.symbols
+  -- the names that are only used stand behind the others, each once, by first use
+  pub type_names : type_names_of m ≡ all_type_names tree
+  pub symbols : map (λ (s : Symbol). s.name) m.symbols ≡ all_symbol_names tree
+  -- nothing is kept with those
+  pub bare : AllByRecursion IsBare m.symbols

@@ -10,6 +10,7 @@ pub mod Offsets
 pub mod Skimmed
 pub mod Numbered
 pub mod Collected
+pub mod Used
 pub mod Denotes
 pub mod Reads
 pub mod Values
