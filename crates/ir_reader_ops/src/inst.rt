@@ -168,8 +168,15 @@ fn terminator<'t>(
     Ok((inst, rest))
 }
 
-/// An instruction that may stand at this place.
-pub fn instruction<'t>(
+/// One instruction, without its result's name, and what is behind it: one that may stand at this place. Memory types that it writes are added
+/// to the scope's tables, with their parts, and so are names of types and of symbols that these lack, but for what a call calls; local names
+/// that the function lacks are added to its names.
+///
+/// # Errors
+///
+/// Where no such instruction stands, with the place at which reading from left to right stops, or there is no room. The lists hold the old
+/// entries first then too, and perhaps more.
+pub fn read_inst<'t>(
     alloc: Global,
     place: Place,
     tokens: Cursor<'t>,
@@ -178,6 +185,7 @@ pub fn instruction<'t>(
     ensures grows { Widens scope.old scope.new }
     ensures reads { Gives (λ x. (inst_seen scope.new x.0, left x.1)) result (read (form_at (definitions scope.old) place) (left tokens.entry)) }
     ensures stays { Stays inst_seen scope.new result }
+    ensures uses { IfOk result (λ x. InstUses scope.old (inst_seen scope.new x.0) scope.new) }
 {
     match place {
         Place::Inside => operation(alloc, tokens, scope),
