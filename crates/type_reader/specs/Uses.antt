@@ -9,7 +9,7 @@ use Rattle.type_reader.specs.Tables.{TableLists}
 
 -- The new tables have these names of types and the symbols of these operands too: those that the old ones lack stand behind the others, each once, by first use.
 pub record Uses (old : TableLists) (types : List Name) (operands : List OperandTree) (new : TableLists) : Type 0 where
-  pub types : new.entries ≡ old.entries ++ map missing_entry (unknown (names_of old.entries) types)
+  pub entries : new.entries ≡ old.entries ++ map missing_entry (unknown (names_of old.entries) types)
   pub symbols : new.symbols ≡ with_unknown old.symbols (symbols_of operands)
 
 -- the new tables have what these instructions use
