@@ -10,3 +10,4 @@ pub mod Offsets
 pub mod Callees
 pub mod Beginnings
 pub mod Attached
+pub mod Using

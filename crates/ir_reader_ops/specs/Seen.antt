@@ -1,5 +1,5 @@
 -- What the places in a function stand for while it is read: those among its own names, and those in the module's tables.
-use Rattle.std.specs.Prelude.{◌≡◌, ℕ, List, map, Result, Ok, Err}
+use Rattle.std.specs.Prelude.{◌≡◌, ℕ, List, [], map, Result, Ok, Err}
 use Rattle.forms.specs.declared.cursor.SyntaxFault.{SyntaxFault}
 use Rattle.forms.specs.View.{Extends}
 use Rattle.ir_types.specs.declared.name.Name.{Name}
@@ -46,6 +46,10 @@ operand_seen s a = operand_in (tables_in s.tables) s.names a
 -- an instruction
 abbrev pub inst_seen : Scope → Inst → InstTree
 inst_seen s i = inst_in (tables_in s.tables) s.names i
+
+-- the new tables have what operands use
+abbrev pub OperandsUse : Scope → List OperandTree → Scope → Type 0
+OperandsUse old operands new = Uses old.tables [] operands new.tables
 
 -- the new tables have what an instruction uses
 abbrev pub InstUses : Scope → InstTree → Scope → Type 0

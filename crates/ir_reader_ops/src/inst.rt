@@ -1,12 +1,12 @@
 // Instructions, without the names of their results.
 
-ghost use Rattle.std.specs.Prelude.{◌≡◌};
+ghost use Rattle.std.specs.Prelude.{◌≡◌, IfOk};
 ghost use Rattle.forms.specs.Form.{by_word};
 ghost use Rattle.forms.specs.Reading.{read, opens, next_in, words_of};
 ghost use Rattle.forms.specs.Gives.{Gives, left};
 ghost use Rattle.ir_types.specs.Offsets.{Definitions};
 ghost use Rattle.ir_types.specs.Grammar.{operation_words, operation_behind, terminator_words, terminator_behind, operation, terminator};
-ghost use Rattle.ir_reader_ops.specs.Seen.{inst_seen, definitions, Widens, Stays};
+ghost use Rattle.ir_reader_ops.specs.Seen.{inst_seen, definitions, Widens, Stays, InstUses};
 ghost use Rattle.ir_reader_ops.specs.Words.{attached_to, bare_terminator, form_at};
 
 use crate::arithmetic::{
@@ -46,6 +46,7 @@ fn bare_operation<'t>(
     ensures grows { Widens scope.old scope.new }
     ensures reads { Gives (λ x. (inst_seen scope.new x.0, left x.1)) result (read (by_word operation_words (operation_behind (definitions scope.old))) (left tokens.entry)) }
     ensures stays { Stays inst_seen scope.new result }
+    ensures uses { IfOk result (λ x. InstUses scope.old (inst_seen scope.new x.0) scope.new) }
 {
     let (word, rest) = tokens.one(TokenKind::Word)?;
     let Some(operation) = operation_of(word) else {
@@ -83,6 +84,7 @@ fn longer_terminator<'t>(
     ensures grows { Widens scope.old scope.new }
     ensures reads { Gives (λ x. (inst_seen scope.new x.0, left x.1)) result (read (by_word terminator_words (terminator_behind (definitions scope.old))) (left tokens.entry)) }
     ensures stays { Stays inst_seen scope.new result }
+    ensures uses { IfOk result (λ x. InstUses scope.old (inst_seen scope.new x.0) scope.new) }
 {
     let (word, rest) = tokens.one(TokenKind::Word)?;
     match terminator_of(word) {
@@ -113,6 +115,7 @@ fn bare_terminator<'t>(
     ensures grows { Widens scope.old scope.new }
     ensures reads { Gives (λ x. (inst_seen scope.new x.0, left x.1)) result (read (bare_terminator (definitions scope.old)) (left tokens.entry)) }
     ensures stays { Stays inst_seen scope.new result }
+    ensures uses { IfOk result (λ x. InstUses scope.old (inst_seen scope.new x.0) scope.new) }
 {
     if begins_longer(tokens) {
         return longer_terminator(alloc, tokens, scope);
@@ -129,7 +132,8 @@ fn with_attachments<'t>(
     inst: Inst,
     tokens: Cursor<'t>,
 ) -> Result<(Inst, Cursor<'t>), SyntaxFault>
-    ensures { Gives (λ x. (x.0, left x.1)) result (attached_to inst (left tokens.entry)) }
+    ensures reads { Gives (λ x. (x.0, left x.1)) result (attached_to inst (left tokens.entry)) }
+    ensures same { IfOk result (λ x. (x.0.kind ≡ inst.kind) × (x.0.args ≡ inst.args)) }
 {
     let mut kept = Texts::new(alloc);
     let rest = keep_comma_attachments(alloc, tokens, &mut kept)?;
@@ -146,6 +150,7 @@ fn operation<'t>(
     ensures grows { Widens scope.old scope.new }
     ensures reads { Gives (λ x. (inst_seen scope.new x.0, left x.1)) result (read (operation (definitions scope.old)) (left tokens.entry)) }
     ensures stays { Stays inst_seen scope.new result }
+    ensures uses { IfOk result (λ x. InstUses scope.old (inst_seen scope.new x.0) scope.new) }
 {
     let (inst, rest) = bare_operation(alloc, tokens, scope)?;
     let (inst, rest) = with_attachments(alloc, inst, rest)?;
@@ -162,6 +167,7 @@ fn terminator<'t>(
     ensures grows { Widens scope.old scope.new }
     ensures reads { Gives (λ x. (inst_seen scope.new x.0, left x.1)) result (read (terminator (definitions scope.old)) (left tokens.entry)) }
     ensures stays { Stays inst_seen scope.new result }
+    ensures uses { IfOk result (λ x. InstUses scope.old (inst_seen scope.new x.0) scope.new) }
 {
     let (inst, rest) = bare_terminator(alloc, tokens, scope)?;
     let (inst, rest) = with_attachments(alloc, inst, rest)?;

@@ -48,7 +48,7 @@ got_end [] y (suc i) x e le = absurd cc
 got_end (z ∷ xs) y zero x e le = absurd (omega arith)
 got_end (z ∷ xs) y (suc i) x e le = let g = got_end xs y i x e (omega arith) in (ap suc g.0, g.1)
 
-contains_got : {A : Type 0} (xs : List A) (i : ℕ) (x : A) → slice_get xs i ≡ Some x → Contains xs x
+pub contains_got : {A : Type 0} (xs : List A) (i : ℕ) (x : A) → slice_get xs i ≡ Some x → Contains xs x
 contains_got xs i x e = (i, slice_get_within xs i x e, get_or_from_slice_get xs i x x e)
 
 -- ---- symbols
@@ -98,7 +98,7 @@ entries_push entries name fresh h = λ i j x y a b. by i j x y a b (cases_lt i (
     by i j x y a b (inr p) (inl q) m d = λ e. apart j y (got_front entries new j y b q) (sym e ∙ ap (λ (t : TypeName). t.name) (got_end entries new i x a p).1)
     by i j x y a b (inr p) (inr q) m d = absurd (d ((got_end entries new i x a p).0 ∙ sym (got_end entries new j y b q).0))
 
-none_of : (n : Name) (ns : List Name) → has_name n ns ≡ false → ¬ Contains ns n
+pub none_of : (n : Name) (ns : List Name) → has_name n ns ≡ false → ¬ Contains ns n
 none_of n ns e = λ h. true≢false (sym (has_this n ns h.0 h.1 h.2) ∙ e)
 
 -- names that were looked up one after another are apart

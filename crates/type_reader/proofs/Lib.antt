@@ -12,3 +12,4 @@ pub mod Enlarged
 pub mod Defining
 pub mod Looking
 pub mod Uses
+pub mod Known
