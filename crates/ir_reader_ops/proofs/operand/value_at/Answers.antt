@@ -11,6 +11,6 @@ unfolding definitions
 returns-clause-uses c =
     let old = c.args.scope.now.tables in
     let n = c.written_value.new.scope in
-    let written = written_in n c.in_ok-written.written.now in
+    let written = written_in n c.in_ok-written.written in
     let same = ap (λ (d : Definitions). operand_at d c.args.ty written) (sym c.in_ok-written.ensures.grows.tables.definitions) in
     operand_uses old n.tables c.args.ty written (operand_seen n c.in_ok-operand.operand) (same ∙ c.in_ok-operand.ensures.reads) c.in_ok-written.ensures.uses
