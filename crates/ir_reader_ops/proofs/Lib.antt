@@ -11,3 +11,4 @@ pub mod Callees
 pub mod Beginnings
 pub mod Attached
 pub mod Using
+pub mod Decided

@@ -7,7 +7,7 @@ ghost use Rattle.forms.specs.Gives.{Gives, left};
 ghost use Rattle.ir_types.specs.Offsets.{Definitions};
 ghost use Rattle.ir_types.specs.Grammar.{operation_words, operation_behind, terminator_words, terminator_behind, operation, terminator};
 ghost use Rattle.ir_reader_ops.specs.Seen.{inst_seen, definitions, Widens, Stays, InstUses};
-ghost use Rattle.ir_reader_ops.specs.Words.{attached_to, bare_terminator, form_at};
+ghost use Rattle.ir_reader_ops.specs.Words.{attached_to, bare_terminator, form_at, instruction};
 
 use crate::arithmetic::{
     comparison, freeze, or_operation, overflowing, plain_binary, possibly_exact, selection,
@@ -34,6 +34,7 @@ use std::alloc::Global;
 pub enum Place {
     /// Before the last one.
     Inside,
+    /// At the end.
     Last,
 }
 
@@ -174,15 +175,12 @@ fn terminator<'t>(
     Ok((inst, rest))
 }
 
-/// One instruction, without its result's name, and what is behind it: one that may stand at this place. Memory types that it writes are added
-/// to the scope's tables, with their parts, and so are names of types and of symbols that these lack, but for what a call calls; local names
-/// that the function lacks are added to its names.
+/// An instruction that may stand at this place.
 ///
 /// # Errors
 ///
-/// Where no such instruction stands, with the place at which reading from left to right stops, or there is no room. The lists hold the old
-/// entries first then too, and perhaps more.
-pub fn read_inst<'t>(
+/// Those of `read_inst`, where no such instruction stands.
+pub fn inst_at<'t>(
     alloc: Global,
     place: Place,
     tokens: Cursor<'t>,
@@ -197,6 +195,30 @@ pub fn read_inst<'t>(
         Place::Inside => operation(alloc, tokens, scope),
         Place::Last => terminator(alloc, tokens, scope),
     }
+}
+
+/// One instruction, without its result's name, and what is behind it. Memory types that it writes are added to the scope's tables, with their
+/// parts, and so are names of types and of symbols that these lack, but for what a call calls; local names that the function lacks are added to
+/// its names. What stands behind it must be nothing with which it could go on: `load i32, ptr %p, align x` is refused.
+///
+/// # Errors
+///
+/// Where no instruction stands, with the place at which reading from left to right stops, or there is no room. The lists hold the old
+/// entries first then too, and perhaps more.
+pub fn read_inst<'t>(
+    alloc: Global,
+    tokens: Cursor<'t>,
+    scope: &mut Scope,
+) -> Result<(Inst, Cursor<'t>), SyntaxFault>
+    ensures grows { Widens scope.old scope.new }
+    ensures reads { Gives (λ x. (inst_seen scope.new x.0, left x.1)) result (read (instruction (definitions scope.old)) (left tokens.entry)) }
+    ensures stays { Stays inst_seen scope.new result }
+    ensures uses { IfOk result (λ x. InstUses scope.old (inst_seen scope.new x.0) scope.new) }
+{
+    if begins_instruction(Place::Inside, tokens) {
+        return inst_at(alloc, Place::Inside, tokens, scope);
+    }
+    inst_at(alloc, Place::Last, tokens, scope)
 }
 
 /// Whether an instruction that doesn't end a block stands next.
