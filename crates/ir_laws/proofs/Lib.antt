@@ -1,4 +1,5 @@
 pub mod Readings
+pub mod Behind
 pub mod Steps
 pub mod Order
 pub mod Operands

@@ -18,8 +18,9 @@ pub use refining::{
 };
 pub use runs::{runs_go_on, same_modules_run_alike};
 pub use texts::{
-    no_reading, one_list_of_tokens, one_reading, one_stop, positions_are_free,
-    same_module_is_an_equivalence, tokens_without_a_stop,
+    no_reading, one_list_of_tokens, one_reading, one_stop, only_used_names_stand_behind,
+    positions_are_free, same_module_is_an_equivalence, same_modules_have_the_same_names,
+    tokens_without_a_stop,
 };
 pub use tolls::{same_module_costs_nothing, toll_is_allowed, tolls_add};
 pub use worked::{
