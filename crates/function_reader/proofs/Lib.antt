@@ -3,3 +3,4 @@ pub mod Parts
 pub mod Functions
 pub mod Dotted
 pub mod Bodies
+pub mod Using

@@ -6,11 +6,11 @@ use Rattle.forms.specs.Form.{Lexeme}
 use Rattle.forms.specs.Reading.{◌>>=◌, read}
 use Rattle.forms.specs.Walk.{walk, completed}
 use Rattle.forms.specs.Kept.{attachments}
-use Rattle.forms.specs.Nested.{joined}
+use Rattle.forms.specs.Nested.{joined, concat}
 use Rattle.ir_types.specs.declared.name.Name.{Name}
 use Rattle.ir_types.specs.declared.module.Param.{Param}
 use Rattle.ir_types.specs.declared.module.Block.{Block}
-use Rattle.ir_types.specs.Tree.{ParamTree, BlockTree, FunctionTree, WrittenParam}
+use Rattle.ir_types.specs.Tree.{ParamTree, InstTree, BlockTree, FunctionTree, WrittenParam}
 use Rattle.ir_types.specs.declared.module.Function.{Function}
 use Rattle.ir_types.specs.Offsets.{Definitions}
 use Rattle.ir_types.specs.Denotes.{param_in, function_in}
@@ -29,6 +29,10 @@ params_in ns ps = map (param_in ns) ps
 -- blocks, with their names
 abbrev pub blocks_in : Scope → List Block → List BlockTree
 blocks_in s bs = map (block_seen s) bs
+
+-- the instructions of some blocks
+abbrev pub insts_among : List BlockTree → List InstTree
+insts_among bs = concat (map (λ (b : BlockTree). b.insts) bs)
 
 -- a function whose names are still those of the scope
 abbrev pub function_seen : Scope → Function → FunctionTree

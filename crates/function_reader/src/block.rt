@@ -1,6 +1,6 @@
 // Blocks.
 
-ghost use Rattle.std.specs.Prelude.{◌≡◌, []};
+ghost use Rattle.std.specs.Prelude.{◌≡◌, [], IfOk};
 ghost use Rattle.forms.specs.declared.TokenKind.TheVariants.{Label};
 ghost use Rattle.forms.specs.Form.{many, optional, pair};
 ghost use Rattle.forms.specs.Reading.{read};
@@ -8,6 +8,7 @@ ghost use Rattle.forms.specs.Walk.{walk, completed};
 ghost use Rattle.forms.specs.Gives.{Gives, left};
 ghost use Rattle.ir_types.specs.Grammar.{label, operation, terminator, line as line_form, block};
 ghost use Rattle.ir_types.specs.Numbered.{named, numbered_inst, numbered_block};
+ghost use Rattle.type_reader.specs.Uses.{InstsUse};
 ghost use Rattle.ir_reader_ops.specs.Seen.{name_seen, definitions, Widens, Stays};
 ghost use Rattle.function_reader.specs.Blocks.{insts_in, block_seen, block_read};
 
@@ -29,6 +30,7 @@ fn no_insts<'t>(alloc: Global, tokens: Cursor<'t>) -> (Vec<Inst>, Cursor<'t>)
 }
 
 /// The lines before the last.
+#[tactic(auto, using(type_reader::proofs::Uses::uses_none))]
 fn operations<'t>(
     alloc: Global,
     tokens: Cursor<'t>,
@@ -38,6 +40,7 @@ fn operations<'t>(
     ensures grows { Widens scope.old scope.new }
     ensures reads { Gives (λ x. ((insts_in scope.new x.0.items, numbering.new.next), left x.1)) result (completed (walk numbered_inst numbering.old.next) (read (many (line_form (operation (definitions scope.old)))) (left tokens.entry))) }
     ensures stays { Stays (λ s x. insts_in s x.items) scope.new result }
+    ensures uses { IfOk result (λ x. InstsUse scope.old.tables (insts_in scope.new x.0.items) scope.new.tables) }
 {
     let (mut insts, mut rest) = no_insts(alloc, tokens);
     'more: while begins_line(Place::Inside, rest) {
@@ -59,6 +62,7 @@ fn block_name<'t>(
     ensures grows { Widens scope.old scope.new }
     ensures reads { Gives (λ x. ((name_seen scope.new x.0, numbering.new.next), left x.1)) result (completed (named numbering.old.next) (read (optional label) (left tokens.entry))) }
     ensures stays { Stays name_seen scope.new result }
+    ensures tables { scope.new.tables ≡ scope.old.tables }
 {
     if tokens.is_next(TokenKind::Label) {
         let (name, rest) = block_label(alloc, tokens)?;
@@ -79,6 +83,7 @@ fn parts<'t>(
     ensures grows { Widens scope.old scope.new }
     ensures reads { Gives (λ x. ((block_seen scope.new x.0, numbering.new.next), left x.1)) result (block_read (definitions scope.old) numbering.old.next (left tokens.entry)) }
     ensures stays { Stays block_seen scope.new result }
+    ensures uses { IfOk result (λ x. InstsUse scope.old.tables (insts_in scope.new x.0.insts) scope.new.tables) }
 {
     let (name, rest) = block_name(alloc, tokens, scope, numbering)?;
     let (mut insts, rest) = operations(alloc, rest, scope, numbering)?;
@@ -104,6 +109,7 @@ pub fn block<'t>(
     ensures grows { Widens scope.old scope.new }
     ensures reads { Gives (λ x. ((block_seen scope.new x.0, numbering.new.next), left x.1)) result (completed (numbered_block numbering.old.next) (read (block (definitions scope.old)) (left tokens.entry))) }
     ensures stays { Stays block_seen scope.new result }
+    ensures uses { IfOk result (λ x. InstsUse scope.old.tables (insts_in scope.new x.0.insts) scope.new.tables) }
 {
     parts(alloc, tokens, scope, numbering)
 }

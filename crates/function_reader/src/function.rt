@@ -17,7 +17,7 @@ ghost use Rattle.type_reader.specs.Uses.{InstsUse};
 ghost use Rattle.ir_reader_ops.specs.Seen.{definitions, Widens, Stays};
 ghost use Rattle.ir_reader_ops.specs.Between.{between_read};
 ghost use Rattle.function_reader.specs.View.{StaysNamed};
-ghost use Rattle.function_reader.specs.Functions.{params_in, blocks_in, function_seen, dotted_in, numbered_dotted, declared_read, defined_read};
+ghost use Rattle.function_reader.specs.Functions.{params_in, blocks_in, insts_among, function_seen, dotted_in, numbered_dotted, declared_read, defined_read};
 
 use crate::block::block;
 use crate::line::begins_line;
@@ -51,6 +51,7 @@ fn blocks<'t>(
     ensures grows { Widens scope.old scope.new }
     ensures reads { Gives (λ x. ((blocks_in scope.new x.0.items, numbering.new.next), left x.1)) result (completed (walk numbered_block numbering.old.next) (read (some (block (definitions scope.old))) (left tokens.entry))) }
     ensures stays { Stays (λ s x. blocks_in s x.items) scope.new result }
+    ensures uses { IfOk result (λ x. InstsUse scope.old.tables (insts_among (blocks_in scope.new x.0.items)) scope.new.tables) }
 {
     let (first, mut rest) = block(alloc, tokens, scope, numbering)?;
     let mut body = Vec::new(alloc);
@@ -90,6 +91,7 @@ fn enclosed_blocks<'t>(
     ensures grows { Widens scope.old scope.new }
     ensures reads { Gives (λ x. ((blocks_in scope.new x.0.items, numbering.new.next), left x.1)) result (between_read LeftBrace RightBrace (walk numbered_block numbering.old.next) (read (some (block (definitions scope.old)))) (left tokens.entry)) }
     ensures stays { Stays (λ s x. blocks_in s x.items) scope.new result }
+    ensures uses { IfOk result (λ x. InstsUse scope.old.tables (insts_among (blocks_in scope.new x.0.items)) scope.new.tables) }
 {
     let rest = tokens.mark(TokenKind::LeftBrace)?;
     let (blocks, rest) = blocks(alloc, rest, scope, numbering)?;
@@ -124,6 +126,7 @@ fn scoped_params<'t>(
     ensures grows { Widens scope.old scope.new }
     ensures reads { Gives (λ x. ((params_in scope.new.names x.0.items, numbering.new.next), left x.1)) result (between_read LeftParen RightParen (walk numbered_param numbering.old.next) (read (list parameter)) (left tokens.entry)) }
     ensures stays { Stays (λ s x. params_in s.names x.items) scope.new result }
+    ensures tables { scope.new.tables ≡ scope.old.tables }
 {
     enclosed_params(alloc, tokens, &mut scope.names, numbering)
 }
@@ -168,6 +171,7 @@ fn defined_parts<'t>(
     ensures grows { Widens scope.old scope.new }
     ensures reads { Gives (λ x. (function_seen scope.new x.0, left x.1)) result (defined_read (definitions scope.old) (left tokens.entry)) }
     ensures stays { Stays function_seen scope.new result }
+    ensures uses { IfOk result (λ x. InstsUse scope.old.tables (insts_of (function_seen scope.new x.0)) scope.new.tables) }
 {
     let (before, rest) = kept(alloc, tokens)?;
     let (ret, rest) = return_type(rest)?;
@@ -233,6 +237,7 @@ fn defined_over<'t>(
     ensures reads { Gives (λ x. (function_in (tables_in result.0) x.0, left x.1)) result.1 (defined_read (definitions_of tables) (left tokens.entry)) }
     ensures stays { IfOk result.1 (λ x. (later : TableLists) → Grows result.0 later → function_in (tables_in later) x.0 ≡ function_in (tables_in result.0) x.0) }
     ensures table { IfOk result.1 (λ x. IsTable x.0.names) }
+    ensures uses { IfOk result.1 (λ x. InstsUse tables (insts_of (function_in (tables_in result.0) x.0)) result.0) }
 {
     let names = Names::new(alloc);
     let mut scope = Scope { names, tables };
@@ -244,8 +249,8 @@ fn defined_over<'t>(
     }
 }
 
-/// What is behind the word `define`: a function with its blocks. Names of symbols and of types that the tables lack are added to them, and so
-/// are memory types, whether or not a function is read.
+/// What is behind the word `define`: a function with its blocks. Names of symbols and of types that its instructions use and the tables lack are
+/// added to them, each once and by first use, and so are memory types. Where no function is read, some may be added too.
 ///
 /// # Errors
 ///

@@ -9,7 +9,7 @@ ghost use Rattle.ir_types.specs.Offsets.{Definitions};
 ghost use Rattle.ir_types.specs.Written.{name_behind as written_name_behind};
 ghost use Rattle.ir_types.specs.Grammar.{line as line_form};
 ghost use Rattle.ir_types.specs.Numbered.{numbered_inst};
-ghost use Rattle.ir_reader_ops.specs.Seen.{inst_seen, definitions, Widens, Stays};
+ghost use Rattle.ir_reader_ops.specs.Seen.{inst_seen, definitions, Widens, Stays, InstUses};
 ghost use Rattle.ir_reader_ops.specs.Words.{form_at};
 ghost use Rattle.function_reader.specs.Lines.{tok, result_next, named_so, plainly};
 
@@ -80,6 +80,7 @@ fn named<'t>(
     ensures grows { Widens scope.old scope.new }
     ensures reads { (v : List ℕ) → Gives (λ x. ((inst_seen scope.new x.0, numbering.new.next), left x.1)) result (completed (numbered_inst numbering.old.next) (named_so name.now v (read (form_at (definitions scope.old) place) (left tokens.entry)))) }
     ensures stays { Stays inst_seen scope.new result }
+    ensures uses { IfOk result (λ x. InstUses scope.old (inst_seen scope.new x.0) scope.new) }
 {
     let written = result_name(alloc, name, start)?;
     let id = scoped_id(Some(written), scope, numbering, start)?;
@@ -98,6 +99,7 @@ fn plain<'t>(
     ensures grows { Widens scope.old scope.new }
     ensures reads { Gives (λ x. ((inst_seen scope.new x.0, numbering.new.next), left x.1)) result (completed (numbered_inst numbering.old.next) (plainly (read (form_at (definitions scope.old) place) (left tokens.entry)))) }
     ensures stays { Stays inst_seen scope.new result }
+    ensures uses { IfOk result (λ x. InstUses scope.old (inst_seen scope.new x.0) scope.new) }
 {
     let (inst, rest) = read_inst(alloc, place, tokens, scope)?;
     let id = result_id(inst.ty, scope, numbering, tokens)?;
@@ -115,6 +117,7 @@ pub fn line<'t>(
     ensures grows { Widens scope.old scope.new }
     ensures reads { Gives (λ x. ((inst_seen scope.new x.0, numbering.new.next), left x.1)) result (completed (numbered_inst numbering.old.next) (read (line_form (form_at (definitions scope.old) place)) (left tokens.entry))) }
     ensures stays { Stays inst_seen scope.new result }
+    ensures uses { IfOk result (λ x. InstUses scope.old (inst_seen scope.new x.0) scope.new) }
 {
     match behind_result(tokens) {
         Some((name, rest)) => named(alloc, place, name, tokens, rest, scope, numbering),

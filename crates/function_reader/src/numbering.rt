@@ -82,6 +82,7 @@ pub fn scoped_id(
     ensures grows { Widens scope.old scope.new }
     ensures names { Gives (λ id. (name_seen scope.new id, numbering.new.next)) result (named numbering.old.next written) }
     ensures stays { IfOk result (λ id. IsSteady name_seen scope.new id) }
+    ensures tables { scope.new.tables ≡ scope.old.tables }
 {
     named_id(written, &mut scope.names, numbering, tokens)
 }
@@ -96,6 +97,7 @@ pub fn result_id(
     ensures grows { Widens scope.old scope.new }
     ensures names { Gives (λ r. (result_seen scope.new r, numbering.new.next)) result (named_result numbering.old.next ty None) }
     ensures stays { IfOk result (λ r. IsSteady result_seen scope.new r) }
+    ensures tables { scope.new.tables ≡ scope.old.tables }
 {
     match ty {
         Ty::Int(_) | Ty::Ptr | Ty::Vector(_, _) => {

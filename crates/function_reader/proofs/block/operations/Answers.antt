@@ -17,6 +17,7 @@ use Rattle.ir_reader_ops.proofs.Widening.{widens_trans}
 use Rattle.ir_reader_ops.proofs.Pushing.{push_seen, push_steady}
 use Rattle.type_reader.proofs.Same.{gives_failed}
 use Rattle.function_reader.specs.Blocks.{insts_in}
+use Rattle.function_reader.proofs.Using.{uses_inst}
 use Rattle.function_reader.proofs.block.operations.Goals as goal
 
 pub more-smaller : goal.more-smaller
@@ -35,11 +36,13 @@ more-preserved c =
     let inst = c.in_ok-inst.inst in
     let insts = c.more.insts.items in
     let same = ap (λ (d : Definitions). completed (numbered_inst c.more.numbering.next) (read (line (operation d)) (left c.more.rest))) (sym c.more.invariant.grows.definitions) ∙ c.in_ok-inst.ensures.reads in
+    let seen = push_seen inst_seen before now insts c.push.new.self.items inst c.in_ok-push.ensures.items grows c.more.invariant.stays in
     record {
       grows = widens_trans c.args.scope.now before now c.more.invariant.grows grows;
-      reads = rw (push_seen inst_seen before now insts c.push.new.self.items inst c.in_ok-push.ensures.items grows c.more.invariant.stays)
+      reads = rw seen
           (goes_completed form numbered_inst (insts_in before insts) c.more.numbering.next c.line.new.numbering.next (inst_seen now inst) (left c.more.rest) (left c.in_ok-inst.after)
           (completed (walk numbered_inst c.args.numbering.now.next) (read (many form) (left c.args.tokens))) (line_takes defs) (sym (c.begins_line.ensures defs) ∙ c.more-test.true) same c.more.invariant.reads);
+      uses = rw seen (uses_inst c.args.scope.now.tables before.tables now.tables (insts_in before insts) (inst_seen now inst) c.more.invariant.uses c.in_ok-inst.ensures.uses);
       stays = push_steady inst_seen before now insts c.push.new.self.items inst c.in_ok-push.ensures.items grows c.more.invariant.stays c.in_ok-inst.ensures.stays;
     }
 

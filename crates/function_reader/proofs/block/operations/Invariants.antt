@@ -6,6 +6,7 @@ use Rattle.forms.specs.Gives.{left}
 use Rattle.forms.proofs.Walks.{so_far}
 use Rattle.ir_types.specs.Grammar.{line, operation}
 use Rattle.ir_types.specs.Numbered.{numbered_inst}
+use Rattle.type_reader.specs.Uses.{InstsUse}
 use Rattle.ir_reader_ops.specs.Seen.{definitions, inst_seen, Widens, AreSteady}
 use Rattle.function_reader.specs.Blocks.{insts_in}
 use Rattle.function_reader.proofs.block.operations.Given as goal
@@ -17,5 +18,6 @@ abbrev pub invariant-more : goal.invariant-more
 invariant-more l = record {
   grows : Widens l.fn.scope l.scope;
   reads : so_far (insts_in l.scope l.insts.items) (completed (walk numbered_inst l.numbering.next) (read (many (line (operation (definitions l.fn.scope)))) (left l.rest))) ≡ completed (walk numbered_inst l.fn.numbering.next) (read (many (line (operation (definitions l.fn.scope)))) (left l.fn.tokens));
+  uses : InstsUse l.fn.scope.tables (insts_in l.scope l.insts.items) l.scope.tables;
   stays : AreSteady inst_seen l.scope l.insts.items;
 }

@@ -14,6 +14,7 @@ use Rattle.ir_reader_ops.proofs.Widening.{widens_trans}
 use Rattle.ir_reader_ops.proofs.Pushing.{push_seen, push_steady}
 use Rattle.type_reader.proofs.Same.{gives_failed}
 use Rattle.function_reader.specs.Blocks.{insts_in, block_read}
+use Rattle.function_reader.proofs.Using.{uses_inst}
 use Rattle.function_reader.proofs.Parts.{block_found, insts_refused, last_refused}
 use Rattle.function_reader.proofs.block.parts.Goals as goal
 
@@ -35,6 +36,17 @@ returns-clause-reads c =
     rw (name, others)
     (block_found defs c.args.numbering.now.next (name_seen a.scope c.in_ok-name.name, a.numbering.next) (insts_in b.scope before, b.numbering.next) (inst_seen n.scope last, n.numbering.next)
     (left c.args.tokens) (left c.in_ok-name.rest) (left c.in_ok-insts.rest) (left c.in_ok-last.rest) c.in_ok-name.ensures.reads insts-read last-read)
+
+pub returns-clause-uses : goal.returns-clause-uses
+returns-clause-uses c =
+    let a = c.block_name.new.scope in
+    let b = c.operations.new.scope in
+    let n = c.line.new.scope in
+    let before = c.in_ok-insts.insts.items in
+    let last = c.in_ok-last.last in
+    let all : c.from_vec.result ≡ before ++ last ∷ [] = c.from_vec.ensures ∙ c.in_ok-push.ensures.items in
+    rw (push_seen inst_seen b n before c.from_vec.result last all c.in_ok-last.ensures.grows c.in_ok-insts.ensures.stays, sym c.in_ok-name.ensures.tables)
+    (uses_inst a.tables b.tables n.tables (insts_in b before) (inst_seen n last) c.in_ok-insts.ensures.uses c.in_ok-last.ensures.uses)
 
 pub returns-clause-stays : goal.returns-clause-stays
 returns-clause-stays c = λ later e.
@@ -59,6 +71,14 @@ returns-in_err-insts-clause-reads c =
     rw (p.1, p.2) (gives_failed (λ (x : Vec Inst Global × Cursor). ((insts_in b.scope x.0.items, b.numbering.next), left x.1)) (λ x. x) c.in_err-insts.field-0.0 _ (block_read defs c.args.numbering.now.next (left c.args.tokens))
     (λ e. insts_refused defs c.args.numbering.now.next (name_seen a.scope c.in_ok-name.name, a.numbering.next) (left c.args.tokens) (left c.in_ok-name.rest) c.in_ok-name.ensures.reads (same ∙ e))
     c.in_err-insts.ensures.reads)
+
+pub returns-in_err-last-clause-grows : goal.returns-in_err-last-clause-grows
+returns-in_err-last-clause-grows c =
+    let old = c.args.scope.now in
+    let a = c.block_name.new.scope in
+    let b = c.operations.new.scope in
+    let n = c.line.new.scope in
+    widens_trans old b n (widens_trans old a b c.in_ok-name.ensures.grows c.in_ok-insts.ensures.grows) c.in_err-last.ensures.grows
 
 pub returns-in_err-last-clause-reads : goal.returns-in_err-last-clause-reads
 returns-in_err-last-clause-reads c =

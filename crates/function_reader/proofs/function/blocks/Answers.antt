@@ -17,6 +17,7 @@ use Rattle.ir_reader_ops.proofs.Pushing.{push_seen, push_steady}
 use Rattle.type_reader.proofs.Same.{gives_failed}
 use Rattle.function_reader.specs.Blocks.{block_seen}
 use Rattle.function_reader.specs.Functions.{blocks_in}
+use Rattle.function_reader.proofs.Using.{uses_block}
 use Rattle.function_reader.proofs.function.blocks.Goals as goal
 
 pub more-smaller : goal.more-smaller
@@ -34,11 +35,13 @@ more-preserved c =
     let next = c.in_ok-next.next in
     let body = c.more.body.items in
     let same = ap (λ (d : Definitions). completed (numbered_block c.more.numbering.next) (read (block d) (left c.more.rest))) (sym c.more.invariant.grows.definitions) ∙ c.in_ok-next.ensures.reads in
+    let seen = push_seen block_seen before now body c.push-in-more.new.self.items next c.in_ok-push-2.ensures.items grows c.more.invariant.stays in
     record {
       grows = widens_trans c.args.scope.now before now c.more.invariant.grows grows;
-      reads = rw (push_seen block_seen before now body c.push-in-more.new.self.items next c.in_ok-push-2.ensures.items grows c.more.invariant.stays)
+      reads = rw seen
           (goes_completed (block defs) numbered_block (blocks_in before body) c.more.numbering.next c.block-in-more.new.numbering.next (block_seen now next) (left c.more.rest) (left c.in_ok-next.after)
           (completed (walk numbered_block c.args.numbering.now.next) (read (some (block defs)) (left c.args.tokens))) (block_takes defs) (sym (c.begins_block.ensures defs) ∙ c.more-test.true) same c.more.invariant.reads);
+      uses = rw seen (uses_block c.args.scope.now.tables before.tables now.tables (blocks_in before body) (block_seen now next) c.more.invariant.uses c.in_ok-next.ensures.uses);
       stays = push_steady block_seen before now body c.push-in-more.new.self.items next c.in_ok-push-2.ensures.items grows c.more.invariant.stays c.in_ok-next.ensures.stays;
     }
 

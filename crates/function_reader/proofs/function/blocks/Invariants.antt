@@ -6,9 +6,10 @@ use Rattle.forms.specs.Gives.{left}
 use Rattle.forms.proofs.Walks.{so_far}
 use Rattle.ir_types.specs.Grammar.{block, some}
 use Rattle.ir_types.specs.Numbered.{numbered_block}
+use Rattle.type_reader.specs.Uses.{InstsUse}
 use Rattle.ir_reader_ops.specs.Seen.{definitions, Widens, AreSteady}
 use Rattle.function_reader.specs.Blocks.{block_seen}
-use Rattle.function_reader.specs.Functions.{blocks_in}
+use Rattle.function_reader.specs.Functions.{blocks_in, insts_among}
 use Rattle.function_reader.proofs.function.blocks.Given as goal
 
 abbrev pub decreases-more : goal.decreases-more
@@ -18,5 +19,6 @@ abbrev pub invariant-more : goal.invariant-more
 invariant-more l = record {
   grows : Widens l.fn.scope l.scope;
   reads : so_far (blocks_in l.scope l.body.items) (completed (walk numbered_block l.numbering.next) (read (many (block (definitions l.fn.scope))) (left l.rest))) ≡ completed (walk numbered_block l.fn.numbering.next) (read (some (block (definitions l.fn.scope))) (left l.fn.tokens));
+  uses : InstsUse l.fn.scope.tables (insts_among (blocks_in l.scope l.body.items)) l.scope.tables;
   stays : AreSteady block_seen l.scope l.body.items;
 }

@@ -30,6 +30,11 @@ returns-clause-reads c =
     (left c.args.tokens) (left c.in_ok-before.rest) (left c.in_ok-ret.rest) (left c.in_ok-name.rest) (left c.in_ok-params.rest) (left c.in_ok-after.rest) (left c.in_ok-body.rest)
     c.in_ok-before.ensures c.in_ok-ret.ensures c.in_ok-name.ensures params-read c.in_ok-after.ensures body-read)
 
+pub returns-clause-uses : goal.returns-clause-uses
+returns-clause-uses c =
+    let body = ap (λ (l : List Block). blocks_in c.enclosed_blocks.new.scope l) c.from_vec-2.ensures in
+    rw (body, sym c.in_ok-params.ensures.tables) c.in_ok-body.ensures.uses
+
 pub returns-clause-stays : goal.returns-clause-stays
 returns-clause-stays c = λ later e.
     let p = c.scoped_params.new.scope in
