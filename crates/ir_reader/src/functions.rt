@@ -10,7 +10,7 @@ ghost use Rattle.type_reader.specs.Tables.{TableLists, tables_in, definitions_of
 ghost use Rattle.ir_reader.specs.Gathered.{skimmed_of};
 ghost use Rattle.ir_reader.specs.Reading.{function_read, functions_read};
 
-use forms::SyntaxFault;
+use forms::{Cursor, SyntaxFault};
 use function_reader::{declared, defined};
 use ir_types::Function;
 use item_reader::FunctionSource;
@@ -52,4 +52,22 @@ pub fn functions(
         functions.push(function)?;
     }
     Ok(functions)
+}
+
+/// Reads the function with which the tokens begin, if one does, whether or not its brackets match.
+///
+/// # Errors
+///
+/// Where it can't be read, with the place at which reading stops, or there is no room.
+pub fn try_function(
+    alloc: Global,
+    tokens: Cursor<'_>,
+    tables: &mut Tables,
+) -> Result<(), SyntaxFault> {
+    if let Some(rest) = tokens.behind_word(b"define") {
+        defined(alloc, rest, tables)?;
+    } else if let Some(rest) = tokens.behind_word(b"declare") {
+        declared(alloc, rest)?;
+    }
+    Ok(())
 }
