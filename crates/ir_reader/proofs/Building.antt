@@ -1,22 +1,23 @@
 -- The module of tables and functions denotes what the items are collected to.
-use Rattle.std.proofs.Common.{◌≡◌, ◌≤◌, ◌<◌, ◌⊎◌, ℕ, zero, suc, List, [], ◌∷◌, ◌++◌, length, map, drop, Option, Some, None, Result, Ok, Err, inl, inr, refl, sym, ap, ◌∙◌, subst, arith}
-use Rattle.std.specs.Prelude.{slice_get, IfOk}
+use Rattle.std.proofs.Common.{◌≡◌, ℕ, suc, List, [], ◌∷◌, ◌++◌, length, map, drop, Option, Some, None, Result, Ok, Err, refl, sym, ap, ◌∙◌, append_assoc}
+use Rattle.std.specs.Prelude.{IfOk}
 use Rattle.std.specs.declared.alloc.AllocError.{AllocError}
 use Rattle.std.specs.Option.{option_map}
 use Rattle.std.specs.List.{AllByRecursion, filter_map, cons_option}
 use Rattle.std.proofs.Math.Seq.{drop-append_seam}
-use Rattle.std.proofs.lemmas.Bool.{cases_lt}
 use Rattle.std.proofs.lemmas.List.{map-append, length-map, append-nil}
 use Rattle.std.proofs.lemmas.List.Elements.{filter_map-append}
-use Rattle.std.proofs.lemmas.Option.{slice_get-map}
 use Rattle.forms.specs.declared.cursor.SyntaxFault.{SyntaxFault}
 use Rattle.forms.specs.declared.cursor.SyntaxFault.TheVariants.{NoReading, Memory}
 use Rattle.forms.specs.Gives.{Gives}
+use Rattle.forms.specs.Nested.{concat}
 use Rattle.forms.specs.Reading.{◌>>=◌}
+use Rattle.forms.proofs.Parts.{some_is}
 use Rattle.text_lex.specs.declared.fault.Count.{Count}
 use Rattle.ir_types.specs.declared.name.Name.{Name}
 use Rattle.ir_types.specs.declared.module.Function.{Function}
 use Rattle.ir_types.specs.declared.module.Symbol.{Symbol}
+use Rattle.ir_types.specs.declared.module.SymbolKind.{SymbolKind}
 use Rattle.ir_types.specs.declared.module.SymbolKind.TheVariants as kinds
 use Rattle.ir_types.specs.declared.module.Module.{Module}
 use Rattle.ir_types.specs.declared.memory_type.MemTy.{MemTy}
@@ -25,35 +26,36 @@ use Rattle.ir_types.specs.declared.memory_type.TypeName.{TypeName}
 use Rattle.ir_types.specs.declared.memory_type.NamedType.{NamedType}
 use Rattle.ir_types.specs.declared.memory_type.NamedType.TheVariants.{Defined, Opaque, Missing}
 use Rattle.ir_types.specs.Names.{IsTable}
-use Rattle.ir_types.specs.Tree.{KeptTexts, TypeNameTree, SymbolTree, FunctionTree, ModuleTree, Item}
+use Rattle.ir_types.specs.Names.{unknown}
+use Rattle.ir_types.specs.Tree.{KeptTexts, TypeNameTree, SymbolTree, InstTree, FunctionTree, ModuleTree, Item}
 use Rattle.ir_types.specs.Offsets.{Definitions, definitions_in}
 use Rattle.ir_types.specs.Skimmed.{Skimmed}
-use Rattle.ir_types.specs.Denotes.{Tables, type_names_of, type_name_in, tables_of, function_in, AreMissingApart, Denotes}
+use Rattle.ir_types.specs.Denotes.{Tables, type_names_of, type_name_in, tables_of, function_in, IsBare, Denotes}
+use Rattle.ir_types.specs.Used.{types_of_definition, types_of_symbol, types_of, operands_of, symbols_of, insts_of, with_unknown, all_type_names, all_symbol_names}
 use Rattle.ir_types.specs.Collected.{as_head, as_comdat, as_type, as_variable, as_function, as_attributes, as_metadata, symbol_of, symbols_from, collected}
 use Rattle.ir_limits.specs.Mentioned.{in_items}
 use Rattle.ir_limits.specs.Limits.{first_long, passed_by, limit_passed}
-use Rattle.type_reader.specs.TypeTable.{names_of}
+use Rattle.type_reader.specs.TypeTable.{names_of, missing_entry}
 use Rattle.type_reader.specs.Tables.{TableLists, tables_in, definition_over, definitions_of, Grows, AreTables}
+use Rattle.type_reader.specs.Uses.{InstsUse}
+use Rattle.type_reader.proofs.LookUps.{names_append, missing_names}
+use Rattle.item_reader.specs.declared.part.Definition.{Definition}
 use Rattle.item_reader.specs.declared.part.Variable.{Variable}
 use Rattle.item_reader.specs.declared.source.FunctionSource.{FunctionSource}
 use Rattle.item_reader.specs.Parts.{variable_of}
 use Rattle.ir_reader.specs.declared.gather.Gathered.{Gathered}
 use Rattle.ir_reader.specs.declared.longs.ItemLong.{ItemLong}
-use Rattle.ir_reader.specs.Gathered.{skimmed_of, function_among, long_among, Holds}
+use Rattle.ir_reader.specs.Gathered.{definition_of, skimmed_of, function_among, long_among, Holds}
 use Rattle.ir_reader.specs.Trees.{symbol_over, variable_symbol, function_symbols, missing_symbol}
-use Rattle.ir_reader.specs.Typed.{all_symbols, ArePrepared}
+use Rattle.ir_reader.specs.Typed.{definition_uses, variable_uses, all_symbols, ArePrepared}
 use Rattle.ir_reader.specs.Reading.{functions_read, filled_items, IsModule, GivesModule}
 use Rattle.ir_reader.proofs.Filling.{put, filled_is}
 use Rattle.ir_reader.proofs.Groups as groups
+use Rattle.ir_reader.proofs.Usage.{unknown_further}
 use Rattle.ir_reader.proofs.Outlines.{names_read}
 use Rattle.ir_reader.proofs.Symbolic.{symbols_named}
 
 -- ---- lists of which some stand for nothing
-
-got_first : {A : Type 0} (xs ys : List A) (i : ℕ) (x : A) → i < length xs → slice_get (xs ++ ys) i ≡ Some x → slice_get xs i ≡ Some x
-got_first [] ys i x lt e = absurd (omega arith)
-got_first (z ∷ xs) ys zero x lt e = e
-got_first (z ∷ xs) ys (suc i) x lt e = got_first xs ys i x (omega arith) e
 
 all_there : {A B : Type 0} (f : A → Option B) (xs : List A) (ys : List B) → map f xs ≡ map Some ys → filter_map f xs ≡ ys
 all_there f [] [] e = refl
@@ -63,16 +65,6 @@ all_there f (x ∷ xs) (y ∷ ys) e =
     let here : f x ≡ Some y = cc in
     let there : map f xs ≡ map Some ys = cc in
     rw here (ap (λ (l : List _). y ∷ l) (all_there f xs ys there))
-
-one_there : {A B : Type 0} (f : A → Option B) (xs : List A) (ys : List B) (i : ℕ) (x : A) → map f xs ≡ map Some ys → slice_get xs i ≡ Some x → f x ≡ None → ⊥
-one_there f [] ys i x e at n = cc
-one_there f (y ∷ xs) [] i x e at n = cc
-one_there f (y ∷ xs) (z ∷ ys) zero x e at n =
-    let here : f y ≡ Some z = cc in
-    let same : y ≡ x = cc in
-    let none : f y ≡ None = ap f same ∙ n in
-    cc
-one_there f (y ∷ xs) (z ∷ ys) (suc i) x e at n = let there : map f xs ≡ map Some ys = cc in one_there f xs ys i x there at n
 
 one_mapped : {B C : Type 0} (g : B → C) (o : Option B) (bs : List B) (cs : List C) → cs ≡ map g bs → cons_option (option_map g o) cs ≡ map g (cons_option o bs)
 one_mapped g None bs cs e = e
@@ -101,12 +93,9 @@ missing_named : (ns : List Name) → map (λ (s : Symbol). s.name) (map missing_
 missing_named [] = refl
 missing_named (n ∷ ns) = ap (λ (l : List Name). n ∷ l) (missing_named ns)
 
-symbols_of : (vs : List Variable) → map variable_symbol vs ≡ map symbol_of (map variable_of vs)
-symbols_of [] = refl
-symbols_of (v ∷ vs) = ap (λ (l : List SymbolTree). variable_symbol v ∷ l) (symbols_of vs)
-
-missing_over : (names : List Name) (types : List MemTy) (s : Symbol) → s.kind ≡ kinds.Missing → symbol_over names types s ≡ None
-missing_over names types s e = rw e refl
+symbols_of_variables : (vs : List Variable) → map variable_symbol vs ≡ map symbol_of (map variable_of vs)
+symbols_of_variables [] = refl
+symbols_of_variables (v ∷ vs) = ap (λ (l : List SymbolTree). variable_symbol v ∷ l) (symbols_of_variables vs)
 
 -- the parts of a module's tree
 abbrev tree_so : List KeptTexts → List TypeNameTree → List SymbolTree → List FunctionTree → List KeptTexts → ModuleTree
@@ -115,10 +104,69 @@ tree_so head names symbols functions tail = record { head = head; type_names = n
 same_parts : (h i : List KeptTexts) (n o : List TypeNameTree) (s t : List SymbolTree) (f g : List FunctionTree) (u v : List KeptTexts) → h ≡ i → n ≡ o → s ≡ t → f ≡ g → u ≡ v → tree_so h n s f u ≡ tree_so i o t g v
 same_parts h i n o s t f g u v a b c d e = cc
 
+-- ---- what its parts use
+
+each_definition : (ds : List Definition) → map (λ (n : TypeNameTree). types_of_definition n.ty) (map groups.type_tree (map definition_of ds)) ≡ map definition_uses ds
+each_definition [] = refl
+each_definition (d ∷ ds) = ap (λ (l : List (List Name)). definition_uses d ∷ l) (each_definition ds)
+
+named_definitions : (ds : List Definition) → map (λ (n : TypeNameTree). n.name) (map groups.type_tree (map definition_of ds)) ≡ map (λ (d : Definition). d.name) ds
+named_definitions [] = refl
+named_definitions (d ∷ ds) = ap (λ (l : List Name). d.name ∷ l) (named_definitions ds)
+
+functions_use : (i : ℕ) (ns : List Name) → concat (map (λ (s : SymbolTree). types_of_symbol s.kind) (function_symbols i ns)) ≡ []
+functions_use i [] = refl
+functions_use i (n ∷ ns) = functions_use (suc i) ns
+
+each_symbol : (vs : List Variable) (i : ℕ) (ns : List Name) → concat (map (λ (s : SymbolTree). types_of_symbol s.kind) (map variable_symbol vs ++ function_symbols i ns)) ≡ concat (map variable_uses vs)
+each_symbol [] i ns = functions_use i ns
+each_symbol (v ∷ vs) i ns = ap (λ (l : List Name). variable_uses v ++ l) (each_symbol vs i ns)
+
+-- ---- symbols that are defined or declared
+
+module _ (names : List Name) (types : List MemTy) where
+  -- one that stands for something has its name
+  its_name : (s : Symbol) (tree : SymbolTree) → symbol_over names types s ≡ Some tree → s.name ≡ tree.name
+  its_name s tree e = by s.kind refl
+    where
+      by : (k : SymbolKind) → s.kind ≡ k → s.name ≡ tree.name
+      by (kinds.Variable id writable) k = ap (λ (u : SymbolTree). u.name) (some_is _ tree (rw k at e))
+      by (kinds.Function f) k = ap (λ (u : SymbolTree). u.name) (some_is _ tree (rw k at e))
+      by kinds.Missing k = absurd (cc (rw k at e))
+
+  same_named : (ss : List Symbol) (trees : List SymbolTree) → map (symbol_over names types) ss ≡ map Some trees → map (λ (s : Symbol). s.name) ss ≡ map (λ (s : SymbolTree). s.name) trees
+  same_named [] [] e = refl
+  same_named [] (t ∷ ts) e = absurd cc
+  same_named (s ∷ ss) [] e = absurd cc
+  same_named (s ∷ ss) (t ∷ ts) e =
+      let here : symbol_over names types s ≡ Some t = cc in
+      let there : map (symbol_over names types) ss ≡ map Some ts = cc in
+      rw (its_name s t here) (ap (λ (l : List Name). t.name ∷ l) (same_named ss ts there))
+
+  is_bare : (s : Symbol) (tree : SymbolTree) → symbol_over names types s ≡ Some tree → IsBare s
+  is_bare s tree e = by s.kind refl
+    where
+      by : (k : SymbolKind) → s.kind ≡ k → IsBare s
+      by (kinds.Variable id writable) k = rw k tt
+      by (kinds.Function f) k = rw k tt
+      by kinds.Missing k = absurd (cc (rw k at e))
+
+  missing_bare : (ns : List Name) → AllByRecursion IsBare (map missing_symbol ns)
+  missing_bare [] = tt
+  missing_bare (n ∷ ns) = ((refl, refl), missing_bare ns)
+
+  bare_behind : (ss : List Symbol) (trees : List SymbolTree) → map (symbol_over names types) ss ≡ map Some trees → (ns : List Name) → AllByRecursion IsBare (ss ++ map missing_symbol ns)
+  bare_behind [] trees e ns = missing_bare ns
+  bare_behind (s ∷ ss) [] e ns = absurd cc
+  bare_behind (s ∷ ss) (t ∷ ts) e ns =
+      let here : symbol_over names types s ≡ Some t = cc in
+      let there : map (symbol_over names types) ss ≡ map Some ts = cc in
+      (is_bare s t here, bare_behind ss ts there ns)
+
 -- ---- the module
 
 module _ (g : Gathered) (items : List (Item Skimmed)) (h : Holds g items) (old t : TableLists) (symbols : List Symbol) (fs : List Function) (p : ArePrepared g.definitions.items g.variables.items g.functions.items old symbols) (grows : Grows old t)
-    (reads : functions_read (definitions_of old) (map skimmed_of g.functions.items) ≡ Some (map (function_in (tables_in t)) fs)) where
+    (reads : functions_read (definitions_of old) (map skimmed_of g.functions.items) ≡ Some (map (function_in (tables_in t)) fs)) (u : InstsUse old (concat (map insts_of (map (function_in (tables_in t)) fs))) t) where
   abbrev trees : List FunctionTree
   trees = map (function_in (tables_in t)) fs
 
@@ -178,38 +226,68 @@ module _ (g : Gathered) (items : List (Item Skimmed)) (h : Holds g items) (old t
   symbols_are : map (symbol_over (names_of t.entries) t.types) symbols ≡ map Some (all_symbols g.variables.items g.functions.items)
   symbols_are = p.stand t grows
 
-  all_symbols_are : filter_map (symbol_over (names_of t.entries) t.types) all ≡ map symbol_of (filter_map as_variable numbered) ++ symbols_from 0 (filter_map as_function numbered)
-  all_symbols_are =
+  symbols_there : filter_map (symbol_over (names_of t.entries) t.types) all ≡ all_symbols g.variables.items g.functions.items
+  symbols_there =
       let over = symbol_over (names_of t.entries) t.types in
-      let vs = g.variables.items in
-      let variables : map variable_symbol vs ≡ map symbol_of (filter_map as_variable numbered) = symbols_of vs ∙ ap (map symbol_of) (h.variables ∙ sym (groups.variables items trees)) in
-      let functions : function_symbols 0 (map (λ (s : FunctionSource). s.name) g.functions.items) ≡ symbols_from 0 (filter_map as_function numbered) =
-      ap (function_symbols 0) (sym same_names) ∙ sym (symbols_named 0 trees) ∙ ap (symbols_from 0) (sym all_functions) in
       filter_map-append over symbols (map missing_symbol used)
       ∙ ap (λ (l : List SymbolTree). filter_map over symbols ++ l) (none_said (names_of t.entries) t.types used)
       ∙ append-nil (filter_map over symbols)
-      ∙ all_there over symbols (all_symbols vs g.functions.items) symbols_are
-      ∙ ap (λ (l : List SymbolTree). l ++ function_symbols 0 (map (λ (s : FunctionSource). s.name) g.functions.items)) variables
+      ∙ all_there over symbols (all_symbols g.variables.items g.functions.items) symbols_are
+
+  symbol_trees : all_symbols g.variables.items g.functions.items ≡ map symbol_of (filter_map as_variable numbered) ++ symbols_from 0 (filter_map as_function numbered)
+  symbol_trees =
+      let vs = g.variables.items in
+      let variables : map variable_symbol vs ≡ map symbol_of (filter_map as_variable numbered) = symbols_of_variables vs ∙ ap (map symbol_of) (h.variables ∙ sym (groups.variables items trees)) in
+      let functions : function_symbols 0 (map (λ (s : FunctionSource). s.name) g.functions.items) ≡ symbols_from 0 (filter_map as_function numbered) =
+      ap (function_symbols 0) (sym same_names) ∙ sym (symbols_named 0 trees) ∙ ap (symbols_from 0) (sym all_functions) in
+      ap (λ (l : List SymbolTree). l ++ function_symbols 0 (map (λ (s : FunctionSource). s.name) g.functions.items)) variables
       ∙ ap (λ (l : List SymbolTree). map symbol_of (filter_map as_variable numbered) ++ l) functions
 
-  -- a symbol that is missing stands behind those that are defined or declared
-  missing_behind : (i : ℕ) (x : Symbol) → slice_get all i ≡ Some x → x.kind ≡ kinds.Missing → length symbols ≤ i
-  missing_behind i x at m = by (cases_lt i (length symbols))
-    where
-      by : (i < length symbols) ⊎ (length symbols ≤ i) → length symbols ≤ i
-      by (inl lt) = absurd (one_there (symbol_over (names_of t.entries) t.types) symbols (all_symbols g.variables.items g.functions.items) i x symbols_are (got_first symbols (map missing_symbol used) i x lt at) (missing_over (names_of t.entries) t.types x m))
-      by (inr le) = le
+  -- ---- names that are only used
 
-  got_name : (i : ℕ) (x : Symbol) → slice_get all i ≡ Some x → slice_get t.symbols i ≡ Some x.name
-  got_name i x e =
-      let name = λ (s : Symbol). s.name in
-      subst (λ (l : List Name). slice_get l i ≡ Some x.name) named (slice_get-map name all i ∙ ap (option_map name) e)
+  abbrev insts : List InstTree
+  insts = concat (map insts_of trees)
 
-  apart : AreTables t → AreMissingApart (λ (s : Symbol). s.name) (λ (s : Symbol). s.kind ≡ kinds.Missing) all
-  apart are = λ i j x y a b m d e.
-      let behind = missing_behind i x a m in
-      let le : t.known ≤ i = omega (arith, behind, grows.known, p.known) in
-      d (are.symbols_apart i j x.name le (got_name i x a) (got_name j y b ∙ ap (λ (n : Name). Some n) (sym e)))
+  definitions_are : filter_map as_type numbered ≡ map groups.type_tree (map definition_of g.definitions.items)
+  definitions_are = groups.types items trees ∙ ap (map groups.type_tree) (sym h.definitions)
+
+  used_by_types : concat (map (λ (n : TypeNameTree). types_of_definition n.ty) (filter_map as_type numbered)) ≡ concat (map definition_uses g.definitions.items)
+  used_by_types = ap (λ (l : List TypeNameTree). concat (map (λ (n : TypeNameTree). types_of_definition n.ty) l)) definitions_are ∙ ap concat (each_definition g.definitions.items)
+
+  used_by_symbols : concat (map (λ (s : SymbolTree). types_of_symbol s.kind) (map symbol_of (filter_map as_variable numbered) ++ symbols_from 0 (filter_map as_function numbered))) ≡ concat (map variable_uses g.variables.items)
+  used_by_symbols =
+      let uses = λ (s : SymbolTree). types_of_symbol s.kind in
+      ap (λ (l : List SymbolTree). concat (map uses l)) (sym symbol_trees) ∙ each_symbol g.variables.items 0 (map (λ (f : FunctionSource). f.name) g.functions.items)
+
+  all_type_names_are : names_of t.entries ≡ all_type_names (collected numbered)
+  all_type_names_are =
+      let defined = map (λ (d : Definition). d.name) g.definitions.items in
+      let definitions = concat (map definition_uses g.definitions.items) in
+      let variables = concat (map variable_uses g.variables.items) in
+      let looked : names_of t.entries ≡ with_unknown (names_of old.entries) (types_of insts) =
+      ap names_of u.entries
+      ∙ names_append old.entries (map missing_entry (unknown (names_of old.entries) (types_of insts)))
+      ∙ ap (λ (l : List Name). names_of old.entries ++ l) (missing_names (unknown (names_of old.entries) (types_of insts))) in
+      unknown_further defined (names_of old.entries) (names_of t.entries) (definitions ++ variables) (types_of insts) p.type_names looked
+      ∙ ap (with_unknown defined) (append_assoc definitions variables (types_of insts))
+      ∙ ap (λ (l : List Name). with_unknown l (definitions ++ (variables ++ types_of insts))) (sym (ap (map (λ (n : TypeNameTree). n.name)) definitions_are ∙ named_definitions g.definitions.items))
+      ∙ ap (with_unknown (map (λ (n : TypeNameTree). n.name) (filter_map as_type numbered)))
+      (ap (λ (l : List Name). l ++ (variables ++ types_of insts)) (sym used_by_types)
+      ∙ ap (λ (l : List Name). concat (map (λ (n : TypeNameTree). types_of_definition n.ty) (filter_map as_type numbered)) ++ (l ++ types_of insts)) (sym used_by_symbols)
+      ∙ ap (λ (l : List FunctionTree). concat (map (λ (n : TypeNameTree). types_of_definition n.ty) (filter_map as_type numbered)) ++ (concat (map (λ (s : SymbolTree). types_of_symbol s.kind) (map symbol_of (filter_map as_variable numbered) ++ symbols_from 0 (filter_map as_function numbered))) ++ types_of (concat (map insts_of l)))) (sym all_functions))
+
+  all_symbol_names_are : map (λ (s : Symbol). s.name) all ≡ all_symbol_names (collected numbered)
+  all_symbol_names_are =
+      let over = symbol_over (names_of t.entries) t.types in
+      let known : old.symbols ≡ map (λ (s : SymbolTree). s.name) (map symbol_of (filter_map as_variable numbered) ++ symbols_from 0 (filter_map as_function numbered)) =
+      p.named ∙ same_named (names_of t.entries) t.types symbols (all_symbols g.variables.items g.functions.items) symbols_are ∙ ap (map (λ (s : SymbolTree). s.name)) symbol_trees in
+      named
+      ∙ u.symbols
+      ∙ ap (λ (l : List Name). with_unknown l (symbols_of (operands_of insts))) known
+      ∙ ap (λ (l : List FunctionTree). with_unknown (map (λ (s : SymbolTree). s.name) (map symbol_of (filter_map as_variable numbered) ++ symbols_from 0 (filter_map as_function numbered))) (symbols_of (operands_of (concat (map insts_of l))))) (sym all_functions)
+
+  all_bare : AllByRecursion IsBare all
+  all_bare = bare_behind (names_of t.entries) t.types symbols (all_symbols g.variables.items g.functions.items) symbols_are used
 
   denotes : (head tail : List KeptTexts) → head ≡ g.head.items ++ g.comdats.items → tail ≡ g.attributes.items ++ g.metadata.items → AreTables t → AllByRecursion (λ (f : Function). IsTable f.names) fs → Denotes (module_over t head all fs tail) (collected numbered)
   denotes head tail a b are tables =
@@ -220,12 +298,13 @@ module _ (g : Gathered) (items : List (Item Skimmed)) (h : Holds g items) (old t
       b ∙ ap (λ (l : List KeptTexts). l ++ g.metadata.items) (h.attributes ∙ sym (groups.attributes items trees)) ∙ ap (λ (l : List KeptTexts). filter_map as_attributes numbered ++ l) (h.metadata ∙ sym (groups.metadata items trees)) in
       let seen : map (function_in (tables_of m)) fs ≡ filter_map as_function numbered = ap (λ (l : List Name). map (function_in (record { symbols = l; type_names = names_of t.entries; types = t.types })) fs) named ∙ sym all_functions in
       record {
-        says = same_parts _ _ _ _ _ _ _ _ _ _ heads (all_types m refl) all_symbols_are seen tails;
+        says = same_parts _ _ _ _ _ _ _ _ _ _ heads (all_types m refl) (symbols_there ∙ symbol_trees) seen tails;
         tables = tables;
         types = are.types_are;
         extents = are.extents_are;
-        missing_types = are.entries_apart;
-        missing_symbols = apart are;
+        type_names = all_type_names_are;
+        symbols = all_symbol_names_are;
+        bare = all_bare;
       }
 
   limit : passed_by trees (long_among g.longs.items trees) ≡ limit_passed numbered

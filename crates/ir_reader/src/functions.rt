@@ -3,10 +3,13 @@
 ghost use Rattle.std.specs.Prelude.{◌≡◌, map, IfOk};
 ghost use Rattle.std.specs.List.{AllByRecursion};
 ghost use Rattle.forms.specs.Gives.{Gives};
+ghost use Rattle.forms.specs.Nested.{concat};
 ghost use Rattle.ir_types.specs.declared.module.Function.{Function};
 ghost use Rattle.ir_types.specs.Names.{IsTable};
 ghost use Rattle.ir_types.specs.Denotes.{function_in};
+ghost use Rattle.ir_types.specs.Used.{insts_of};
 ghost use Rattle.type_reader.specs.Tables.{TableLists, tables_in, definitions_of, Grows};
+ghost use Rattle.type_reader.specs.Uses.{InstsUse};
 ghost use Rattle.ir_reader.specs.Gathered.{skimmed_of};
 ghost use Rattle.ir_reader.specs.Reading.{function_read, functions_read};
 
@@ -27,6 +30,7 @@ fn function(
     ensures reads { Gives (λ f. function_in (tables_in tables.new) f) result (function_read (definitions_of tables.old) (skimmed_of source.now)) }
     ensures stays { IfOk result (λ f. (later : TableLists) → Grows tables.new later → function_in (tables_in later) f ≡ function_in (tables_in tables.new) f) }
     ensures table { IfOk result (λ f. IsTable f.names) }
+    ensures uses { IfOk result (λ f. InstsUse tables.old (insts_of (function_in (tables_in tables.new) f)) tables.new) }
 {
     if source.defined {
         let (function, _) = defined(alloc, source.tokens, tables)?;
@@ -45,6 +49,7 @@ pub fn functions(
     ensures grows { Grows tables.old tables.new }
     ensures reads { Gives (λ fs. map (function_in (tables_in tables.new)) fs.items) result (functions_read (definitions_of tables.old) (map skimmed_of sources.now)) }
     ensures tables { IfOk result (λ fs. AllByRecursion (λ (f : Function). IsTable f.names) fs.items) }
+    ensures uses { IfOk result (λ fs. InstsUse tables.old (concat (map insts_of (map (function_in (tables_in tables.new)) fs.items))) tables.new) }
 {
     let mut functions = Vec::with_capacity(alloc, sources.len())?;
     for source in sources {
