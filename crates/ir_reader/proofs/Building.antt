@@ -1,5 +1,5 @@
 -- The module of tables and functions denotes what the items are collected to.
-use Rattle.std.proofs.Common.{◌≡◌, ℕ, suc, List, [], ◌∷◌, ◌++◌, length, map, drop, Option, Some, None, Result, Ok, Err, refl, sym, ap, ◌∙◌, append_assoc}
+use Rattle.std.proofs.Common.{◌≡◌, ℕ, List, [], ◌∷◌, ◌++◌, length, map, drop, Option, Some, None, Result, Ok, Err, refl, sym, ap, ◌∙◌, subst}
 use Rattle.std.specs.Prelude.{IfOk}
 use Rattle.std.specs.declared.alloc.AllocError.{AllocError}
 use Rattle.std.specs.Option.{option_map}
@@ -12,26 +12,22 @@ use Rattle.forms.specs.declared.cursor.SyntaxFault.TheVariants.{NoReading, Memor
 use Rattle.forms.specs.Gives.{Gives}
 use Rattle.forms.specs.Nested.{concat}
 use Rattle.forms.specs.Reading.{◌>>=◌}
-use Rattle.forms.proofs.Parts.{some_is}
 use Rattle.text_lex.specs.declared.fault.Count.{Count}
 use Rattle.ir_types.specs.declared.name.Name.{Name}
 use Rattle.ir_types.specs.declared.module.Function.{Function}
 use Rattle.ir_types.specs.declared.module.Symbol.{Symbol}
-use Rattle.ir_types.specs.declared.module.SymbolKind.{SymbolKind}
-use Rattle.ir_types.specs.declared.module.SymbolKind.TheVariants as kinds
 use Rattle.ir_types.specs.declared.module.Module.{Module}
 use Rattle.ir_types.specs.declared.memory_type.MemTy.{MemTy}
 use Rattle.ir_types.specs.declared.memory_type.Extent.{Extent}
 use Rattle.ir_types.specs.declared.memory_type.TypeName.{TypeName}
 use Rattle.ir_types.specs.declared.memory_type.NamedType.{NamedType}
 use Rattle.ir_types.specs.declared.memory_type.NamedType.TheVariants.{Defined, Opaque, Missing}
-use Rattle.ir_types.specs.Names.{IsTable}
-use Rattle.ir_types.specs.Names.{unknown}
-use Rattle.ir_types.specs.Tree.{KeptTexts, TypeNameTree, SymbolTree, InstTree, FunctionTree, ModuleTree, Item}
+use Rattle.ir_types.specs.Names.{IsTable, unknown}
+use Rattle.ir_types.specs.Tree.{KeptTexts, TypeNameTree, SymbolTree, FunctionTree, ModuleTree, Item}
 use Rattle.ir_types.specs.Offsets.{Definitions, definitions_in}
 use Rattle.ir_types.specs.Skimmed.{Skimmed}
 use Rattle.ir_types.specs.Denotes.{Tables, type_names_of, type_name_in, tables_of, function_in, IsBare, Denotes}
-use Rattle.ir_types.specs.Used.{types_of_definition, types_of_symbol, types_of, operands_of, symbols_of, insts_of, with_unknown, all_type_names, all_symbol_names}
+use Rattle.ir_types.specs.Used.{types_of, insts_of, all_insts, all_type_names, all_symbol_names}
 use Rattle.ir_types.specs.Collected.{as_head, as_comdat, as_type, as_variable, as_function, as_attributes, as_metadata, symbol_of, symbols_from, collected}
 use Rattle.ir_limits.specs.Mentioned.{in_items}
 use Rattle.ir_limits.specs.Limits.{first_long, passed_by, limit_passed}
@@ -39,7 +35,6 @@ use Rattle.type_reader.specs.TypeTable.{names_of, missing_entry}
 use Rattle.type_reader.specs.Tables.{TableLists, tables_in, definition_over, definitions_of, Grows, AreTables}
 use Rattle.type_reader.specs.Uses.{InstsUse}
 use Rattle.type_reader.proofs.LookUps.{names_append, missing_names}
-use Rattle.item_reader.specs.declared.part.Definition.{Definition}
 use Rattle.item_reader.specs.declared.part.Variable.{Variable}
 use Rattle.item_reader.specs.declared.source.FunctionSource.{FunctionSource}
 use Rattle.item_reader.specs.Parts.{variable_of}
@@ -47,24 +42,16 @@ use Rattle.ir_reader.specs.declared.gather.Gathered.{Gathered}
 use Rattle.ir_reader.specs.declared.longs.ItemLong.{ItemLong}
 use Rattle.ir_reader.specs.Gathered.{definition_of, skimmed_of, function_among, long_among, Holds}
 use Rattle.ir_reader.specs.Trees.{symbol_over, variable_symbol, function_symbols, missing_symbol}
-use Rattle.ir_reader.specs.Typed.{definition_uses, variable_uses, all_symbols, ArePrepared}
+use Rattle.ir_reader.specs.Typed.{all_symbols, ArePrepared}
 use Rattle.ir_reader.specs.Reading.{functions_read, filled_items, IsModule, GivesModule}
 use Rattle.ir_reader.proofs.Filling.{put, filled_is}
 use Rattle.ir_reader.proofs.Groups as groups
-use Rattle.ir_reader.proofs.Usage.{unknown_further}
+use Rattle.ir_reader.proofs.Usage.{type_names_are, symbol_names_are}
+use Rattle.ir_reader.proofs.Bare.{all_there, none_said, missing_named, same_named, bare_behind}
 use Rattle.ir_reader.proofs.Outlines.{names_read}
 use Rattle.ir_reader.proofs.Symbolic.{symbols_named}
 
 -- ---- lists of which some stand for nothing
-
-all_there : {A B : Type 0} (f : A → Option B) (xs : List A) (ys : List B) → map f xs ≡ map Some ys → filter_map f xs ≡ ys
-all_there f [] [] e = refl
-all_there f [] (y ∷ ys) e = absurd cc
-all_there f (x ∷ xs) [] e = absurd cc
-all_there f (x ∷ xs) (y ∷ ys) e =
-    let here : f x ≡ Some y = cc in
-    let there : map f xs ≡ map Some ys = cc in
-    rw here (ap (λ (l : List _). y ∷ l) (all_there f xs ys there))
 
 one_mapped : {B C : Type 0} (g : B → C) (o : Option B) (bs : List B) (cs : List C) → cs ≡ map g bs → cons_option (option_map g o) cs ≡ map g (cons_option o bs)
 one_mapped g None bs cs e = e
@@ -85,14 +72,6 @@ said m n (Defined id) = refl
 said m n Opaque = refl
 said m n Missing = refl
 
-none_said : (names : List Name) (types : List MemTy) (ns : List Name) → filter_map (symbol_over names types) (map missing_symbol ns) ≡ []
-none_said names types [] = refl
-none_said names types (n ∷ ns) = none_said names types ns
-
-missing_named : (ns : List Name) → map (λ (s : Symbol). s.name) (map missing_symbol ns) ≡ ns
-missing_named [] = refl
-missing_named (n ∷ ns) = ap (λ (l : List Name). n ∷ l) (missing_named ns)
-
 symbols_of_variables : (vs : List Variable) → map variable_symbol vs ≡ map symbol_of (map variable_of vs)
 symbols_of_variables [] = refl
 symbols_of_variables (v ∷ vs) = ap (λ (l : List SymbolTree). variable_symbol v ∷ l) (symbols_of_variables vs)
@@ -103,65 +82,6 @@ tree_so head names symbols functions tail = record { head = head; type_names = n
 
 same_parts : (h i : List KeptTexts) (n o : List TypeNameTree) (s t : List SymbolTree) (f g : List FunctionTree) (u v : List KeptTexts) → h ≡ i → n ≡ o → s ≡ t → f ≡ g → u ≡ v → tree_so h n s f u ≡ tree_so i o t g v
 same_parts h i n o s t f g u v a b c d e = cc
-
--- ---- what its parts use
-
-each_definition : (ds : List Definition) → map (λ (n : TypeNameTree). types_of_definition n.ty) (map groups.type_tree (map definition_of ds)) ≡ map definition_uses ds
-each_definition [] = refl
-each_definition (d ∷ ds) = ap (λ (l : List (List Name)). definition_uses d ∷ l) (each_definition ds)
-
-named_definitions : (ds : List Definition) → map (λ (n : TypeNameTree). n.name) (map groups.type_tree (map definition_of ds)) ≡ map (λ (d : Definition). d.name) ds
-named_definitions [] = refl
-named_definitions (d ∷ ds) = ap (λ (l : List Name). d.name ∷ l) (named_definitions ds)
-
-functions_use : (i : ℕ) (ns : List Name) → concat (map (λ (s : SymbolTree). types_of_symbol s.kind) (function_symbols i ns)) ≡ []
-functions_use i [] = refl
-functions_use i (n ∷ ns) = functions_use (suc i) ns
-
-each_symbol : (vs : List Variable) (i : ℕ) (ns : List Name) → concat (map (λ (s : SymbolTree). types_of_symbol s.kind) (map variable_symbol vs ++ function_symbols i ns)) ≡ concat (map variable_uses vs)
-each_symbol [] i ns = functions_use i ns
-each_symbol (v ∷ vs) i ns = ap (λ (l : List Name). variable_uses v ++ l) (each_symbol vs i ns)
-
--- ---- symbols that are defined or declared
-
-module _ (names : List Name) (types : List MemTy) where
-  -- one that stands for something has its name
-  its_name : (s : Symbol) (tree : SymbolTree) → symbol_over names types s ≡ Some tree → s.name ≡ tree.name
-  its_name s tree e = by s.kind refl
-    where
-      by : (k : SymbolKind) → s.kind ≡ k → s.name ≡ tree.name
-      by (kinds.Variable id writable) k = ap (λ (u : SymbolTree). u.name) (some_is _ tree (rw k at e))
-      by (kinds.Function f) k = ap (λ (u : SymbolTree). u.name) (some_is _ tree (rw k at e))
-      by kinds.Missing k = absurd (cc (rw k at e))
-
-  same_named : (ss : List Symbol) (trees : List SymbolTree) → map (symbol_over names types) ss ≡ map Some trees → map (λ (s : Symbol). s.name) ss ≡ map (λ (s : SymbolTree). s.name) trees
-  same_named [] [] e = refl
-  same_named [] (t ∷ ts) e = absurd cc
-  same_named (s ∷ ss) [] e = absurd cc
-  same_named (s ∷ ss) (t ∷ ts) e =
-      let here : symbol_over names types s ≡ Some t = cc in
-      let there : map (symbol_over names types) ss ≡ map Some ts = cc in
-      rw (its_name s t here) (ap (λ (l : List Name). t.name ∷ l) (same_named ss ts there))
-
-  is_bare : (s : Symbol) (tree : SymbolTree) → symbol_over names types s ≡ Some tree → IsBare s
-  is_bare s tree e = by s.kind refl
-    where
-      by : (k : SymbolKind) → s.kind ≡ k → IsBare s
-      by (kinds.Variable id writable) k = rw k tt
-      by (kinds.Function f) k = rw k tt
-      by kinds.Missing k = absurd (cc (rw k at e))
-
-  missing_bare : (ns : List Name) → AllByRecursion IsBare (map missing_symbol ns)
-  missing_bare [] = tt
-  missing_bare (n ∷ ns) = ((refl, refl), missing_bare ns)
-
-  bare_behind : (ss : List Symbol) (trees : List SymbolTree) → map (symbol_over names types) ss ≡ map Some trees → (ns : List Name) → AllByRecursion IsBare (ss ++ map missing_symbol ns)
-  bare_behind [] trees e ns = missing_bare ns
-  bare_behind (s ∷ ss) [] e ns = absurd cc
-  bare_behind (s ∷ ss) (t ∷ ts) e ns =
-      let here : symbol_over names types s ≡ Some t = cc in
-      let there : map (symbol_over names types) ss ≡ map Some ts = cc in
-      (is_bare s t here, bare_behind ss ts there ns)
 
 -- ---- the module
 
@@ -245,46 +165,26 @@ module _ (g : Gathered) (items : List (Item Skimmed)) (h : Holds g items) (old t
 
   -- ---- names that are only used
 
-  abbrev insts : List InstTree
-  insts = concat (map insts_of trees)
+  abbrev function_names : List Name
+  function_names = map (λ (f : FunctionSource). f.name) g.functions.items
+
+  -- the functions are those of the tree
+  used_there : InstsUse old (all_insts (collected numbered)) t
+  used_there = subst (λ (l : List FunctionTree). InstsUse old (concat (map insts_of l)) t) (sym all_functions) u
 
   definitions_are : filter_map as_type numbered ≡ map groups.type_tree (map definition_of g.definitions.items)
   definitions_are = groups.types items trees ∙ ap (map groups.type_tree) (sym h.definitions)
 
-  used_by_types : concat (map (λ (n : TypeNameTree). types_of_definition n.ty) (filter_map as_type numbered)) ≡ concat (map definition_uses g.definitions.items)
-  used_by_types = ap (λ (l : List TypeNameTree). concat (map (λ (n : TypeNameTree). types_of_definition n.ty) l)) definitions_are ∙ ap concat (each_definition g.definitions.items)
-
-  used_by_symbols : concat (map (λ (s : SymbolTree). types_of_symbol s.kind) (map symbol_of (filter_map as_variable numbered) ++ symbols_from 0 (filter_map as_function numbered))) ≡ concat (map variable_uses g.variables.items)
-  used_by_symbols =
-      let uses = λ (s : SymbolTree). types_of_symbol s.kind in
-      ap (λ (l : List SymbolTree). concat (map uses l)) (sym symbol_trees) ∙ each_symbol g.variables.items 0 (map (λ (f : FunctionSource). f.name) g.functions.items)
-
   all_type_names_are : names_of t.entries ≡ all_type_names (collected numbered)
   all_type_names_are =
-      let defined = map (λ (d : Definition). d.name) g.definitions.items in
-      let definitions = concat (map definition_uses g.definitions.items) in
-      let variables = concat (map variable_uses g.variables.items) in
-      let looked : names_of t.entries ≡ with_unknown (names_of old.entries) (types_of insts) =
-      ap names_of u.entries
-      ∙ names_append old.entries (map missing_entry (unknown (names_of old.entries) (types_of insts)))
-      ∙ ap (λ (l : List Name). names_of old.entries ++ l) (missing_names (unknown (names_of old.entries) (types_of insts))) in
-      unknown_further defined (names_of old.entries) (names_of t.entries) (definitions ++ variables) (types_of insts) p.type_names looked
-      ∙ ap (with_unknown defined) (append_assoc definitions variables (types_of insts))
-      ∙ ap (λ (l : List Name). with_unknown l (definitions ++ (variables ++ types_of insts))) (sym (ap (map (λ (n : TypeNameTree). n.name)) definitions_are ∙ named_definitions g.definitions.items))
-      ∙ ap (with_unknown (map (λ (n : TypeNameTree). n.name) (filter_map as_type numbered)))
-      (ap (λ (l : List Name). l ++ (variables ++ types_of insts)) (sym used_by_types)
-      ∙ ap (λ (l : List Name). concat (map (λ (n : TypeNameTree). types_of_definition n.ty) (filter_map as_type numbered)) ++ (l ++ types_of insts)) (sym used_by_symbols)
-      ∙ ap (λ (l : List FunctionTree). concat (map (λ (n : TypeNameTree). types_of_definition n.ty) (filter_map as_type numbered)) ++ (concat (map (λ (s : SymbolTree). types_of_symbol s.kind) (map symbol_of (filter_map as_variable numbered) ++ symbols_from 0 (filter_map as_function numbered))) ++ types_of (concat (map insts_of l)))) (sym all_functions))
+      let more = unknown (names_of old.entries) (types_of (all_insts (collected numbered))) in
+      let looked = ap names_of used_there.entries ∙ names_append old.entries (map missing_entry more) ∙ ap (λ (l : List Name). names_of old.entries ++ l) (missing_names more) in
+      type_names_are g.definitions.items g.variables.items function_names (collected numbered) definitions_are (sym symbol_trees) (names_of old.entries) (names_of t.entries) p.type_names looked
 
   all_symbol_names_are : map (λ (s : Symbol). s.name) all ≡ all_symbol_names (collected numbered)
   all_symbol_names_are =
-      let over = symbol_over (names_of t.entries) t.types in
-      let known : old.symbols ≡ map (λ (s : SymbolTree). s.name) (map symbol_of (filter_map as_variable numbered) ++ symbols_from 0 (filter_map as_function numbered)) =
-      p.named ∙ same_named (names_of t.entries) t.types symbols (all_symbols g.variables.items g.functions.items) symbols_are ∙ ap (map (λ (s : SymbolTree). s.name)) symbol_trees in
-      named
-      ∙ u.symbols
-      ∙ ap (λ (l : List Name). with_unknown l (symbols_of (operands_of insts))) known
-      ∙ ap (λ (l : List FunctionTree). with_unknown (map (λ (s : SymbolTree). s.name) (map symbol_of (filter_map as_variable numbered) ++ symbols_from 0 (filter_map as_function numbered))) (symbols_of (operands_of (concat (map insts_of l))))) (sym all_functions)
+      let known : old.symbols ≡ map (λ (s : SymbolTree). s.name) (all_symbols g.variables.items g.functions.items) = p.named ∙ same_named (names_of t.entries) t.types symbols (all_symbols g.variables.items g.functions.items) symbols_are in
+      named ∙ symbol_names_are g.definitions.items g.variables.items function_names (collected numbered) definitions_are (sym symbol_trees) old.symbols t.symbols known used_there.symbols
 
   all_bare : AllByRecursion IsBare all
   all_bare = bare_behind (names_of t.entries) t.types symbols (all_symbols g.variables.items g.functions.items) symbols_are used

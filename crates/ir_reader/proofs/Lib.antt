@@ -3,6 +3,7 @@ pub mod Groups
 pub mod Gathering
 pub mod Adding
 pub mod Usage
+pub mod Bare
 pub mod Making
 pub mod Setting
 pub mod Typing
