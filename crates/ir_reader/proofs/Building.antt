@@ -1,78 +1,57 @@
 -- The module of tables and functions denotes what the items are collected to.
-use Rattle.std.proofs.Common.{◌≡◌, ◌≤◌, ◌<◌, ◌⊎◌, ℕ, zero, suc, List, [], ◌∷◌, ◌++◌, length, map, drop, Option, Some, None, Result, Ok, Err, inl, inr, refl, sym, ap, ◌∙◌, subst, arith}
-use Rattle.std.specs.Prelude.{slice_get, IfOk}
+use Rattle.std.proofs.Common.{◌≡◌, ℕ, List, [], ◌∷◌, ◌++◌, length, map, drop, Option, Some, None, Result, Ok, Err, refl, sym, ap, ◌∙◌, subst}
+use Rattle.std.specs.Prelude.{IfOk}
 use Rattle.std.specs.declared.alloc.AllocError.{AllocError}
 use Rattle.std.specs.Option.{option_map}
 use Rattle.std.specs.List.{AllByRecursion, filter_map, cons_option}
 use Rattle.std.proofs.Math.Seq.{drop-append_seam}
-use Rattle.std.proofs.lemmas.Bool.{cases_lt}
 use Rattle.std.proofs.lemmas.List.{map-append, length-map, append-nil}
 use Rattle.std.proofs.lemmas.List.Elements.{filter_map-append}
-use Rattle.std.proofs.lemmas.Option.{slice_get-map}
 use Rattle.forms.specs.declared.cursor.SyntaxFault.{SyntaxFault}
 use Rattle.forms.specs.declared.cursor.SyntaxFault.TheVariants.{NoReading, Memory}
 use Rattle.forms.specs.Gives.{Gives}
+use Rattle.forms.specs.Nested.{concat}
 use Rattle.forms.specs.Reading.{◌>>=◌}
 use Rattle.text_lex.specs.declared.fault.Count.{Count}
 use Rattle.ir_types.specs.declared.name.Name.{Name}
 use Rattle.ir_types.specs.declared.module.Function.{Function}
 use Rattle.ir_types.specs.declared.module.Symbol.{Symbol}
-use Rattle.ir_types.specs.declared.module.SymbolKind.TheVariants as kinds
 use Rattle.ir_types.specs.declared.module.Module.{Module}
 use Rattle.ir_types.specs.declared.memory_type.MemTy.{MemTy}
 use Rattle.ir_types.specs.declared.memory_type.Extent.{Extent}
 use Rattle.ir_types.specs.declared.memory_type.TypeName.{TypeName}
 use Rattle.ir_types.specs.declared.memory_type.NamedType.{NamedType}
 use Rattle.ir_types.specs.declared.memory_type.NamedType.TheVariants.{Defined, Opaque, Missing}
-use Rattle.ir_types.specs.Names.{IsTable}
+use Rattle.ir_types.specs.Names.{IsTable, unknown}
 use Rattle.ir_types.specs.Tree.{KeptTexts, TypeNameTree, SymbolTree, FunctionTree, ModuleTree, Item}
 use Rattle.ir_types.specs.Offsets.{Definitions, definitions_in}
 use Rattle.ir_types.specs.Skimmed.{Skimmed}
-use Rattle.ir_types.specs.Denotes.{Tables, type_names_of, type_name_in, tables_of, function_in, AreMissingApart, Denotes}
+use Rattle.ir_types.specs.Denotes.{Tables, type_names_of, type_name_in, tables_of, function_in, IsBare, Denotes}
+use Rattle.ir_types.specs.Used.{types_of, insts_of, all_insts, all_type_names, all_symbol_names}
 use Rattle.ir_types.specs.Collected.{as_head, as_comdat, as_type, as_variable, as_function, as_attributes, as_metadata, symbol_of, symbols_from, collected}
 use Rattle.ir_limits.specs.Mentioned.{in_items}
 use Rattle.ir_limits.specs.Limits.{first_long, passed_by, limit_passed}
-use Rattle.type_reader.specs.TypeTable.{names_of}
+use Rattle.type_reader.specs.TypeTable.{names_of, missing_entry}
 use Rattle.type_reader.specs.Tables.{TableLists, tables_in, definition_over, definitions_of, Grows, AreTables}
+use Rattle.type_reader.specs.Uses.{InstsUse}
+use Rattle.type_reader.proofs.LookUps.{names_append, missing_names}
 use Rattle.item_reader.specs.declared.part.Variable.{Variable}
 use Rattle.item_reader.specs.declared.source.FunctionSource.{FunctionSource}
 use Rattle.item_reader.specs.Parts.{variable_of}
 use Rattle.ir_reader.specs.declared.gather.Gathered.{Gathered}
 use Rattle.ir_reader.specs.declared.longs.ItemLong.{ItemLong}
-use Rattle.ir_reader.specs.Gathered.{skimmed_of, function_among, long_among, Holds}
+use Rattle.ir_reader.specs.Gathered.{definition_of, skimmed_of, function_among, long_among, Holds}
 use Rattle.ir_reader.specs.Trees.{symbol_over, variable_symbol, function_symbols, missing_symbol}
 use Rattle.ir_reader.specs.Typed.{all_symbols, ArePrepared}
 use Rattle.ir_reader.specs.Reading.{functions_read, filled_items, IsModule, GivesModule}
 use Rattle.ir_reader.proofs.Filling.{put, filled_is}
 use Rattle.ir_reader.proofs.Groups as groups
+use Rattle.ir_reader.proofs.Usage.{type_names_are, symbol_names_are}
+use Rattle.ir_reader.proofs.Bare.{all_there, none_said, missing_named, same_named, bare_behind}
 use Rattle.ir_reader.proofs.Outlines.{names_read}
 use Rattle.ir_reader.proofs.Symbolic.{symbols_named}
 
 -- ---- lists of which some stand for nothing
-
-got_first : {A : Type 0} (xs ys : List A) (i : ℕ) (x : A) → i < length xs → slice_get (xs ++ ys) i ≡ Some x → slice_get xs i ≡ Some x
-got_first [] ys i x lt e = absurd (omega arith)
-got_first (z ∷ xs) ys zero x lt e = e
-got_first (z ∷ xs) ys (suc i) x lt e = got_first xs ys i x (omega arith) e
-
-all_there : {A B : Type 0} (f : A → Option B) (xs : List A) (ys : List B) → map f xs ≡ map Some ys → filter_map f xs ≡ ys
-all_there f [] [] e = refl
-all_there f [] (y ∷ ys) e = absurd cc
-all_there f (x ∷ xs) [] e = absurd cc
-all_there f (x ∷ xs) (y ∷ ys) e =
-    let here : f x ≡ Some y = cc in
-    let there : map f xs ≡ map Some ys = cc in
-    rw here (ap (λ (l : List _). y ∷ l) (all_there f xs ys there))
-
-one_there : {A B : Type 0} (f : A → Option B) (xs : List A) (ys : List B) (i : ℕ) (x : A) → map f xs ≡ map Some ys → slice_get xs i ≡ Some x → f x ≡ None → ⊥
-one_there f [] ys i x e at n = cc
-one_there f (y ∷ xs) [] i x e at n = cc
-one_there f (y ∷ xs) (z ∷ ys) zero x e at n =
-    let here : f y ≡ Some z = cc in
-    let same : y ≡ x = cc in
-    let none : f y ≡ None = ap f same ∙ n in
-    cc
-one_there f (y ∷ xs) (z ∷ ys) (suc i) x e at n = let there : map f xs ≡ map Some ys = cc in one_there f xs ys i x there at n
 
 one_mapped : {B C : Type 0} (g : B → C) (o : Option B) (bs : List B) (cs : List C) → cs ≡ map g bs → cons_option (option_map g o) cs ≡ map g (cons_option o bs)
 one_mapped g None bs cs e = e
@@ -93,20 +72,9 @@ said m n (Defined id) = refl
 said m n Opaque = refl
 said m n Missing = refl
 
-none_said : (names : List Name) (types : List MemTy) (ns : List Name) → filter_map (symbol_over names types) (map missing_symbol ns) ≡ []
-none_said names types [] = refl
-none_said names types (n ∷ ns) = none_said names types ns
-
-missing_named : (ns : List Name) → map (λ (s : Symbol). s.name) (map missing_symbol ns) ≡ ns
-missing_named [] = refl
-missing_named (n ∷ ns) = ap (λ (l : List Name). n ∷ l) (missing_named ns)
-
-symbols_of : (vs : List Variable) → map variable_symbol vs ≡ map symbol_of (map variable_of vs)
-symbols_of [] = refl
-symbols_of (v ∷ vs) = ap (λ (l : List SymbolTree). variable_symbol v ∷ l) (symbols_of vs)
-
-missing_over : (names : List Name) (types : List MemTy) (s : Symbol) → s.kind ≡ kinds.Missing → symbol_over names types s ≡ None
-missing_over names types s e = rw e refl
+symbols_of_variables : (vs : List Variable) → map variable_symbol vs ≡ map symbol_of (map variable_of vs)
+symbols_of_variables [] = refl
+symbols_of_variables (v ∷ vs) = ap (λ (l : List SymbolTree). variable_symbol v ∷ l) (symbols_of_variables vs)
 
 -- the parts of a module's tree
 abbrev tree_so : List KeptTexts → List TypeNameTree → List SymbolTree → List FunctionTree → List KeptTexts → ModuleTree
@@ -118,7 +86,7 @@ same_parts h i n o s t f g u v a b c d e = cc
 -- ---- the module
 
 module _ (g : Gathered) (items : List (Item Skimmed)) (h : Holds g items) (old t : TableLists) (symbols : List Symbol) (fs : List Function) (p : ArePrepared g.definitions.items g.variables.items g.functions.items old symbols) (grows : Grows old t)
-    (reads : functions_read (definitions_of old) (map skimmed_of g.functions.items) ≡ Some (map (function_in (tables_in t)) fs)) where
+    (reads : functions_read (definitions_of old) (map skimmed_of g.functions.items) ≡ Some (map (function_in (tables_in t)) fs)) (u : InstsUse old (concat (map insts_of (map (function_in (tables_in t)) fs))) t) where
   abbrev trees : List FunctionTree
   trees = map (function_in (tables_in t)) fs
 
@@ -178,38 +146,48 @@ module _ (g : Gathered) (items : List (Item Skimmed)) (h : Holds g items) (old t
   symbols_are : map (symbol_over (names_of t.entries) t.types) symbols ≡ map Some (all_symbols g.variables.items g.functions.items)
   symbols_are = p.stand t grows
 
-  all_symbols_are : filter_map (symbol_over (names_of t.entries) t.types) all ≡ map symbol_of (filter_map as_variable numbered) ++ symbols_from 0 (filter_map as_function numbered)
-  all_symbols_are =
+  symbols_there : filter_map (symbol_over (names_of t.entries) t.types) all ≡ all_symbols g.variables.items g.functions.items
+  symbols_there =
       let over = symbol_over (names_of t.entries) t.types in
-      let vs = g.variables.items in
-      let variables : map variable_symbol vs ≡ map symbol_of (filter_map as_variable numbered) = symbols_of vs ∙ ap (map symbol_of) (h.variables ∙ sym (groups.variables items trees)) in
-      let functions : function_symbols 0 (map (λ (s : FunctionSource). s.name) g.functions.items) ≡ symbols_from 0 (filter_map as_function numbered) =
-      ap (function_symbols 0) (sym same_names) ∙ sym (symbols_named 0 trees) ∙ ap (symbols_from 0) (sym all_functions) in
       filter_map-append over symbols (map missing_symbol used)
       ∙ ap (λ (l : List SymbolTree). filter_map over symbols ++ l) (none_said (names_of t.entries) t.types used)
       ∙ append-nil (filter_map over symbols)
-      ∙ all_there over symbols (all_symbols vs g.functions.items) symbols_are
-      ∙ ap (λ (l : List SymbolTree). l ++ function_symbols 0 (map (λ (s : FunctionSource). s.name) g.functions.items)) variables
+      ∙ all_there over symbols (all_symbols g.variables.items g.functions.items) symbols_are
+
+  symbol_trees : all_symbols g.variables.items g.functions.items ≡ map symbol_of (filter_map as_variable numbered) ++ symbols_from 0 (filter_map as_function numbered)
+  symbol_trees =
+      let vs = g.variables.items in
+      let variables : map variable_symbol vs ≡ map symbol_of (filter_map as_variable numbered) = symbols_of_variables vs ∙ ap (map symbol_of) (h.variables ∙ sym (groups.variables items trees)) in
+      let functions : function_symbols 0 (map (λ (s : FunctionSource). s.name) g.functions.items) ≡ symbols_from 0 (filter_map as_function numbered) =
+      ap (function_symbols 0) (sym same_names) ∙ sym (symbols_named 0 trees) ∙ ap (symbols_from 0) (sym all_functions) in
+      ap (λ (l : List SymbolTree). l ++ function_symbols 0 (map (λ (s : FunctionSource). s.name) g.functions.items)) variables
       ∙ ap (λ (l : List SymbolTree). map symbol_of (filter_map as_variable numbered) ++ l) functions
 
-  -- a symbol that is missing stands behind those that are defined or declared
-  missing_behind : (i : ℕ) (x : Symbol) → slice_get all i ≡ Some x → x.kind ≡ kinds.Missing → length symbols ≤ i
-  missing_behind i x at m = by (cases_lt i (length symbols))
-    where
-      by : (i < length symbols) ⊎ (length symbols ≤ i) → length symbols ≤ i
-      by (inl lt) = absurd (one_there (symbol_over (names_of t.entries) t.types) symbols (all_symbols g.variables.items g.functions.items) i x symbols_are (got_first symbols (map missing_symbol used) i x lt at) (missing_over (names_of t.entries) t.types x m))
-      by (inr le) = le
+  -- ---- names that are only used
 
-  got_name : (i : ℕ) (x : Symbol) → slice_get all i ≡ Some x → slice_get t.symbols i ≡ Some x.name
-  got_name i x e =
-      let name = λ (s : Symbol). s.name in
-      subst (λ (l : List Name). slice_get l i ≡ Some x.name) named (slice_get-map name all i ∙ ap (option_map name) e)
+  abbrev function_names : List Name
+  function_names = map (λ (f : FunctionSource). f.name) g.functions.items
 
-  apart : AreTables t → AreMissingApart (λ (s : Symbol). s.name) (λ (s : Symbol). s.kind ≡ kinds.Missing) all
-  apart are = λ i j x y a b m d e.
-      let behind = missing_behind i x a m in
-      let le : t.known ≤ i = omega (arith, behind, grows.known, p.known) in
-      d (are.symbols_apart i j x.name le (got_name i x a) (got_name j y b ∙ ap (λ (n : Name). Some n) (sym e)))
+  -- the functions are those of the tree
+  used_there : InstsUse old (all_insts (collected numbered)) t
+  used_there = subst (λ (l : List FunctionTree). InstsUse old (concat (map insts_of l)) t) (sym all_functions) u
+
+  definitions_are : filter_map as_type numbered ≡ map groups.type_tree (map definition_of g.definitions.items)
+  definitions_are = groups.types items trees ∙ ap (map groups.type_tree) (sym h.definitions)
+
+  all_type_names_are : names_of t.entries ≡ all_type_names (collected numbered)
+  all_type_names_are =
+      let more = unknown (names_of old.entries) (types_of (all_insts (collected numbered))) in
+      let looked = ap names_of used_there.entries ∙ names_append old.entries (map missing_entry more) ∙ ap (λ (l : List Name). names_of old.entries ++ l) (missing_names more) in
+      type_names_are g.definitions.items g.variables.items function_names (collected numbered) definitions_are (sym symbol_trees) (names_of old.entries) (names_of t.entries) p.type_names looked
+
+  all_symbol_names_are : map (λ (s : Symbol). s.name) all ≡ all_symbol_names (collected numbered)
+  all_symbol_names_are =
+      let known : old.symbols ≡ map (λ (s : SymbolTree). s.name) (all_symbols g.variables.items g.functions.items) = p.named ∙ same_named (names_of t.entries) t.types symbols (all_symbols g.variables.items g.functions.items) symbols_are in
+      named ∙ symbol_names_are g.definitions.items g.variables.items function_names (collected numbered) definitions_are (sym symbol_trees) old.symbols t.symbols known used_there.symbols
+
+  all_bare : AllByRecursion IsBare all
+  all_bare = bare_behind (names_of t.entries) t.types symbols (all_symbols g.variables.items g.functions.items) symbols_are used
 
   denotes : (head tail : List KeptTexts) → head ≡ g.head.items ++ g.comdats.items → tail ≡ g.attributes.items ++ g.metadata.items → AreTables t → AllByRecursion (λ (f : Function). IsTable f.names) fs → Denotes (module_over t head all fs tail) (collected numbered)
   denotes head tail a b are tables =
@@ -220,12 +198,13 @@ module _ (g : Gathered) (items : List (Item Skimmed)) (h : Holds g items) (old t
       b ∙ ap (λ (l : List KeptTexts). l ++ g.metadata.items) (h.attributes ∙ sym (groups.attributes items trees)) ∙ ap (λ (l : List KeptTexts). filter_map as_attributes numbered ++ l) (h.metadata ∙ sym (groups.metadata items trees)) in
       let seen : map (function_in (tables_of m)) fs ≡ filter_map as_function numbered = ap (λ (l : List Name). map (function_in (record { symbols = l; type_names = names_of t.entries; types = t.types })) fs) named ∙ sym all_functions in
       record {
-        says = same_parts _ _ _ _ _ _ _ _ _ _ heads (all_types m refl) all_symbols_are seen tails;
+        says = same_parts _ _ _ _ _ _ _ _ _ _ heads (all_types m refl) (symbols_there ∙ symbol_trees) seen tails;
         tables = tables;
         types = are.types_are;
         extents = are.extents_are;
-        missing_types = are.entries_apart;
-        missing_symbols = apart are;
+        type_names = all_type_names_are;
+        symbols = all_symbol_names_are;
+        bare = all_bare;
       }
 
   limit : passed_by trees (long_among g.longs.items trees) ≡ limit_passed numbered

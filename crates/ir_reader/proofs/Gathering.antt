@@ -66,6 +66,6 @@ pub none_left : (ts us : List Lexeme) (g : Gathered) → SoFar ts g us → opens
 none_left ts us g h o = record { items = h.items; read = same_form ts ∙ ends (item_form ts) h.items us (from ts ts) o h.goes; holds = h.holds }
 
 -- a refusal of an item is one of all
-pub fault_gives : (ts us : List Lexeme) (g n : Gathered) (fault : SyntaxFault) → SoFar ts g us → opens (item_form ts) us ≡ true → Gives (λ (x : Part × Cursor). (item_of x.0, left x.1)) (Err fault) (read (item_form ts) us) → GivesItems ts n (Err fault)
-fault_gives ts us g n (NoReading place) h o e = one_fails ts us g h o e
-fault_gives ts us g n Memory h o e = tt
+pub fault_gives : (ts us rest : List Lexeme) (g n : Gathered) (fault : SyntaxFault) → SoFar ts g us → opens (item_form ts) us ≡ true → Gives (λ (x : Part × Cursor). (item_of x.0, left x.1)) (Err fault) (read (item_form ts) us) → GivesItems ts n rest (Err fault)
+fault_gives ts us rest g n (NoReading place) h o e = one_fails ts us g h o e
+fault_gives ts us rest g n Memory h o e = tt

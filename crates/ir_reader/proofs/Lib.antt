@@ -2,6 +2,8 @@ pub mod Filling
 pub mod Groups
 pub mod Gathering
 pub mod Adding
+pub mod Usage
+pub mod Bare
 pub mod Making
 pub mod Setting
 pub mod Typing

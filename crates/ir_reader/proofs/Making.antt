@@ -2,6 +2,7 @@
 use Rattle.std.proofs.Common.{◌≤◌, ℕ, List, [], ◌∷◌, ◌++◌, map, sym, ap, ◌∙◌, arith}
 use Rattle.std.specs.List.{AllByRecursion}
 use Rattle.std.proofs.lemmas.List.{map_push}
+use Rattle.forms.specs.Nested.{concat}
 use Rattle.forms.specs.View.{Extends}
 use Rattle.ir_types.specs.declared.name.Name.{Name}
 use Rattle.ir_types.specs.declared.memory_type.MemTy.{MemTy}
@@ -10,20 +11,24 @@ use Rattle.ir_types.specs.declared.memory_type.NamedType.{NamedType}
 use Rattle.ir_types.specs.declared.memory_type.NamedType.TheVariants.{Defined, Opaque, Missing}
 use Rattle.ir_types.specs.Types.{AreTypes}
 use Rattle.ir_types.proofs.NameAt.{extends_trans}
-use Rattle.type_reader.specs.TypeTable.{names_of, LooksUpSome}
-use Rattle.type_reader.proofs.LookUps.{looks_up_further}
+use Rattle.ir_types.specs.Names.{unknown}
+use Rattle.type_reader.specs.TypeTable.{names_of, missing_entry}
+use Rattle.type_reader.proofs.LookUps.{looked_up}
 use Rattle.type_reader.proofs.Holding.{names_extend}
-use Rattle.type_reader.proofs.Enlarged.{looked_extend}
-use Rattle.ir_reader.specs.Typed.{Stands, Made, StandsBefore}
+use Rattle.ir_reader.specs.Typed.{LooksUpNames, Stands, Made, StandsBefore}
+use Rattle.ir_reader.proofs.Usage.{concat_push}
 
-pub made_more : {A B C : Type 0} (over : List Name → List MemTy → B → C) (tree : A → C) (base names new : List TypeName) (start types others : List MemTy) (done : List A) (made : List B) (a : A) (b : B) → Made over tree base start done made names types
-    → Extends types others → AreTypes (names_of new) 0 others → LooksUpSome names new → Stands over new others b (tree a) → Made over tree base start (done ++ a ∷ []) (made ++ b ∷ []) new others
-made_more over tree base names new start types others done made a b h grow are looked stands = record {
+pub looked_extend : (old new : List TypeName) (used : List Name) → LooksUpNames old used new → Extends old new
+looked_extend old new used l = record { more = map missing_entry (unknown (names_of old) used); parts = l }
+
+pub made_more : {A B C : Type 0} (over : List Name → List MemTy → B → C) (tree : A → C) (uses : A → List Name) (base names new : List TypeName) (start types others : List MemTy) (done : List A) (made : List B) (a : A) (b : B) → Made over tree uses base start done made names types
+    → Extends types others → AreTypes (names_of new) 0 others → LooksUpNames names (uses a) new → Stands over new others b (tree a) → Made over tree uses base start (done ++ a ∷ []) (made ++ b ∷ []) new others
+made_more over tree uses base names new start types others done made a b h grow are looked stands = record {
   types_grow = extends_trans start types others h.types_grow grow;
   are = are;
-  names_grow = looks_up_further base names new h.names_grow looked;
+  names_grow = looked_up base names new (concat (map uses done)) (uses a) h.names_grow looked ∙ ap (λ (l : List Name). base ++ map missing_entry (unknown (names_of base) l)) (sym (concat_push uses done a));
   stands = λ later rest n t.
-      let before = h.stands later rest (extends_trans (names_of names) (names_of new) later (names_extend names new (looked_extend names new looked)) n) (extends_trans types others rest grow t) in
+      let before = h.stands later rest (extends_trans (names_of names) (names_of new) later (names_extend names new (looked_extend names new (uses a) looked)) n) (extends_trans types others rest grow t) in
       map_push (over later rest) made b ∙ ap (λ (l : List _). l ++ over later rest b ∷ []) before ∙ ap (λ (c : _). map tree done ++ c ∷ []) (stands later rest n t) ∙ sym (map_push tree done a);
 }
 

@@ -1,32 +1,40 @@
 -- Functions are read at the places of their outlines.
-use Rattle.std.proofs.Common.{◌≡◌, ℕ, zero, suc, ◌<◌, Bool, true, false, List, [], ◌∷◌, ◌++◌, length, map, take, drop, get_or, Option, Some, None, Err, refl, sym, ap, ◌∙◌, arith}
+use Rattle.std.proofs.Common.{◌≡◌, ℕ, zero, suc, ◌<◌, Bool, true, false, List, [], ◌∷◌, ◌++◌, length, map, take, drop, get_or, Option, Some, None, Err, refl, sym, ap, ◌∙◌, subst, arith}
 use Rattle.std.specs.Prelude.{is_some}
 use Rattle.std.specs.List.{AllByRecursion}
 use Rattle.std.proofs.lemmas.List.{map_push}
 use Rattle.forms.specs.declared.cursor.SyntaxFault.{SyntaxFault}
 use Rattle.forms.specs.declared.cursor.SyntaxFault.TheVariants.{NoReading, Memory}
-use Rattle.forms.specs.Form.{Lexeme}
+use Rattle.forms.specs.declared.TokenKind.TheVariants.{LeftParen, RightParen}
+use Rattle.forms.specs.Form.{Lexeme, Form, pair, mapped}
+use Rattle.forms.specs.Kept.{attachments}
 use Rattle.forms.specs.Gives.{Gives, left}
+use Rattle.forms.specs.Nested.{concat, joined}
 use Rattle.forms.specs.Reading.{◌>>=◌, read}
 use Rattle.forms.specs.Walk.{walk, completed}
-use Rattle.forms.proofs.Parts.{bind_some, some_is}
+use Rattle.forms.proofs.Parts.{there, bind_some, some_is}
 use Rattle.ir_types.specs.declared.name.Name.{Name}
 use Rattle.ir_types.specs.declared.module.Function.{Function}
 use Rattle.ir_types.specs.Names.{IsTable}
-use Rattle.ir_types.specs.Tree.{WrittenFunction, FunctionTree}
+use Rattle.ir_types.specs.declared.inst.Ty.{Ty}
+use Rattle.ir_types.specs.Tree.{KeptTexts, WrittenParam, WrittenFunction, BlockTree, FunctionTree}
 use Rattle.ir_types.specs.Offsets.{Definitions}
-use Rattle.ir_types.specs.Grammar.{declared_function, defined_function}
+use Rattle.ir_types.specs.Grammar.{return_type, global_name, between, dotted_parameters, kept, declared_tree, declared_function, defined_function}
 use Rattle.ir_types.specs.Skimmed.{Outline, Skimmed, outlined, skimmed_definition, skimmed_declaration, dotted_read, params_read, body_read, with_dotted, with_inner, filled}
 use Rattle.ir_types.specs.Numbered.{numbered_param, numbered_block, with_parts, numbered_function}
 use Rattle.ir_types.specs.Denotes.{function_in}
+use Rattle.ir_types.specs.Used.{insts_of}
 use Rattle.ir_types.proofs.Skimming.{function_later, declaration_later}
 use Rattle.type_reader.specs.Tables.{TableLists, tables_in, definitions_of, Grows}
+use Rattle.type_reader.specs.Uses.{InstsUse}
 use Rattle.type_reader.proofs.Growth.{grows_refl, grows_trans}
+use Rattle.type_reader.proofs.Uses.{uses_none}
 use Rattle.item_reader.specs.declared.source.FunctionSource.{FunctionSource}
 use Rattle.item_reader.specs.Sources.{outline_there, outline_or_none, outline_read}
 use Rattle.ir_reader.specs.Gathered.{skimmed_of}
 use Rattle.ir_reader.specs.Reading.{function_read, functions_read}
 use Rattle.ir_reader.proofs.Making.{all_push}
+use Rattle.ir_reader.proofs.Usage.{function_uses}
 
 -- ---- one function
 
@@ -92,6 +100,39 @@ module _ (defs : Definitions) (s : FunctionSource) where
       let r = declared_there defs s.defined (left s.tokens) e s.stands in
       refused view other fault _ (function_read defs (skimmed_of s)) (λ h. left_none (function_read defs (skimmed_of s)) r.rest (sym r.is ∙ h)) g
 
+-- ---- declared functions
+
+-- a function that is written without blocks has none
+no_blocks : (w : WrittenFunction) (f : FunctionTree) → w.body ≡ [] → numbered_function w ≡ Some f → f.body ≡ []
+no_blocks w f b e =
+    let x = bind_some (walk numbered_param 0 w.params) (λ x. walk numbered_block x.1 w.body >>= λ y. Some (with_parts w x.0 y.0)) f e in
+    let y = bind_some (walk numbered_block x.0.1 w.body) (λ y. Some (with_parts w x.0.0 y.0)) f x.2 in
+    let none : there ([], x.0.1) ≡ there y.0 = sym (ap (walk numbered_block x.0.1) b) ∙ y.1 in
+    ap (λ (g : FunctionTree). g.body) (sym (some_is (with_parts w x.0.0 y.0.0) f y.2)) ∙ ap (λ (z : List BlockTree × ℕ). z.0) (sym (some_is ([], x.0.1) y.0 none))
+
+made_without : (parts : Form (KeptTexts × (Ty × (Name × ((List WrittenParam × Bool) × KeptTexts))))) (ts us : List Lexeme) (w : WrittenFunction) → read (mapped declared_tree parts) ts ≡ Some (w, us) → w.body ≡ []
+made_without parts ts us w e =
+    let x = bind_some (read parts ts) (λ x. Some (declared_tree x.0, x.1)) (w, us) e in
+    let one : WrittenFunction × List Lexeme = (declared_tree x.0.0, x.0.1) in
+    let other : WrittenFunction × List Lexeme = (w, us) in
+    ap (λ (z : WrittenFunction × List Lexeme). z.0.body) (sym (some_is one other x.2))
+
+written_without : (ts us : List Lexeme) (w : WrittenFunction) → read declared_function ts ≡ Some (w, us) → w.body ≡ []
+unfolding declared_function
+written_without ts us w e = made_without (pair (joined attachments kept) (pair return_type (pair global_name (pair (between LeftParen RightParen dotted_parameters) kept)))) ts us w e
+
+declared_without : (ts us : List Lexeme) (f : FunctionTree) → completed numbered_function (read declared_function ts) ≡ Some (f, us) → f.body ≡ []
+declared_without ts us f e =
+    let x = bind_some (read declared_function ts) (λ x. numbered_function x.0 >>= λ b. Some (b, x.1)) (f, us) e in
+    let y = bind_some (numbered_function x.0.0) (λ b. Some (b, x.0.1)) (f, us) x.2 in
+    let one : FunctionTree × List Lexeme = (y.0, x.0.1) in
+    let other : FunctionTree × List Lexeme = (f, us) in
+    no_blocks x.0.0 f (written_without ts x.0.1 x.0.0 x.1) (y.1 ∙ ap (λ (z : FunctionTree × List Lexeme). Some z.0) (some_is one other y.2))
+
+-- what is only declared uses nothing
+pub declared_uses : (t : TableLists) (ts us : List Lexeme) (f : FunctionTree) → completed numbered_function (read declared_function ts) ≡ Some (f, us) → InstsUse t (insts_of f) t
+declared_uses t ts us f e = subst (λ (l : List BlockTree). InstsUse t (concat (map (λ (b : BlockTree). b.insts) l)) t) (sym (declared_without ts us f e)) (uses_none t)
+
 -- ---- functions in their order
 
 module _ (defs : Definitions) where
@@ -126,13 +167,14 @@ pub record ReadSoFar (old : TableLists) (done : List FunctionSource) (now : Tabl
   pub reads : functions_read (definitions_of old) (map skimmed_of done) ≡ Some (map (function_in (tables_in now)) fs)
   pub stays : (later : TableLists) → Grows now later → map (function_in (tables_in later)) fs ≡ map (function_in (tables_in now)) fs
   pub tables : AllByRecursion (λ (f : Function). IsTable f.names) fs
+  pub uses : InstsUse old (concat (map insts_of (map (function_in (tables_in now)) fs))) now
 
 pub none_read : (t : TableLists) → ReadSoFar t [] t []
-none_read t = record { grows = grows_refl t; reads = refl; stays = λ later g. refl; tables = tt }
+none_read t = record { grows = grows_refl t; reads = refl; stays = λ later g. refl; tables = tt; uses = uses_none t }
 
 pub one_read : (old now new : TableLists) (done : List FunctionSource) (fs : List Function) (s : FunctionSource) (f : Function) → ReadSoFar old done now fs → Grows now new → function_read (definitions_of now) (skimmed_of s) ≡ Some (function_in (tables_in new) f)
-    → ((later : TableLists) → Grows new later → function_in (tables_in later) f ≡ function_in (tables_in new) f) → IsTable f.names → ReadSoFar old (done ++ s ∷ []) new (fs ++ f ∷ [])
-one_read old now new done fs s f h grows reads stays table = record {
+    → ((later : TableLists) → Grows new later → function_in (tables_in later) f ≡ function_in (tables_in new) f) → IsTable f.names → InstsUse now (insts_of (function_in (tables_in new) f)) new → ReadSoFar old (done ++ s ∷ []) new (fs ++ f ∷ [])
+one_read old now new done fs s f h grows reads stays table uses = record {
   grows = grows_trans old now new h.grows grows;
   reads =
       let all = function_in (tables_in new) in
@@ -144,6 +186,10 @@ one_read old now new done fs s f h grows reads stays table = record {
       let all = function_in (tables_in new) in
       map_push seen fs f ∙ ap (λ (l : List FunctionTree). l ++ seen f ∷ []) (h.stays later (grows_trans now new later grows g) ∙ sym (h.stays new grows)) ∙ ap (λ (t : FunctionTree). map all fs ++ t ∷ []) (stays later g) ∙ sym (map_push all fs f);
   tables = all_push (λ (f : Function). IsTable f.names) fs f h.tables table;
+  uses =
+      let all = function_in (tables_in new) in
+      let before : InstsUse old (concat (map insts_of (map all fs))) now = subst (λ (l : List FunctionTree). InstsUse old (concat (map insts_of l)) now) (sym (h.stays new grows)) h.uses in
+      subst (λ (l : List FunctionTree). InstsUse old (concat (map insts_of l)) new) (sym (map_push all fs f)) (function_uses old now new (map all fs) (all f) before uses);
 }
 
 parted : (sources : List FunctionSource) (i : ℕ) (d : FunctionSource) → i < length sources → map skimmed_of sources ≡ map skimmed_of (take i sources) ++ skimmed_of (get_or sources i d) ∷ map skimmed_of (drop (suc i) sources)

@@ -28,6 +28,7 @@ prepared ds vs fs types names before symbols t h s named known e d =
     let functions = function_symbols 0 (map (λ (f : FunctionSource). f.name) fs) in
     record {
       defined = rw (e, d) h.defined;
+      type_names = ap names_of e ∙ h.named;
       named = named;
       known = known ∙ length-map symbols (λ (s : Symbol). s.name);
       stand = λ later g.

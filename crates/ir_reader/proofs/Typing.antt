@@ -5,6 +5,7 @@ use Rattle.std.specs.List.{AllByRecursion, filter_map}
 use Rattle.std.specs.Option.{option_map}
 use Rattle.std.proofs.lemmas.List.{length-map, append-nil}
 use Rattle.std.proofs.lemmas.List.Elements.{filter_map-append}
+use Rattle.forms.specs.Nested.{concat}
 use Rattle.forms.specs.View.{Extends}
 use Rattle.ir_types.specs.declared.name.Name.{Name}
 use Rattle.ir_types.specs.declared.module.Symbol.{Symbol}
@@ -15,22 +16,25 @@ use Rattle.ir_types.specs.declared.memory_type.NamedType.TheVariants.{Defined, O
 use Rattle.ir_types.specs.Names.{unknown}
 use Rattle.ir_types.specs.Types.{AreTypes}
 use Rattle.ir_types.specs.TypeNodes.{TypeNode}
-use Rattle.type_reader.specs.TypeTable.{names_of, missing_entry, LooksUpSome}
+use Rattle.type_reader.specs.TypeTable.{names_of, missing_entry}
 use Rattle.type_reader.specs.Tables.{definition_over, IsDefinedBefore, AreEntriesApart}
-use Rattle.type_reader.proofs.LookUps.{looks_up_further}
+use Rattle.type_reader.proofs.LookUps.{names_append, missing_names, looked_up}
 use Rattle.type_reader.proofs.Holding.{names_extend}
 use Rattle.type_reader.proofs.Growth.{extends_length, entries_looked}
-use Rattle.type_reader.proofs.Enlarged.{looked_extend}
 use Rattle.item_reader.specs.declared.part.Definition.{Definition}
 use Rattle.item_reader.specs.declared.part.Variable.{Variable}
 use Rattle.ir_reader.specs.Gathered.{definition_of}
 use Rattle.ir_reader.specs.Trees.{stands_for, defined_as, symbol_over, variable_symbol}
-use Rattle.ir_reader.specs.Typed.{Made, StandsBefore, with_types, AreTyped}
-use Rattle.ir_reader.proofs.Making.{all_later}
+use Rattle.ir_reader.specs.Typed.{LooksUpNames, Made, definition_uses, variable_uses, names_before_functions, StandsBefore, with_types, AreTyped}
+use Rattle.ir_reader.proofs.Making.{looked_extend, all_later}
 use Rattle.ir_reader.proofs.Setting.{with_names, with_front}
 
 abbrev pub entries : List Definition → List TypeName
 entries ds = map (λ (d : Definition). missing_entry d.name) ds
+
+defined_names : (ds : List Definition) → names_of (entries ds) ≡ map (λ (d : Definition). d.name) ds
+defined_names [] = refl
+defined_names (d ∷ ds) = ap (λ (l : List Name). d.name ∷ l) (defined_names ds)
 
 -- ---- what the names stand for
 
@@ -96,16 +100,19 @@ all_before n (d ∷ ds) (ty ∷ tys) ns h = (entry_before n d.name ty h.0, all_b
 
 -- ---- all of them
 
-module _ (ds : List Definition) (vs : List Variable) (start first types : List MemTy) (tys : List NamedType) (symbols : List Symbol) (known names new : List TypeName) (d : Made stands_for defined_as (entries ds) start ds tys known first)
-    (v : Made symbol_over (λ (v : Variable). Some (variable_symbol v)) known first vs symbols names types) where
-  looked : LooksUpSome (entries ds) names
-  looked = looks_up_further (entries ds) known names d.names_grow v.names_grow
+module _ (ds : List Definition) (vs : List Variable) (start first types : List MemTy) (tys : List NamedType) (symbols : List Symbol) (known names new : List TypeName) (d : Made stands_for defined_as definition_uses (entries ds) start ds tys known first)
+    (v : Made symbol_over (λ (v : Variable). Some (variable_symbol v)) variable_uses known first vs symbols names types) where
+  abbrev used : List Name
+  used = concat (map definition_uses ds) ++ concat (map variable_uses vs)
+
+  looked : LooksUpNames (entries ds) used names
+  looked = looked_up (entries ds) known names (concat (map definition_uses ds)) (concat (map variable_uses vs)) d.names_grow v.names_grow
 
   ns : List Name
-  ns = unknown (names_of (entries ds)) looked.used
+  ns = unknown (names_of (entries ds)) used
 
   said_of_all : map (stands_for (names_of names) types) tys ≡ map defined_as ds
-  said_of_all = d.stands (names_of names) types (names_extend known names (looked_extend known names v.names_grow)) v.types_grow
+  said_of_all = d.stands (names_of names) types (names_extend known names (looked_extend known names (concat (map variable_uses vs)) v.names_grow)) v.types_grow
 
   as_many : length tys ≡ length (entries ds)
   as_many =
@@ -113,18 +120,27 @@ module _ (ds : List Definition) (vs : List Variable) (start first types : List M
       sym (length-map tys (stands_for (names_of names) types)) ∙ e ∙ length-map ds defined_as ∙ sym (length-map ds (λ (d : Definition). missing_entry d.name))
 
   pub few : length tys ≤ length names
-  few = omega (arith, as_many, extends_length (entries ds) names (looked_extend (entries ds) names looked))
+  few = omega (arith, as_many, extends_length (entries ds) names (looked_extend (entries ds) names used looked))
 
   new_are : new ≡ with_types names tys → new ≡ with_types (entries ds) tys ++ map missing_entry ns
   unfolding ns
-  new_are e = e ∙ ap (λ (l : List TypeName). with_types l tys) looked.parts ∙ with_front (entries ds) (map missing_entry ns) tys (omega (arith, as_many))
+  new_are e = e ∙ ap (λ (l : List TypeName). with_types l tys) looked ∙ with_front (entries ds) (map missing_entry ns) tys (omega (arith, as_many))
 
   same : new ≡ with_types names tys → names_of new ≡ names_of names
   same e = ap names_of e ∙ with_names names tys
 
+  named : new ≡ with_types names tys → names_of new ≡ names_before_functions ds vs
+  unfolding ns
+  named e =
+      same e
+      ∙ ap names_of looked
+      ∙ names_append (entries ds) (map missing_entry ns)
+      ∙ ap (λ (l : List Name). names_of (entries ds) ++ l) (missing_names ns)
+      ∙ ap (λ (l : List Name). l ++ unknown l used) (defined_names ds)
+
   apart : AreEntriesApart (with_types (entries ds) tys ++ map missing_entry ns)
   unfolding ns
-  apart = subst (λ (l : List Name). AreEntriesApart (with_types (entries ds) tys ++ map missing_entry (unknown l looked.used))) (with_names (entries ds) tys) (entries_looked (with_types (entries ds) tys) looked.used (all_apart (names_of names) types ds tys said_of_all))
+  apart = subst (λ (l : List Name). AreEntriesApart (with_types (entries ds) tys ++ map missing_entry (unknown l used))) (with_names (entries ds) tys) (entries_looked (with_types (entries ds) tys) used (all_apart (names_of names) types ds tys said_of_all))
 
   defined : filter_map (definition_over (names_of names) types) (with_types (entries ds) tys ++ map missing_entry ns) ≡ map definition_of ds
   defined =
@@ -139,6 +155,7 @@ module _ (ds : List Definition) (vs : List Variable) (start first types : List M
     are = subst (λ (l : List Name). AreTypes l 0 types) (sym (same e)) v.are;
     before = subst (AllByRecursion (IsDefinedBefore (length types))) (sym (new_are e)) (all_before (length types) ds tys ns (all_later (length first) (length types) tys (extends_length first types v.types_grow) within));
     apart = subst AreEntriesApart (sym (new_are e)) apart;
+    named = named e;
     defined = ap (λ (l : List Name). filter_map (definition_over l types) new) (same e) ∙ ap (filter_map (definition_over (names_of names) types)) (new_are e) ∙ defined;
     stand = λ later others n t. v.stands later others (subst (λ (l : List Name). Extends l later) (same e) n) t;
   }

@@ -2,9 +2,7 @@
 use Rattle.std.specs.Prelude.{◌≡◌, ℕ, List, [], ◌∷◌, length, Option, Some, None, Result, Ok, Err}
 use Rattle.forms.specs.declared.cursor.SyntaxFault.{SyntaxFault}
 use Rattle.forms.specs.declared.cursor.SyntaxFault.TheVariants.{NoReading, Memory}
-use Rattle.forms.specs.declared.cursor.Cursor.{Cursor}
 use Rattle.forms.specs.Form.{Lexeme}
-use Rattle.forms.specs.Gives.{left}
 use Rattle.forms.specs.Reading.{◌>>=◌, read}
 use Rattle.text_lex.specs.declared.fault.Count.{Count}
 use Rattle.ir_types.specs.declared.module.Module.{Module}
@@ -49,11 +47,11 @@ pub record IsGathered (ts : List Lexeme) (g : Gathered) (rest : List Lexeme) : T
   pub read : items_skimmed ts ≡ Some (items, rest)
   pub holds : Holds g items
 
--- the items with which the tokens begin were gathered; or none are skimmed, or there was no memory
-abbrev pub GivesItems : List Lexeme → Gathered → Result Cursor SyntaxFault → Type 0
-GivesItems ts g (Ok rest) = IsGathered ts g (left rest)
-GivesItems ts g (Err (NoReading place)) = items_skimmed ts ≡ None
-GivesItems ts g (Err Memory) = Unit {0}
+-- the items with which the tokens begin were gathered, and these tokens are left; or none are skimmed, or there was no memory
+abbrev pub GivesItems : List Lexeme → Gathered → List Lexeme → Result Unit SyntaxFault → Type 0
+GivesItems ts g rest (Ok done) = IsGathered ts g rest
+GivesItems ts g rest (Err (NoReading place)) = items_skimmed ts ≡ None
+GivesItems ts g rest (Err Memory) = Unit {0}
 
 -- ---- the module
 

@@ -1,6 +1,8 @@
 -- What is made of definitions, variables and functions before functions are read.
 use Rattle.std.specs.Prelude.{◌≡◌, ◌<◌, ℕ, List, [], ◌∷◌, ◌++◌, length, map, Some}
+use Rattle.std.specs.Option.{option_map}
 use Rattle.std.specs.List.{AllByRecursion, filter_map}
+use Rattle.forms.specs.Nested.{concat}
 use Rattle.forms.specs.View.{Extends}
 use Rattle.ir_types.specs.declared.name.Name.{Name}
 use Rattle.ir_types.specs.declared.module.Symbol.{Symbol}
@@ -8,13 +10,18 @@ use Rattle.ir_types.specs.declared.memory_type.MemTy.{MemTy}
 use Rattle.ir_types.specs.declared.memory_type.TypeName.{TypeName}
 use Rattle.ir_types.specs.declared.memory_type.NamedType.{NamedType}
 use Rattle.ir_types.specs.declared.memory_type.NamedType.TheVariants.{Defined, Opaque, Missing}
+use Rattle.ir_types.specs.Names.{unknown}
 use Rattle.ir_types.specs.Types.{AreTypes}
+use Rattle.ir_types.specs.TypeNodes.{names_used}
 use Rattle.ir_types.specs.Tree.{SymbolTree}
-use Rattle.type_reader.specs.TypeTable.{names_of, LooksUpSome}
+use Rattle.ir_types.specs.Collected.{of_definition}
+use Rattle.ir_types.specs.Used.{types_of_definition, with_unknown}
+use Rattle.type_reader.specs.TypeTable.{names_of, missing_entry}
 use Rattle.type_reader.specs.Tables.{TableLists, definition_over, definitions_of, Grows, IsDefinedBefore, AreEntriesApart}
 use Rattle.item_reader.specs.declared.part.Definition.{Definition}
 use Rattle.item_reader.specs.declared.part.Variable.{Variable}
 use Rattle.item_reader.specs.declared.source.FunctionSource.{FunctionSource}
+use Rattle.item_reader.specs.Parts.{nodes_of}
 use Rattle.ir_reader.specs.Gathered.{definition_of}
 use Rattle.ir_reader.specs.Trees.{symbol_over, variable_symbol, function_symbols}
 
@@ -22,12 +29,28 @@ use Rattle.ir_reader.specs.Trees.{symbol_over, variable_symbol, function_symbols
 abbrev pub Stands : {B C : Type 0} → (List Name → List MemTy → B → C) → List TypeName → List MemTy → B → C → Type 0
 Stands over names types made tree = (later : List Name) (others : List MemTy) → Extends (names_of names) later → Extends types others → over later others made ≡ tree
 
--- Something was made of some things, each as its tree says, and the names that these use were looked up.
-pub record Made {A B C : Type 0} (over : List Name → List MemTy → B → C) (tree : A → C) (base : List TypeName) (start : List MemTy) (done : List A) (made : List B) (names : List TypeName) (types : List MemTy) : Type 0 where
+-- the entries have these names too: those that they lacked stand at their end, each once, and are missing
+abbrev pub LooksUpNames : (old : List TypeName) (used : List Name) (new : List TypeName) → Type 0
+LooksUpNames old used new = new ≡ old ++ map missing_entry (unknown (names_of old) used)
+
+-- Something was made of some things, each as its tree says, and the names that these use were looked up, in their order.
+pub record Made {A B C : Type 0} (over : List Name → List MemTy → B → C) (tree : A → C) (uses : A → List Name) (base : List TypeName) (start : List MemTy) (done : List A) (made : List B) (names : List TypeName) (types : List MemTy) : Type 0 where
   pub types_grow : Extends start types
   pub are : AreTypes (names_of names) 0 types
-  pub names_grow : LooksUpSome base names
+  pub names_grow : LooksUpNames base (concat (map uses done)) names
   pub stands : Stands (λ ns ts bs. map (over ns ts) bs) names types made (map tree done)
+
+-- the names of types that a definition uses
+abbrev pub definition_uses : Definition → List Name
+definition_uses d = types_of_definition (of_definition (option_map nodes_of d.ty))
+
+-- those that a variable uses
+abbrev pub variable_uses : Variable → List Name
+variable_uses v = names_used (nodes_of v.ty)
+
+-- the names of types: those that are defined, and those that definitions and then variables use
+abbrev pub names_before_functions : List Definition → List Variable → List Name
+names_before_functions definitions variables = with_unknown (map (λ (d : Definition). d.name) definitions) (concat (map definition_uses definitions) ++ concat (map variable_uses variables))
 
 -- a type before a place, if any
 abbrev pub StandsBefore : ℕ → NamedType → Type 0
@@ -46,6 +69,7 @@ pub record AreTyped (definitions : List Definition) (variables : List Variable) 
   pub are : AreTypes (names_of names) 0 types
   pub before : AllByRecursion (IsDefinedBefore (length types)) names
   pub apart : AreEntriesApart names
+  pub named : names_of names ≡ names_before_functions definitions variables
   pub defined : filter_map (definition_over (names_of names) types) names ≡ map definition_of definitions
   pub stand : Stands (λ ns ts ss. map (symbol_over ns ts) ss) names types symbols (map (λ v. Some (variable_symbol v)) variables)
 
@@ -53,9 +77,10 @@ pub record AreTyped (definitions : List Definition) (variables : List Variable) 
 abbrev pub all_symbols : List Variable → List FunctionSource → List SymbolTree
 all_symbols variables functions = map variable_symbol variables ++ function_symbols 0 (map (λ (f : FunctionSource). f.name) functions)
 
--- the tables say what the definitions say, their symbols are these, and all that are defined or declared
+-- the tables say what the definitions say, and have the names that these and variables use; their symbols are these, all that are defined or declared
 pub record ArePrepared (definitions : List Definition) (variables : List Variable) (functions : List FunctionSource) (tables : TableLists) (symbols : List Symbol) : Type 0 where
   pub defined : definitions_of tables ≡ map definition_of definitions
+  pub type_names : names_of tables.entries ≡ names_before_functions definitions variables
   pub named : tables.symbols ≡ map (λ (s : Symbol). s.name) symbols
   pub known : tables.known ≡ length symbols
   pub stand : (later : TableLists) → Grows tables later → map (symbol_over (names_of later.entries) later.types) symbols ≡ map Some (all_symbols variables functions)

@@ -10,12 +10,12 @@ ghost use Rattle.ir_reader.specs.Typed.{AreTyped, ArePrepared};
 ghost use Rattle.ir_reader.specs.Reading.{filled_items, GivesModule};
 ghost use Rattle.ir_reader.specs.Trees.{tables_in_parts};
 
-use crate::functions::functions;
+use crate::functions::{functions, try_function};
 use crate::gather::Gathered;
 use crate::longs::{ItemLong, first_long};
 use crate::named::{named_types, names_of, set_types};
 use crate::symbols::{add_functions, symbol_names, variable_symbols, with_missing};
-use forms::SyntaxFault;
+use forms::{Cursor, SyntaxFault};
 use ir_limits::{LongNames, passed};
 use ir_types::{Function, Kept, MemTy, Module, Symbol};
 use item_reader::{Definition, FunctionSource, Variable};
@@ -77,6 +77,30 @@ fn prepare(
     let symbol_names = symbol_names(alloc, symbols.as_slice())?;
     let tables = Tables::new(alloc, types, names, symbol_names)?;
     Ok(Prepared { tables, symbols })
+}
+
+/// Reads the gathered functions, and the one with which the tokens behind them begin, if one does.
+///
+/// # Errors
+///
+/// Where one of them can't be read, with the first place at which reading stops, or there is no room.
+pub fn try_functions(
+    alloc: Global,
+    gathered: Gathered<'_>,
+    behind: Cursor<'_>,
+) -> Result<(), SyntaxFault> {
+    let Gathered {
+        definitions,
+        variables,
+        functions: sources,
+        ..
+    } = gathered;
+    let Prepared {
+        mut tables,
+        symbols: _,
+    } = prepare(alloc, definitions.as_slice(), variables, sources.as_slice())?;
+    functions(alloc, sources.as_slice(), &mut tables)?;
+    try_function(alloc, behind, &mut tables)
 }
 
 /// The first limit that functions and names pass.

@@ -70,20 +70,19 @@ impl<'t> Gathered<'t> {
     }
 }
 
-/// Gathers items, up to what begins none. Where one can't be read, those before it are there.
+/// Gathers items, up to what begins none. Where one can't be read, the tokens that are left begin with it, and the items before it are there.
 pub fn gather<'t>(
     alloc: Global,
-    tokens: Cursor<'t>,
+    tokens: &mut Cursor<'t>,
     gathered: &mut Gathered<'t>,
-) -> Result<Cursor<'t>, SyntaxFault>
+) -> Result<(), SyntaxFault>
     requires { Holds gathered.old [] }
-    ensures { GivesItems (left tokens.entry) gathered.new result }
+    ensures { GivesItems (left tokens.old) gathered.new (left tokens.new) result }
 {
-    let mut rest = tokens;
-    'more: while begins_item(rest) {
-        let (part, after) = item(alloc, rest)?;
+    'more: while begins_item(*tokens) {
+        let (part, rest) = item(alloc, *tokens)?;
         gathered.add(part)?;
-        rest = after;
+        *tokens = rest;
     }
-    Ok(rest)
+    Ok(())
 }

@@ -19,22 +19,28 @@ mod symbols;
 #[cfg(test)]
 mod tests;
 
-use crate::build::module;
+use crate::build::{module, try_functions};
 use crate::gather::{Gathered, gather};
 use forms::{Cursor, SyntaxFault, Token};
 use ir_types::Module;
 use std::alloc::Global;
 use text_lex::{Count, TEXT_LIMIT, TextFault, lex};
 
-/// The first fault in reading from left to right, where items were gathered up to this one: a function among them may have one before.
-/// (Names of types stand there for what the gathered items define.)
-fn first_fault(alloc: Global, gathered: Gathered<'_>, fault: SyntaxFault) -> SyntaxFault
+/// The first fault in reading from left to right, where items were gathered up to these tokens: a function before them, or the one with
+/// which they begin, may have an earlier one. (Names of types stand there for what the gathered items define.)
+fn first_fault(
+    alloc: Global,
+    gathered: Gathered<'_>,
+    rest: Cursor<'_>,
+    fault: SyntaxFault,
+) -> SyntaxFault
     ensures { fault ≡ Memory → result ≡ Memory }
 {
     match fault {
-        SyntaxFault::NoReading(place) => match module(alloc, gathered) {
-            Ok(_) => SyntaxFault::NoReading(place),
-            Err(earlier) => earlier,
+        SyntaxFault::NoReading(place) => match try_functions(alloc, gathered, rest) {
+            Ok(()) => SyntaxFault::NoReading(place),
+            Err(SyntaxFault::NoReading(found)) => SyntaxFault::NoReading(place.min(found)),
+            Err(SyntaxFault::Memory) => SyntaxFault::Memory,
         },
         SyntaxFault::Memory => SyntaxFault::Memory,
     }
@@ -48,10 +54,11 @@ fn module_of(
     ensures { GivesModule (module_read (left tokens.entry)) result }
 {
     let mut gathered = Gathered::nothing(alloc);
-    match gather(alloc, tokens, &mut gathered) {
-        Ok(rest) if rest.rest.is_empty() => module(alloc, gathered),
-        Ok(rest) => Err(first_fault(alloc, gathered, rest.refusal())),
-        Err(fault) => Err(first_fault(alloc, gathered, fault)),
+    let mut rest = tokens;
+    match gather(alloc, &mut rest, &mut gathered) {
+        Ok(()) if rest.rest.is_empty() => module(alloc, gathered),
+        Ok(()) => Err(first_fault(alloc, gathered, rest, rest.refusal())),
+        Err(fault) => Err(first_fault(alloc, gathered, rest, fault)),
     }
 }
 
@@ -71,9 +78,8 @@ fn stop(tokens: &[Token], place: u32, end: u32) -> u32
 ///
 /// # Errors
 ///
-/// Those of `lex`; then `NoReading` with the place of the first token at which reading from left to right stops, or the text's length
-/// (of a function whose brackets don't match, the place where they don't); then `CountLimit` with the first limit that the module
-/// passes; and `Memory` where there is no room.
+/// Those of `lex`; then `NoReading` with the place of the first token at which reading from left to right stops, or the text's length;
+/// then `CountLimit` with the first limit that the module passes; and `Memory` where there is no room.
 pub fn read_module(alloc: Global, text: &[u8]) -> Result<Module, TextFault>
     ensures module { IfOk result (λ m. IsWithinLimits text.now m) }
     ensures within { OnOk result (length text.now ≤ TEXT_LIMIT) }

@@ -3,12 +3,12 @@
 ghost use Rattle.std.specs.Prelude.{◌≡◌, ◌≤◌, ◌<◌, length, map, IfOk, OnOk};
 ghost use Rattle.std.specs.List.{AllByRecursion};
 ghost use Rattle.forms.specs.View.{Extends};
-ghost use Rattle.ir_types.specs.TypeNodes.{type_nodes};
+ghost use Rattle.ir_types.specs.TypeNodes.{type_nodes, names_used};
 ghost use Rattle.ir_types.specs.Types.{AreTypes};
-ghost use Rattle.type_reader.specs.TypeTable.{names_of, missing_entry, LooksUpSome};
+ghost use Rattle.type_reader.specs.TypeTable.{names_of, missing_entry};
 ghost use Rattle.item_reader.specs.Parts.{nodes_of};
 ghost use Rattle.ir_reader.specs.Trees.{stands_for, defined_as};
-ghost use Rattle.ir_reader.specs.Typed.{Stands, Made, StandsBefore, with_types};
+ghost use Rattle.ir_reader.specs.Typed.{LooksUpNames, Stands, Made, definition_uses, StandsBefore, with_types};
 
 use forms::SyntaxFault;
 use ir_types::{MemTy, NamedType, TypeId};
@@ -27,7 +27,7 @@ pub fn type_at(
     requires { AreTypes (names_of names.old) 0 types.old.items }
     ensures types_grow { Extends types.old.items types.new.items }
     ensures are { OnOk result (AreTypes (names_of names.new) 0 types.new.items) }
-    ensures names_grow { LooksUpSome names.old names.new }
+    ensures names_grow { IfOk result (λ id. LooksUpNames names.old (names_used (nodes_of source.entry)) names.new) }
     ensures stands { IfOk result (λ id. Stands type_nodes names.new types.new.items id (nodes_of source.entry)) }
     ensures within { IfOk result (λ id. id.0 < length types.new.items) }
 {
@@ -59,7 +59,7 @@ fn named_type(
     requires { AreTypes (names_of names.old) 0 types.old.items }
     ensures types_grow { Extends types.old.items types.new.items }
     ensures are { OnOk result (AreTypes (names_of names.new) 0 types.new.items) }
-    ensures names_grow { LooksUpSome names.old names.new }
+    ensures names_grow { IfOk result (λ ty. LooksUpNames names.old (definition_uses definition.now) names.new) }
     ensures stands { IfOk result (λ ty. Stands stands_for names.new types.new.items ty (defined_as definition.now)) }
     ensures within { IfOk result (StandsBefore (length types.new.items)) }
 {
@@ -80,7 +80,7 @@ pub fn named_types(
     names: &mut TypeNames,
 ) -> Result<Vec<NamedType>, AllocError>
     requires { AreTypes (names_of names.old) 0 types.old.items }
-    ensures made { IfOk result (λ named. Made stands_for defined_as names.old types.old.items definitions.now named.items names.new types.new.items) }
+    ensures made { IfOk result (λ named. Made stands_for defined_as definition_uses names.old types.old.items definitions.now named.items names.new types.new.items) }
     ensures within { IfOk result (λ named. AllByRecursion (StandsBefore (length types.new.items)) named.items) }
 {
     let mut named = Vec::with_capacity(alloc, definitions.len())?;

@@ -6,11 +6,11 @@ ghost use Rattle.ir_types.specs.declared.name.Name.{Name};
 ghost use Rattle.ir_types.specs.declared.module.Symbol.{Symbol};
 ghost use Rattle.ir_types.specs.declared.memory_type.MemTy.{MemTy};
 ghost use Rattle.ir_types.specs.Types.{AreTypes};
-ghost use Rattle.type_reader.specs.TypeTable.{names_of, LooksUpSome};
+ghost use Rattle.type_reader.specs.TypeTable.{names_of};
 ghost use Rattle.item_reader.specs.declared.part.Variable.{Variable};
 ghost use Rattle.item_reader.specs.declared.source.FunctionSource.{FunctionSource};
 ghost use Rattle.ir_reader.specs.Trees.{symbol_over, variable_symbol, function_symbol, function_symbols, missing_symbol};
-ghost use Rattle.ir_reader.specs.Typed.{Stands, Made};
+ghost use Rattle.ir_reader.specs.Typed.{LooksUpNames, Stands, Made, variable_uses};
 
 use crate::named::type_at;
 use ir_types::{FuncId, MemTy, Name, Symbol, SymbolKind};
@@ -29,7 +29,7 @@ fn variable_symbol(
     requires { AreTypes (names_of names.old) 0 types.old.items }
     ensures types_grow { Extends types.old.items types.new.items }
     ensures are { OnOk result (AreTypes (names_of names.new) 0 types.new.items) }
-    ensures names_grow { LooksUpSome names.old names.new }
+    ensures names_grow { IfOk result (λ s. LooksUpNames names.old (variable_uses variable.entry) names.new) }
     ensures stands { IfOk result (λ s. Stands symbol_over names.new types.new.items s (Some (variable_symbol variable.entry))) }
 {
     let Variable {
@@ -56,7 +56,7 @@ pub fn variable_symbols(
     names: &mut TypeNames,
 ) -> Result<Vec<Symbol>, AllocError>
     requires { AreTypes (names_of names.old) 0 types.old.items }
-    ensures { IfOk result (λ symbols. Made symbol_over (λ (v : Variable). Some (variable_symbol v)) names.old types.old.items variables.entry.items symbols.items names.new types.new.items) }
+    ensures { IfOk result (λ symbols. Made symbol_over (λ (v : Variable). Some (variable_symbol v)) variable_uses names.old types.old.items variables.entry.items symbols.items names.new types.new.items) }
 {
     let mut symbols = Vec::with_capacity(alloc, variables.len())?;
     for variable in variables {

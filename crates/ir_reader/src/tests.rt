@@ -206,6 +206,37 @@ fn says_where_an_item_stops(rt: HostRuntime) -> Result<(), Fail> {
     Ok(())
 }
 
+#[test]
+fn says_where_a_function_stops(rt: HostRuntime) -> Result<(), Fail> {
+    let refused: [(&[u8], u32); 12] = [
+        (b"define void @f() { add i32 1 ret void ( }", 29),
+        (b"define void @f() { ( ret void }", 19),
+        (b"define void @f() { ret void ( }", 28),
+        (b"define void @f() { ret void ) }", 28),
+        (b"define void @f() { ret i32 ) }", 27),
+        (
+            b"define void @f() { ret void define void @g() { ret void }",
+            28,
+        ),
+        (b"define void @f() { ret void", 27),
+        (b"define void @f() { ret } define void @g() { ) }", 23),
+        (b"%a = type [2 y i8] define void @f() { ) }", 13),
+        (b"define void @f(i8 { ret void }", 18),
+        (b"declare void @f(i8 void", 19),
+        (
+            b"define void @f() { ret void } define void @g() { br } )",
+            52,
+        ),
+    ];
+    for (text, place) in &refused {
+        match read_module(rt.alloc(), *text) {
+            Err(TextFault::NoReading(found)) => assert_eq!(rt; found, *place),
+            _ => rt.abort(),
+        }
+    }
+    Ok(())
+}
+
 /// A text with a name of so many bytes between two parts.
 fn with_name(
     alloc: Global,

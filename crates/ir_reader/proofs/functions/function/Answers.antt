@@ -4,7 +4,7 @@ use Rattle.forms.specs.Gives.{left}
 use Rattle.ir_types.specs.declared.module.Function.{Function}
 use Rattle.ir_types.specs.Denotes.{function_in}
 use Rattle.type_reader.specs.Tables.{tables_in, definitions_of}
-use Rattle.ir_reader.proofs.Outlines.{defined_read, declared_read, defined_refused, declared_refused}
+use Rattle.ir_reader.proofs.Outlines.{defined_read, declared_read, defined_refused, declared_refused, declared_uses}
 use Rattle.ir_reader.proofs.functions.function.Goals as goal
 
 pub returns-in_err-function-clause-reads : goal.returns-in_err-function-clause-reads
@@ -24,3 +24,6 @@ returns-in_err-function-2-clause-reads c =
 
 pub returns-clause-reads : goal.returns-clause-reads
 returns-clause-reads c = declared_read (definitions_of c.args.tables.now) c.args.source.now _ (left c.in_ok-function-2.field-0-1) c.if-source.false (c.in_ok-function-2.ensures.reads (tables_in c.args.tables.now))
+
+pub returns-clause-uses : goal.returns-clause-uses
+returns-clause-uses c = let t = c.args.tables.now in declared_uses t (left c.args.source.now.tokens) (left c.in_ok-function-2.field-0-1) _ (c.in_ok-function-2.ensures.reads (tables_in t))

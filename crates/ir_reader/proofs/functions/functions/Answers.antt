@@ -32,4 +32,4 @@ loop-source-preserved c =
     let s = c.source-item.result in
     let e = c.in_ok-function.ensures in
     let taken = take_more sources i s c.loop-source-test.true ∙ ap (λ x. take i sources ++ x ∷ []) (sym c.source-item.is) in
-    rw (taken, c.in_ok-push.ensures.items) (one_read c.args.tables.now c.loop-source.tables c.function.new.tables (take i sources) c.loop-source.functions.items s c.in_ok-function.function c.loop-source.invariant e.grows e.reads e.stays e.table)
+    rw (taken, c.in_ok-push.ensures.items) (one_read c.args.tables.now c.loop-source.tables c.function.new.tables (take i sources) c.loop-source.functions.items s c.in_ok-function.function c.loop-source.invariant e.grows e.reads e.stays e.table e.uses)

@@ -2,7 +2,7 @@ use Rattle.std.proofs.Common.{[], ◌∷◌, ◌++◌, length, take, sym, ap, �
 use Rattle.std.proofs.lemmas.List.{take_more}
 use Rattle.type_reader.proofs.Growth.{extends_length}
 use Rattle.ir_reader.specs.Trees.{stands_for, defined_as}
-use Rattle.ir_reader.specs.Typed.{StandsBefore}
+use Rattle.ir_reader.specs.Typed.{definition_uses, StandsBefore}
 use Rattle.ir_reader.proofs.Making.{made_more, all_later, all_push}
 use Rattle.ir_reader.proofs.named.named_types.Goals as goal
 
@@ -19,7 +19,7 @@ loop-definition-preserved c =
     let taken = take_more ds i d c.loop-definition-test.true ∙ ap (λ x. take i ds ++ x ∷ []) (sym c.definition-item.is) in
     record {
       made =
-          rw (taken, c.in_ok-push.ensures.items) (made_more stands_for defined_as c.args.names.now c.loop-definition.names c.named_type.new.names c.args.types.now.items before after (take i ds) named d c.in_ok-ty.ty
+          rw (taken, c.in_ok-push.ensures.items) (made_more stands_for defined_as definition_uses c.args.names.now c.loop-definition.names c.named_type.new.names c.args.types.now.items before after (take i ds) named d c.in_ok-ty.ty
           h.made e.types_grow e.are e.names_grow e.stands);
       within = rw c.in_ok-push.ensures.items (all_push (StandsBefore (length after)) named c.in_ok-ty.ty (all_later (length before) (length after) named (extends_length before after e.types_grow) h.within) e.within);
     }

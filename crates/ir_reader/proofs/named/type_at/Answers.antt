@@ -1,5 +1,7 @@
-use Rattle.std.proofs.Common.{length, sym, ap, ◌∙◌, arith}
+use Rattle.std.proofs.Common.{List, length, sym, ap, ◌∙◌, subst, arith}
 use Rattle.forms.specs.Gives.{left}
+use Rattle.ir_types.specs.TypeNodes.{TypeNode}
+use Rattle.type_reader.specs.TypeTable.{LooksUpAll}
 use Rattle.item_reader.specs.Sources.{nodes_read, nodes_or_none}
 use Rattle.ir_reader.proofs.named.type_at.Goals as goal
 
@@ -8,3 +10,9 @@ unfolding nodes_read
 returns-in-Ok-clause-stands c = λ later others n t.
     let read = ap nodes_or_none (c.in-Ok.ensures.reads (length (left c.args.source.tokens)) (omega arith)) in
     c.in-Ok.ensures.stays later others n t ∙ sym read
+
+pub returns-in-Ok-clause-names_grow : goal.returns-in-Ok-clause-names_grow
+unfolding nodes_read
+returns-in-Ok-clause-names_grow c =
+    let read = ap nodes_or_none (c.in-Ok.ensures.reads (length (left c.args.source.tokens)) (omega arith)) in
+    subst (λ (l : List TypeNode). LooksUpAll c.args.names.now l c.memory_type.new.names) (sym read) c.in-Ok.ensures.names
