@@ -15,7 +15,7 @@ ghost use Rattle.function_reader.specs.Lines.{tok, result_next, named_so, plainl
 
 use crate::numbering::{Numbering, result_id, scoped_id};
 use forms::{Cursor, SyntaxFault, TokenKind};
-use ir_reader_ops::{Place, Scope, begins_instruction, read_inst};
+use ir_reader_ops::{Place, Scope, begins_instruction, inst_at};
 use ir_types::{Inst, Name, ValueId};
 use std::alloc::Global;
 use type_reader::name_behind;
@@ -84,7 +84,7 @@ fn named<'t>(
 {
     let written = result_name(alloc, name, start)?;
     let id = scoped_id(Some(written), scope, numbering, start)?;
-    let (inst, rest) = read_inst(alloc, place, tokens, scope)?;
+    let (inst, rest) = inst_at(alloc, place, tokens, scope)?;
     Ok((with_result(inst, Some(id)), rest))
 }
 
@@ -101,7 +101,7 @@ fn plain<'t>(
     ensures stays { Stays inst_seen scope.new result }
     ensures uses { IfOk result (λ x. InstUses scope.old (inst_seen scope.new x.0) scope.new) }
 {
-    let (inst, rest) = read_inst(alloc, place, tokens, scope)?;
+    let (inst, rest) = inst_at(alloc, place, tokens, scope)?;
     let id = result_id(inst.ty, scope, numbering, tokens)?;
     Ok((with_result(inst, id), rest))
 }

@@ -7,7 +7,7 @@ use Rattle.function_reader.proofs.line.named.Goals as goal
 
 pub returns-clause-stays : goal.returns-clause-stays
 returns-clause-stays c = λ later e.
-    let n = c.read_inst.new.scope in
+    let n = c.inst_at.new.scope in
     let grows = c.in_ok-inst.ensures.grows in
     let stays = c.in_ok-id.ensures.stays in
     let id : name_seen later c.in_ok-id.id ≡ name_seen n c.in_ok-id.id = stays later (widens_trans c.scoped_id.new.scope n later grows e) ∙ sym (stays n grows) in
