@@ -19,7 +19,7 @@ use Rattle.ir_sizes.proofs.PlaceNodes.{type_at}
 use Rattle.ir_sizes.proofs.Agreed.{later_type}
 use Rattle.ir_sizes.proofs.Pushing.{got_before}
 
-got_in_front : {A : Type 0} (xs ys : List A) (i : ℕ) (x : A) → slice_get xs i ≡ Some x → slice_get (xs ++ ys) i ≡ Some x
+pub got_in_front : {A : Type 0} (xs ys : List A) (i : ℕ) (x : A) → slice_get xs i ≡ Some x → slice_get (xs ++ ys) i ≡ Some x
 got_in_front xs ys i x e = got_before xs ys i (slice_get_within xs i x e) ∙ e
 
 -- what stands behind a list is one of those that were added
