@@ -17,3 +17,4 @@ pub mod Places
 pub mod Leading
 pub mod Beginning
 pub mod Ahead
+pub mod Keeping
