@@ -9,9 +9,11 @@ ghost use Rattle.forms.specs.Gives.{Gives, left};
 ghost use Rattle.ir_types.specs.Names.{IsTable};
 ghost use Rattle.ir_types.specs.Offsets.{Definitions};
 ghost use Rattle.ir_types.specs.Denotes.{Tables as TablesIn, function_in};
+ghost use Rattle.ir_types.specs.Used.{insts_of};
 ghost use Rattle.ir_types.specs.Grammar.{parameter, dotted_parameters, list, some, block, declared_function, defined_function};
 ghost use Rattle.ir_types.specs.Numbered.{numbered_param, numbered_block, numbered_function};
 ghost use Rattle.type_reader.specs.Tables.{TableLists, tables_in, definitions_of, Grows};
+ghost use Rattle.type_reader.specs.Uses.{InstsUse};
 ghost use Rattle.ir_reader_ops.specs.Seen.{definitions, Widens, Stays};
 ghost use Rattle.ir_reader_ops.specs.Between.{between_read};
 ghost use Rattle.function_reader.specs.View.{StaysNamed};
@@ -257,6 +259,7 @@ pub fn defined<'t>(
     ensures reads { Gives (λ x. (function_in (tables_in tables.new) x.0, left x.1)) result (completed numbered_function (read (defined_function (definitions_of tables.old)) (left tokens.entry))) }
     ensures stays { IfOk result (λ x. (later : TableLists) → Grows tables.new later → function_in (tables_in later) x.0 ≡ function_in (tables_in tables.new) x.0) }
     ensures table { IfOk result (λ x. IsTable x.0.names) }
+    ensures uses { IfOk result (λ x. InstsUse tables.old (insts_of (function_in (tables_in tables.new) x.0)) tables.new) }
 {
     let none = no_tables(alloc)?;
     let given = mem::replace(tables, none);

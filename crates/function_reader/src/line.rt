@@ -15,7 +15,7 @@ ghost use Rattle.function_reader.specs.Lines.{tok, result_next, named_so, plainl
 
 use crate::numbering::{Numbering, result_id, scoped_id};
 use forms::{Cursor, SyntaxFault, TokenKind};
-use ir_reader_ops::{Place, Scope, begins_instruction, instruction};
+use ir_reader_ops::{Place, Scope, begins_instruction, read_inst};
 use ir_types::{Inst, Name, ValueId};
 use std::alloc::Global;
 use type_reader::name_behind;
@@ -83,7 +83,7 @@ fn named<'t>(
 {
     let written = result_name(alloc, name, start)?;
     let id = scoped_id(Some(written), scope, numbering, start)?;
-    let (inst, rest) = instruction(alloc, place, tokens, scope)?;
+    let (inst, rest) = read_inst(alloc, place, tokens, scope)?;
     Ok((with_result(inst, Some(id)), rest))
 }
 
@@ -99,7 +99,7 @@ fn plain<'t>(
     ensures reads { Gives (λ x. ((inst_seen scope.new x.0, numbering.new.next), left x.1)) result (completed (numbered_inst numbering.old.next) (plainly (read (form_at (definitions scope.old) place) (left tokens.entry)))) }
     ensures stays { Stays inst_seen scope.new result }
 {
-    let (inst, rest) = instruction(alloc, place, tokens, scope)?;
+    let (inst, rest) = read_inst(alloc, place, tokens, scope)?;
     let id = result_id(inst.ty, scope, numbering, tokens)?;
     Ok((with_result(inst, id), rest))
 }

@@ -5,6 +5,7 @@ use Rattle.forms.specs.Lexical.{StopsAt, Lexes}
 use Rattle.forms.proofs.Exact.{some_is}
 use Rattle.text_lex.proofs.Unique.{lexes_unique, stops_lexes}
 use Rattle.ir_types.specs.declared.module.Module.{Module}
+use Rattle.ir_types.specs.Used.{all_type_names, all_symbol_names}
 use Rattle.ir_types.specs.Denotes.{Denotes}
 use Rattle.ir_types.specs.Grammar.{SpellsModule}
 use Rattle.ir_types.specs.Numbered.{numbered_module}
@@ -52,5 +53,15 @@ reads-too text m n r s = record {
   lexes = r.lexes;
   spelled = r.spelled;
   numbers = r.numbers;
-  denotes = record { says = s.second.says ∙ sym s.first.says ∙ r.denotes.says; tables = s.second.tables; types = s.second.types; extents = s.second.extents; missing_types = s.second.missing_types; missing_symbols = s.second.missing_symbols };
+  denotes =
+      let one : s.tree ≡ collected r.numbered = sym s.first.says ∙ r.denotes.says in
+      record {
+        says = s.second.says ∙ one;
+        tables = s.second.tables;
+        types = s.second.types;
+        extents = s.second.extents;
+        type_names = s.second.type_names ∙ ap all_type_names one;
+        symbols = s.second.symbols ∙ ap all_symbol_names one;
+        bare = s.second.bare;
+      };
 }

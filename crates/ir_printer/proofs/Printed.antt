@@ -1,10 +1,12 @@
 -- What is printed of a module that some text reads as reads as that module.
-use Rattle.std.proofs.Common.{List, sym}
+use Rattle.std.proofs.Common.{◌≡◌, List, sym, ap, ◌∙◌}
 use Rattle.std.specs.Prelude.{map}
 use Rattle.std.specs.List.{AllByRecursion}
 use Rattle.text_lex.specs.Layout.{text_of, tokens_of}
 use Rattle.text_lex.proofs.Layouts.{pieces_lexed}
 use Rattle.ir_types.specs.declared.module.Module.{Module}
+use Rattle.ir_types.specs.Collected.{collected}
+use Rattle.ir_types.specs.Used.{all_type_names, all_symbol_names}
 use Rattle.ir_types.specs.Denotes.{type_names_of, function_in, tables_of, tree_of}
 use Rattle.ir_types.specs.Types.{AreTypes}
 use Rattle.ir_types.specs.Offsets.{definitions_in}
@@ -30,16 +32,25 @@ pub printed_reads : (m : Module) → IsReadable m → Reads (text_of (module_pie
 printed_reads m (text, r) =
     let shape : IsModule (tree_of m) = readable_known m (text, r) in
     let known = printed_known (tree_of m) shape in
-    let printed = module_printed (definitions_in (items_of m)) m r.denotes.types known in
+    let lines = module_printed (definitions_in (items_of m)) m r.denotes.types known in
     let d = r.denotes in
+    let printed : tree_of m ≡ collected (printed_items (tree_of m)) = sym (printed_collected (tree_of m) shape) in
     record {
       tokens = tokens_of (module_pieces m);
       written = items_of m;
       numbered = printed_items (tree_of m);
-      lexes = pieces_lexed (module_pieces m) printed.laid.tokens printed.laid.joined;
-      spelled = spells_module m printed;
+      lexes = pieces_lexed (module_pieces m) lines.laid.tokens lines.laid.joined;
+      spelled = spells_module m lines;
       numbers = numbered_again (printed_items (tree_of m)) known;
-      denotes = record { says = sym (printed_collected (tree_of m) shape); tables = d.tables; types = d.types; extents = d.extents; missing_types = d.missing_types; missing_symbols = d.missing_symbols };
+      denotes = record {
+        says = printed;
+        tables = d.tables;
+        types = d.types;
+        extents = d.extents;
+        type_names = d.type_names ∙ ap all_type_names (sym d.says ∙ printed);
+        symbols = d.symbols ∙ ap all_symbol_names (sym d.says ∙ printed);
+        bare = d.bare;
+      };
     }
 
 -- Each of its functions has the shape of one.

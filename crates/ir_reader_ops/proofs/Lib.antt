@@ -10,3 +10,5 @@ pub mod Offsets
 pub mod Callees
 pub mod Beginnings
 pub mod Attached
+pub mod Using
+pub mod Decided

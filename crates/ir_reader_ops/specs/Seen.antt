@@ -1,5 +1,5 @@
 -- What the places in a function stand for while it is read: those among its own names, and those in the module's tables.
-use Rattle.std.specs.Prelude.{◌≡◌, ℕ, List, map, Result, Ok, Err}
+use Rattle.std.specs.Prelude.{◌≡◌, ℕ, List, [], map, Result, Ok, Err}
 use Rattle.forms.specs.declared.cursor.SyntaxFault.{SyntaxFault}
 use Rattle.forms.specs.View.{Extends}
 use Rattle.ir_types.specs.declared.name.Name.{Name}
@@ -12,7 +12,9 @@ use Rattle.ir_types.specs.TypeNodes.{TypeNode}
 use Rattle.ir_types.specs.Offsets.{Definitions}
 use Rattle.ir_types.specs.Denotes.{name_in, operand_in, inst_in}
 use Rattle.ir_types.specs.Tree.{OperandTree, InstTree}
+use Rattle.ir_types.specs.Used.{types_in}
 use Rattle.type_reader.specs.Tables.{tables_in, nodes_there, definitions_of, Grows}
+use Rattle.type_reader.specs.Uses.{Uses}
 use Rattle.ir_reader_ops.specs.declared.scope.Scope.{Scope}
 
 -- the definitions of names of types
@@ -44,6 +46,14 @@ operand_seen s a = operand_in (tables_in s.tables) s.names a
 -- an instruction
 abbrev pub inst_seen : Scope → Inst → InstTree
 inst_seen s i = inst_in (tables_in s.tables) s.names i
+
+-- the new tables have what operands use
+abbrev pub OperandsUse : Scope → List OperandTree → Scope → Type 0
+OperandsUse old operands new = Uses old.tables [] operands new.tables
+
+-- the new tables have what an instruction uses
+abbrev pub InstUses : Scope → InstTree → Scope → Type 0
+InstUses old i new = Uses old.tables (types_in i.kind) i.args new.tables
 
 -- one thing stays what it is
 abbrev pub IsSteady : {X Y : Type 0} → (Scope → X → Y) → Scope → X → Type 0

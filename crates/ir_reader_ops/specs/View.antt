@@ -1,9 +1,12 @@
 -- What the code keeps of what it has read, as values of the grammar.
-use Rattle.std.specs.Prelude.{List, map, All}
+use Rattle.std.specs.Prelude.{List, [], ◌∷◌, map, All}
+use Rattle.ir_types.specs.declared.name.Name.{Name}
 use Rattle.ir_types.specs.declared.inst.Ty.{Ty}
 use Rattle.ir_types.specs.declared.inst.Operand.{Operand}
-use Rattle.ir_types.specs.Tree.{OperandTree}
+use Rattle.ir_types.specs.TypeNodes.{names_used}
+use Rattle.ir_types.specs.Tree.{OperandTree, global}
 use Rattle.ir_types.specs.Grammar.{WrittenLane, lane_digits, lane_true, lane_false, lane_poison, WrittenValue, named, digits, yes, no, null_word, poison_word, zeros, splat, lane_list, symbol, stepped}
+use Rattle.type_reader.specs.Uses.{Uses}
 use Rattle.ir_sizes.specs.Stepping.{index_pair, IsIndex}
 use Rattle.ir_reader_ops.specs.declared.lanes.Lane.{Lane}
 use Rattle.ir_reader_ops.specs.declared.lanes.Lane.TheVariants as lane
@@ -57,3 +60,18 @@ pair_in s x = (x.0, (operand_seen s x.1.0, operand_seen s x.1.1))
 -- three operands, each behind its type
 abbrev pub three_in : Scope → (Ty × Operand) × ((Ty × Operand) × (Ty × Operand)) → (Ty × OperandTree) × ((Ty × OperandTree) × (Ty × OperandTree))
 three_in s x = (typed_in s x.0, (typed_in s x.1.0, typed_in s x.1.1))
+
+-- the names of types that a written value uses
+abbrev pub types_written : WrittenValue → List Name
+types_written (stepped s) = names_used s.0
+types_written w = []
+
+-- its symbol, as an operand
+abbrev pub symbol_written : WrittenValue → List OperandTree
+symbol_written (symbol n) = global n 0 ∷ []
+symbol_written (stepped s) = global s.1.0 0 ∷ []
+symbol_written w = []
+
+-- the new tables have what a written value uses
+abbrev pub WrittenUses : Scope → WrittenValue → Scope → Type 0
+WrittenUses old w new = Uses old.tables (types_written w) (symbol_written w) new.tables

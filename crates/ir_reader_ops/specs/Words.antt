@@ -21,3 +21,7 @@ attached_to i ts = read inst_attachments ts >>= λ k. Some (record i { kept = k.
 abbrev pub form_at : Definitions → Place → Form InstTree
 form_at defs Inside = operation defs
 form_at defs Last = terminator defs
+
+-- any instruction
+abbrev pub instruction : Definitions → Form InstTree
+instruction defs = either (operation defs) (terminator defs)

@@ -1,10 +1,10 @@
 // Operators of integers, comparisons, `select` and `freeze`, without the words before them.
 
-ghost use Rattle.std.specs.Prelude.{◌≡◌, List};
+ghost use Rattle.std.specs.Prelude.{◌≡◌, List, IfOk};
 ghost use Rattle.forms.specs.Reading.{read};
 ghost use Rattle.forms.specs.Gives.{Gives, left};
 ghost use Rattle.ir_types.specs.Grammar.{overflowing, possibly_exact, plain_binary, or_operation, compared, compare, bits_for, select, freeze};
-ghost use Rattle.ir_reader_ops.specs.Seen.{operand_seen, inst_seen, definitions, Widens, Stays};
+ghost use Rattle.ir_reader_ops.specs.Seen.{operand_seen, inst_seen, definitions, Widens, Stays, InstUses};
 
 use crate::flags::{one_flag, two_flags};
 use crate::making::{applied, binary, one_operand, three_operands, two_operands};
@@ -33,6 +33,7 @@ pub fn overflowing<'t>(
     ensures grows { Widens scope.old scope.new }
     ensures reads { Gives (λ x. (inst_seen scope.new x.0, left x.1)) result (read (overflowing (definitions scope.old) operator) (left tokens.entry)) }
     ensures stays { Stays inst_seen scope.new result }
+    ensures uses { IfOk result (λ x. InstUses scope.old (inst_seen scope.new x.0) scope.new) }
 {
     let ((nuw, nsw), rest) = two_flags(tokens, b"nuw", b"nsw");
     let ((ty, (first, second)), rest) = typed_pair(alloc, rest, scope)?;
@@ -56,6 +57,7 @@ pub fn possibly_exact<'t>(
     ensures grows { Widens scope.old scope.new }
     ensures reads { Gives (λ x. (inst_seen scope.new x.0, left x.1)) result (read (possibly_exact (definitions scope.old) operator) (left tokens.entry)) }
     ensures stays { Stays inst_seen scope.new result }
+    ensures uses { IfOk result (λ x. InstUses scope.old (inst_seen scope.new x.0) scope.new) }
 {
     let (exact, rest) = one_flag(tokens, b"exact");
     let ((ty, (first, second)), rest) = typed_pair(alloc, rest, scope)?;
@@ -75,6 +77,7 @@ pub fn plain_binary<'t>(
     ensures grows { Widens scope.old scope.new }
     ensures reads { Gives (λ x. (inst_seen scope.new x.0, left x.1)) result (read (plain_binary (definitions scope.old) operator) (left tokens.entry)) }
     ensures stays { Stays inst_seen scope.new result }
+    ensures uses { IfOk result (λ x. InstUses scope.old (inst_seen scope.new x.0) scope.new) }
 {
     let ((ty, (first, second)), rest) = typed_pair(alloc, tokens, scope)?;
     let inst = binary(alloc, operator, NO_FLAGS, ty, first, second)?;
@@ -91,6 +94,7 @@ pub fn or_operation<'t>(
     ensures grows { Widens scope.old scope.new }
     ensures reads { Gives (λ x. (inst_seen scope.new x.0, left x.1)) result (read (or_operation (definitions scope.old)) (left tokens.entry)) }
     ensures stays { Stays inst_seen scope.new result }
+    ensures uses { IfOk result (λ x. InstUses scope.old (inst_seen scope.new x.0) scope.new) }
 {
     let (disjoint, rest) = one_flag(tokens, b"disjoint");
     let ((ty, (first, second)), rest) = typed_pair(alloc, rest, scope)?;
@@ -123,6 +127,7 @@ fn compared<'t>(
     ensures grows { Widens scope.old scope.new }
     ensures reads { Gives (λ x. (inst_seen scope.new x.0, left x.1)) result (read (compared (definitions scope.old) predicate) (left tokens.entry)) }
     ensures stays { Stays inst_seen scope.new result }
+    ensures uses { IfOk result (λ x. InstUses scope.old (inst_seen scope.new x.0) scope.new) }
 {
     let ((ty, (first, second)), rest) = typed_pair(alloc, tokens, scope)?;
     let args = two_operands(alloc, first, second)?;
@@ -140,6 +145,7 @@ pub fn comparison<'t>(
     ensures grows { Widens scope.old scope.new }
     ensures reads { Gives (λ x. (inst_seen scope.new x.0, left x.1)) result (read (compare (definitions scope.old)) (left tokens.entry)) }
     ensures stays { Stays inst_seen scope.new result }
+    ensures uses { IfOk result (λ x. InstUses scope.old (inst_seen scope.new x.0) scope.new) }
 {
     let (word, rest) = tokens.one(TokenKind::Word)?;
     match predicate_of(word) {
@@ -158,6 +164,7 @@ pub fn selection<'t>(
     ensures grows { Widens scope.old scope.new }
     ensures reads { Gives (λ x. (inst_seen scope.new x.0, left x.1)) result (read (select (definitions scope.old)) (left tokens.entry)) }
     ensures stays { Stays inst_seen scope.new result }
+    ensures uses { IfOk result (λ x. InstUses scope.old (inst_seen scope.new x.0) scope.new) }
 {
     let (values, rest) = three_values(alloc, tokens, scope)?;
     let ((condition_type, condition), ((ty, then), (last_type, otherwise))) = values;
@@ -176,6 +183,7 @@ pub fn freeze<'t>(
     ensures grows { Widens scope.old scope.new }
     ensures reads { Gives (λ x. (inst_seen scope.new x.0, left x.1)) result (read (freeze (definitions scope.old)) (left tokens.entry)) }
     ensures stays { Stays inst_seen scope.new result }
+    ensures uses { IfOk result (λ x. InstUses scope.old (inst_seen scope.new x.0) scope.new) }
 {
     let ((ty, operand), rest) = typed_value(alloc, tokens, scope)?;
     let args = one_operand(alloc, operand)?;

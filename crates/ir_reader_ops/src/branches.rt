@@ -7,7 +7,7 @@ ghost use Rattle.forms.specs.Reading.{read};
 ghost use Rattle.forms.specs.Gives.{Gives, left};
 ghost use Rattle.ir_types.specs.Grammar.{after_mark, target, branch, return_tree, typed_value, ret};
 ghost use Rattle.ir_reader_ops.specs.Conditions.{conditional_read};
-ghost use Rattle.ir_reader_ops.specs.Seen.{name_seen, operand_seen, inst_seen, definitions, Widens, Stays};
+ghost use Rattle.ir_reader_ops.specs.Seen.{name_seen, operand_seen, inst_seen, definitions, Widens, Stays, InstUses};
 
 use crate::making::{applied, bare, one_label, one_operand, two_labels};
 use crate::operand::value_at;
@@ -30,6 +30,7 @@ fn target<'t>(
     ensures grows { Widens scope.old scope.new }
     ensures reads { Gives (λ x. (name_seen scope.new x.0, left x.1)) result (read target (left tokens.entry)) }
     ensures stays { Stays name_seen scope.new result }
+    ensures tables { scope.new.tables ≡ scope.old.tables }
 {
     let Some(rest) = tokens.behind_word(b"label") else {
         return Err(tokens.refusal());
@@ -46,6 +47,7 @@ pub fn comma_target<'t>(
     ensures grows { Widens scope.old scope.new }
     ensures reads { Gives (λ x. (name_seen scope.new x.0, left x.1)) result (read (after_mark Comma target) (left tokens.entry)) }
     ensures stays { Stays name_seen scope.new result }
+    ensures tables { scope.new.tables ≡ scope.old.tables }
 {
     let rest = tokens.mark(TokenKind::Comma)?;
     target(alloc, rest, scope)
@@ -60,6 +62,7 @@ fn conditional<'t>(
     ensures grows { Widens scope.old scope.new }
     ensures reads { Gives (λ x. (inst_seen scope.new x.0, left x.1)) result (conditional_read (definitions scope.old) (left tokens.entry)) }
     ensures stays { Stays inst_seen scope.new result }
+    ensures uses { IfOk result (λ x. InstUses scope.old (inst_seen scope.new x.0) scope.new) }
 {
     let (condition, rest) = value_at(alloc, Ty::Int(1), tokens, scope)?;
     let (then, rest) = comma_target(alloc, rest, scope)?;
@@ -79,6 +82,7 @@ pub fn branch<'t>(
     ensures grows { Widens scope.old scope.new }
     ensures reads { Gives (λ x. (inst_seen scope.new x.0, left x.1)) result (read (branch (definitions scope.old)) (left tokens.entry)) }
     ensures stays { Stays inst_seen scope.new result }
+    ensures uses { IfOk result (λ x. InstUses scope.old (inst_seen scope.new x.0) scope.new) }
 {
     if let Some(rest) = tokens.behind_word(b"i1") {
         let (inst, rest) = conditional(alloc, rest, scope)?;
@@ -99,6 +103,7 @@ fn returned_value<'t>(
     ensures grows { Widens scope.old scope.new }
     ensures reads { Gives (λ x. (inst_seen scope.new x.0, left x.1)) result (read (mapped return_tree (typed_value (definitions scope.old))) (left tokens.entry)) }
     ensures stays { Stays inst_seen scope.new result }
+    ensures uses { IfOk result (λ x. InstUses scope.old (inst_seen scope.new x.0) scope.new) }
 {
     let ((ty, value), rest) = typed_value(alloc, tokens, scope)?;
     let args = one_operand(alloc, value)?;
@@ -115,6 +120,7 @@ pub fn give_back<'t>(
     ensures grows { Widens scope.old scope.new }
     ensures reads { Gives (λ x. (inst_seen scope.new x.0, left x.1)) result (read (ret (definitions scope.old)) (left tokens.entry)) }
     ensures stays { Stays inst_seen scope.new result }
+    ensures uses { IfOk result (λ x. InstUses scope.old (inst_seen scope.new x.0) scope.new) }
 {
     if begins_type(tokens) {
         return returned_value(alloc, tokens, scope);

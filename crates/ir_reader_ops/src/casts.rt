@@ -1,10 +1,10 @@
 // Casts, without the words before them.
 
-ghost use Rattle.std.specs.Prelude.{◌≡◌, List};
+ghost use Rattle.std.specs.Prelude.{◌≡◌, List, IfOk};
 ghost use Rattle.forms.specs.Reading.{read};
 ghost use Rattle.forms.specs.Gives.{Gives, left};
 ghost use Rattle.ir_types.specs.Grammar.{to_type, trunc, zext, sext, ptrtoint};
-ghost use Rattle.ir_reader_ops.specs.Seen.{operand_seen, inst_seen, definitions, Widens, Stays};
+ghost use Rattle.ir_reader_ops.specs.Seen.{operand_seen, inst_seen, definitions, Widens, Stays, InstUses};
 
 use crate::flags::{one_flag, two_flags};
 use crate::making::{applied, one_operand};
@@ -34,6 +34,7 @@ pub fn trunc<'t>(
     ensures grows { Widens scope.old scope.new }
     ensures reads { Gives (λ x. (inst_seen scope.new x.0, left x.1)) result (read (trunc (definitions scope.old)) (left tokens.entry)) }
     ensures stays { Stays inst_seen scope.new result }
+    ensures uses { IfOk result (λ x. InstUses scope.old (inst_seen scope.new x.0) scope.new) }
 {
     let ((nuw, nsw), rest) = two_flags(tokens, b"nuw", b"nsw");
     let ((from, operand), rest) = typed_value(alloc, rest, scope)?;
@@ -53,6 +54,7 @@ pub fn zext<'t>(
     ensures grows { Widens scope.old scope.new }
     ensures reads { Gives (λ x. (inst_seen scope.new x.0, left x.1)) result (read (zext (definitions scope.old)) (left tokens.entry)) }
     ensures stays { Stays inst_seen scope.new result }
+    ensures uses { IfOk result (λ x. InstUses scope.old (inst_seen scope.new x.0) scope.new) }
 {
     let (nneg, rest) = one_flag(tokens, b"nneg");
     let ((from, operand), rest) = typed_value(alloc, rest, scope)?;
@@ -71,6 +73,7 @@ pub fn sext<'t>(
     ensures grows { Widens scope.old scope.new }
     ensures reads { Gives (λ x. (inst_seen scope.new x.0, left x.1)) result (read (sext (definitions scope.old)) (left tokens.entry)) }
     ensures stays { Stays inst_seen scope.new result }
+    ensures uses { IfOk result (λ x. InstUses scope.old (inst_seen scope.new x.0) scope.new) }
 {
     let ((from, operand), rest) = typed_value(alloc, tokens, scope)?;
     let (ty, rest) = to_type(rest)?;
@@ -88,6 +91,7 @@ pub fn ptrtoint<'t>(
     ensures grows { Widens scope.old scope.new }
     ensures reads { Gives (λ x. (inst_seen scope.new x.0, left x.1)) result (read (ptrtoint (definitions scope.old)) (left tokens.entry)) }
     ensures stays { Stays inst_seen scope.new result }
+    ensures uses { IfOk result (λ x. InstUses scope.old (inst_seen scope.new x.0) scope.new) }
 {
     let (pointer, rest) = pointer_value(alloc, tokens, scope)?;
     let (ty, rest) = to_type(rest)?;

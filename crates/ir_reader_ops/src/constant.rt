@@ -1,14 +1,17 @@
 // Symbols, and symbols that are stepped through in a constant.
 
-ghost use Rattle.std.specs.Prelude.{◌≡◌, codes, map, All, IfOk};
+ghost use Rattle.std.specs.Prelude.{◌≡◌, codes, map, All, IfOk, ◌∷◌, []};
 ghost use Rattle.forms.specs.declared.TokenKind.TheVariants.{Comma};
 ghost use Rattle.forms.specs.Form.{mapped};
 ghost use Rattle.forms.specs.Reading.{read};
 ghost use Rattle.forms.specs.Gives.{Gives, left};
 ghost use Rattle.ir_sizes.specs.Stepping.{index_pair, IsIndex};
+ghost use Rattle.ir_types.specs.TypeNodes.{names_used};
+ghost use Rattle.ir_types.specs.Tree.{global};
+ghost use Rattle.type_reader.specs.Uses.{Uses};
 ghost use Rattle.ir_types.specs.Grammar.{global_name, inst_memory, after_mark, behind, some, comma_index, stepped, constant_offset};
-ghost use Rattle.ir_reader_ops.specs.Seen.{nodes_seen, symbol_seen, Widens, Stays};
-ghost use Rattle.ir_reader_ops.specs.View.{written_in, AreIndexed};
+ghost use Rattle.ir_reader_ops.specs.Seen.{nodes_seen, symbol_seen, Widens, Stays, OperandsUse};
+ghost use Rattle.ir_reader_ops.specs.View.{written_in, AreIndexed, WrittenUses};
 
 use crate::flags::three_flags;
 use crate::numbers::number_at;
@@ -31,6 +34,7 @@ pub fn memory<'t>(
     ensures grows { Widens scope.old scope.new }
     ensures reads { Gives (λ x. (nodes_seen scope.new x.0, left x.1)) result (read inst_memory (left tokens.entry)) }
     ensures stays { Stays nodes_seen scope.new result }
+    ensures uses { IfOk result (λ x. Uses scope.old.tables (names_used (nodes_seen scope.new x.0)) [] scope.new.tables) }
 {
     let (id, rest) = scope.tables.memory_type(alloc, tokens)?;
     Ok((id, rest))
@@ -46,6 +50,7 @@ pub fn symbol<'t>(
     ensures grows { Widens scope.old scope.new }
     ensures reads { Gives (λ x. (symbol_seen scope.new x.0, left x.1)) result (read global_name (left tokens.entry)) }
     ensures stays { Stays symbol_seen scope.new result }
+    ensures uses { IfOk result (λ x. OperandsUse scope.old (global (symbol_seen scope.new x.0) 0 ∷ []) scope.new) }
 {
     let (name, rest) = global(alloc, tokens)?;
     let id = scope.tables.symbol(name)?;
@@ -61,6 +66,7 @@ fn comma_symbol<'t>(
     ensures grows { Widens scope.old scope.new }
     ensures reads { Gives (λ x. (symbol_seen scope.new x.0, left x.1)) result (read (after_mark Comma (behind (codes "ptr") global_name)) (left tokens.entry)) }
     ensures stays { Stays symbol_seen scope.new result }
+    ensures uses { IfOk result (λ x. OperandsUse scope.old (global (symbol_seen scope.new x.0) 0 ∷ []) scope.new) }
 {
     let rest = tokens.mark(TokenKind::Comma)?;
     let rest = rest.word(b"ptr")?;
@@ -107,6 +113,7 @@ pub fn constant_offset<'t>(
     ensures reads { Gives (λ x. (written_in scope.new x.0, left x.1)) result (read (mapped stepped constant_offset) (left tokens.entry)) }
     ensures stays { Stays written_in scope.new result }
     ensures indexed { IfOk result (λ x. AreIndexed x.0) }
+    ensures uses { IfOk result (λ x. WrittenUses scope.old (written_in scope.new x.0) scope.new) }
 {
     let rest = tokens.word(b"getelementptr")?;
     let (_, rest) = three_flags(rest);

@@ -1,6 +1,6 @@
 // The entries of a phi, and the phi without its word.
 
-ghost use Rattle.std.specs.Prelude.{◌≡◌, List, map};
+ghost use Rattle.std.specs.Prelude.{◌≡◌, List, map, IfOk, ◌∷◌, []};
 ghost use Rattle.forms.specs.declared.TokenKind.TheVariants.{Comma};
 ghost use Rattle.forms.specs.Reading.{read, opens};
 ghost use Rattle.forms.specs.Walk.{completed};
@@ -8,7 +8,7 @@ ghost use Rattle.forms.specs.Gives.{Gives, left};
 ghost use Rattle.ir_types.specs.Types.{IsType};
 ghost use Rattle.ir_types.specs.Grammar.{entry_of_phi, commas, marked, phi};
 ghost use Rattle.ir_reader_ops.specs.Split.{split_each, entry_at, entry_in, entries_in};
-ghost use Rattle.ir_reader_ops.specs.Seen.{inst_seen, definitions, Widens, Stays};
+ghost use Rattle.ir_reader_ops.specs.Seen.{inst_seen, definitions, Widens, Stays, OperandsUse, InstUses, operand_seen};
 
 use crate::making::{bare, one_label, one_operand};
 use crate::operand::value_at;
@@ -31,6 +31,7 @@ fn entry<'t>(
     ensures grows { Widens scope.old scope.new }
     ensures reads { Gives (λ x. (entry_in scope.new x.0, left x.1)) result (completed (entry_at (definitions scope.old) ty) (read entry_of_phi (left tokens.entry))) }
     ensures stays { Stays entry_in scope.new result }
+    ensures uses { IfOk result (λ x. OperandsUse scope.old (operand_seen scope.new x.0.0 ∷ []) scope.new) }
 {
     let rest = tokens.mark(TokenKind::LeftBracket)?;
     let (value, rest) = value_at(alloc, ty, rest, scope)?;
@@ -50,6 +51,7 @@ fn comma_entry<'t>(
     ensures grows { Widens scope.old scope.new }
     ensures reads { Gives (λ x. (entry_in scope.new x.0, left x.1)) result (completed (entry_at (definitions scope.old) ty) (read (marked Comma entry_of_phi) (left tokens.entry))) }
     ensures stays { Stays entry_in scope.new result }
+    ensures uses { IfOk result (λ x. OperandsUse scope.old (operand_seen scope.new x.0.0 ∷ []) scope.new) }
 {
     let rest = tokens.mark(TokenKind::Comma)?;
     let (found, rest) = entry(alloc, ty, rest, scope)?;
@@ -78,6 +80,7 @@ fn entries<'t>(
     ensures grows { Widens scope.old scope.new }
     ensures reads { Gives (λ x. (entries_in scope.new x.0, left x.1)) result (completed (split_each (entry_at (definitions scope.old) ty)) (read (commas entry_of_phi) (left tokens.entry))) }
     ensures stays { Stays entries_in scope.new result }
+    ensures uses { IfOk result (λ x. OperandsUse scope.old (map (operand_seen scope.new) x.0.0) scope.new) }
 {
     let ((operand, label), mut rest) = entry(alloc, ty, tokens, scope)?;
     let mut operands = one_operand(alloc, operand)?;
@@ -101,6 +104,7 @@ pub fn phi<'t>(
     ensures grows { Widens scope.old scope.new }
     ensures reads { Gives (λ x. (inst_seen scope.new x.0, left x.1)) result (read (phi (definitions scope.old)) (left tokens.entry)) }
     ensures stays { Stays inst_seen scope.new result }
+    ensures uses { IfOk result (λ x. InstUses scope.old (inst_seen scope.new x.0) scope.new) }
 {
     let (ty, rest) = value_type(tokens)?;
     let ((args, labels), rest) = entries(alloc, ty, rest, scope)?;

@@ -1,13 +1,13 @@
 // Instructions, without the names of their results.
 
-ghost use Rattle.std.specs.Prelude.{◌≡◌};
+ghost use Rattle.std.specs.Prelude.{◌≡◌, IfOk};
 ghost use Rattle.forms.specs.Form.{by_word};
 ghost use Rattle.forms.specs.Reading.{read, opens, next_in, words_of};
 ghost use Rattle.forms.specs.Gives.{Gives, left};
 ghost use Rattle.ir_types.specs.Offsets.{Definitions};
 ghost use Rattle.ir_types.specs.Grammar.{operation_words, operation_behind, terminator_words, terminator_behind, operation, terminator};
-ghost use Rattle.ir_reader_ops.specs.Seen.{inst_seen, definitions, Widens, Stays};
-ghost use Rattle.ir_reader_ops.specs.Words.{attached_to, bare_terminator, form_at};
+ghost use Rattle.ir_reader_ops.specs.Seen.{inst_seen, definitions, Widens, Stays, InstUses};
+ghost use Rattle.ir_reader_ops.specs.Words.{attached_to, bare_terminator, form_at, instruction};
 
 use crate::arithmetic::{
     comparison, freeze, or_operation, overflowing, plain_binary, possibly_exact, selection,
@@ -34,6 +34,7 @@ use std::alloc::Global;
 pub enum Place {
     /// Before the last one.
     Inside,
+    /// At the end.
     Last,
 }
 
@@ -46,6 +47,7 @@ fn bare_operation<'t>(
     ensures grows { Widens scope.old scope.new }
     ensures reads { Gives (λ x. (inst_seen scope.new x.0, left x.1)) result (read (by_word operation_words (operation_behind (definitions scope.old))) (left tokens.entry)) }
     ensures stays { Stays inst_seen scope.new result }
+    ensures uses { IfOk result (λ x. InstUses scope.old (inst_seen scope.new x.0) scope.new) }
 {
     let (word, rest) = tokens.one(TokenKind::Word)?;
     let Some(operation) = operation_of(word) else {
@@ -83,6 +85,7 @@ fn longer_terminator<'t>(
     ensures grows { Widens scope.old scope.new }
     ensures reads { Gives (λ x. (inst_seen scope.new x.0, left x.1)) result (read (by_word terminator_words (terminator_behind (definitions scope.old))) (left tokens.entry)) }
     ensures stays { Stays inst_seen scope.new result }
+    ensures uses { IfOk result (λ x. InstUses scope.old (inst_seen scope.new x.0) scope.new) }
 {
     let (word, rest) = tokens.one(TokenKind::Word)?;
     match terminator_of(word) {
@@ -113,6 +116,7 @@ fn bare_terminator<'t>(
     ensures grows { Widens scope.old scope.new }
     ensures reads { Gives (λ x. (inst_seen scope.new x.0, left x.1)) result (read (bare_terminator (definitions scope.old)) (left tokens.entry)) }
     ensures stays { Stays inst_seen scope.new result }
+    ensures uses { IfOk result (λ x. InstUses scope.old (inst_seen scope.new x.0) scope.new) }
 {
     if begins_longer(tokens) {
         return longer_terminator(alloc, tokens, scope);
@@ -129,7 +133,8 @@ fn with_attachments<'t>(
     inst: Inst,
     tokens: Cursor<'t>,
 ) -> Result<(Inst, Cursor<'t>), SyntaxFault>
-    ensures { Gives (λ x. (x.0, left x.1)) result (attached_to inst (left tokens.entry)) }
+    ensures reads { Gives (λ x. (x.0, left x.1)) result (attached_to inst (left tokens.entry)) }
+    ensures same { IfOk result (λ x. (x.0.kind ≡ inst.kind) × (x.0.args ≡ inst.args)) }
 {
     let mut kept = Texts::new(alloc);
     let rest = keep_comma_attachments(alloc, tokens, &mut kept)?;
@@ -146,6 +151,7 @@ fn operation<'t>(
     ensures grows { Widens scope.old scope.new }
     ensures reads { Gives (λ x. (inst_seen scope.new x.0, left x.1)) result (read (operation (definitions scope.old)) (left tokens.entry)) }
     ensures stays { Stays inst_seen scope.new result }
+    ensures uses { IfOk result (λ x. InstUses scope.old (inst_seen scope.new x.0) scope.new) }
 {
     let (inst, rest) = bare_operation(alloc, tokens, scope)?;
     let (inst, rest) = with_attachments(alloc, inst, rest)?;
@@ -162,6 +168,7 @@ fn terminator<'t>(
     ensures grows { Widens scope.old scope.new }
     ensures reads { Gives (λ x. (inst_seen scope.new x.0, left x.1)) result (read (terminator (definitions scope.old)) (left tokens.entry)) }
     ensures stays { Stays inst_seen scope.new result }
+    ensures uses { IfOk result (λ x. InstUses scope.old (inst_seen scope.new x.0) scope.new) }
 {
     let (inst, rest) = bare_terminator(alloc, tokens, scope)?;
     let (inst, rest) = with_attachments(alloc, inst, rest)?;
@@ -169,7 +176,11 @@ fn terminator<'t>(
 }
 
 /// An instruction that may stand at this place.
-pub fn instruction<'t>(
+///
+/// # Errors
+///
+/// Those of `read_inst`, where no such instruction stands.
+pub fn inst_at<'t>(
     alloc: Global,
     place: Place,
     tokens: Cursor<'t>,
@@ -178,11 +189,36 @@ pub fn instruction<'t>(
     ensures grows { Widens scope.old scope.new }
     ensures reads { Gives (λ x. (inst_seen scope.new x.0, left x.1)) result (read (form_at (definitions scope.old) place) (left tokens.entry)) }
     ensures stays { Stays inst_seen scope.new result }
+    ensures uses { IfOk result (λ x. InstUses scope.old (inst_seen scope.new x.0) scope.new) }
 {
     match place {
         Place::Inside => operation(alloc, tokens, scope),
         Place::Last => terminator(alloc, tokens, scope),
     }
+}
+
+/// One instruction, without its result's name, and what is behind it. Memory types that it writes are added to the scope's tables, with their
+/// parts, and so are names of types and of symbols that these lack, but for what a call calls; local names that the function lacks are added to
+/// its names. What stands behind it must be nothing with which it could go on: `load i32, ptr %p, align x` is refused.
+///
+/// # Errors
+///
+/// Where no instruction stands, with the place at which reading from left to right stops, or there is no room. The lists hold the old
+/// entries first then too, and perhaps more.
+pub fn read_inst<'t>(
+    alloc: Global,
+    tokens: Cursor<'t>,
+    scope: &mut Scope,
+) -> Result<(Inst, Cursor<'t>), SyntaxFault>
+    ensures grows { Widens scope.old scope.new }
+    ensures reads { Gives (λ x. (inst_seen scope.new x.0, left x.1)) result (read (instruction (definitions scope.old)) (left tokens.entry)) }
+    ensures stays { Stays inst_seen scope.new result }
+    ensures uses { IfOk result (λ x. InstUses scope.old (inst_seen scope.new x.0) scope.new) }
+{
+    if begins_instruction(Place::Inside, tokens) {
+        return inst_at(alloc, Place::Inside, tokens, scope);
+    }
+    inst_at(alloc, Place::Last, tokens, scope)
 }
 
 /// Whether an instruction that doesn't end a block stands next.

@@ -26,6 +26,6 @@ mod vectors;
 mod words;
 
 pub use dots::comma_dots;
-pub use inst::{Place, begins_instruction, instruction};
+pub use inst::{Place, begins_instruction, inst_at, read_inst};
 pub use keeping::{excluded_words, kept, kept_before, kept_behind};
 pub use scope::Scope;

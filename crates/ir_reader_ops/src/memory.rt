@@ -1,6 +1,6 @@
 // Loads and stores, without the words before them.
 
-ghost use Rattle.std.specs.Prelude.{◌≡◌, List};
+ghost use Rattle.std.specs.Prelude.{◌≡◌, List, IfOk};
 ghost use Rattle.forms.specs.declared.TokenKind.TheVariants.{Comma, Word};
 ghost use Rattle.forms.specs.Reading.{read, opens};
 ghost use Rattle.forms.specs.Gives.{Gives, left};
@@ -8,7 +8,7 @@ ghost use Rattle.ir_types.specs.Sizes.{value_size};
 ghost use Rattle.ir_types.specs.Types.{IsType};
 ghost use Rattle.ir_types.specs.Grammar.{alignment_of, alignment, align_or, load, store};
 ghost use Rattle.ir_reader_ops.specs.Operands.{written_alignment};
-ghost use Rattle.ir_reader_ops.specs.Seen.{inst_seen, definitions, Widens, Stays};
+ghost use Rattle.ir_reader_ops.specs.Seen.{inst_seen, definitions, Widens, Stays, InstUses};
 
 use crate::making::{applied, one_operand, two_operands};
 use crate::numbers::number_of;
@@ -99,6 +99,7 @@ pub fn load<'t>(
     ensures grows { Widens scope.old scope.new }
     ensures reads { Gives (λ x. (inst_seen scope.new x.0, left x.1)) result (read (load (definitions scope.old)) (left tokens.entry)) }
     ensures stays { Stays inst_seen scope.new result }
+    ensures uses { IfOk result (λ x. InstUses scope.old (inst_seen scope.new x.0) scope.new) }
 {
     let (ty, rest) = value_type(tokens)?;
     let (pointer, rest) = comma_pointer(alloc, rest, scope)?;
@@ -118,6 +119,7 @@ pub fn store<'t>(
     ensures grows { Widens scope.old scope.new }
     ensures reads { Gives (λ x. (inst_seen scope.new x.0, left x.1)) result (read (store (definitions scope.old)) (left tokens.entry)) }
     ensures stays { Stays inst_seen scope.new result }
+    ensures uses { IfOk result (λ x. InstUses scope.old (inst_seen scope.new x.0) scope.new) }
 {
     let ((ty, value), rest) = typed_value(alloc, tokens, scope)?;
     let (pointer, rest) = comma_pointer(alloc, rest, scope)?;

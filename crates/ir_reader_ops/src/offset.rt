@@ -1,11 +1,11 @@
 // `getelementptr`, without its word.
 
-ghost use Rattle.std.specs.Prelude.{◌≡◌, map};
+ghost use Rattle.std.specs.Prelude.{◌≡◌, map, IfOk, ◌∷◌, []};
 ghost use Rattle.forms.specs.Reading.{read, opens};
 ghost use Rattle.forms.specs.Gives.{Gives, left};
 ghost use Rattle.ir_types.specs.Offsets.{Definitions};
 ghost use Rattle.ir_types.specs.Grammar.{getelementptr};
-ghost use Rattle.ir_reader_ops.specs.Seen.{operand_seen, inst_seen, definitions, Widens, AreSteady, Stays};
+ghost use Rattle.ir_reader_ops.specs.Seen.{operand_seen, inst_seen, definitions, Widens, AreSteady, Stays, OperandsUse, InstUses};
 ghost use Rattle.ir_reader_ops.specs.View.{typed_in};
 ghost use Rattle.ir_reader_ops.specs.Offsets.{next_index, steps_in, indexes_read, steps_read};
 
@@ -29,6 +29,7 @@ fn next_index<'t>(
     ensures grows { Widens scope.old scope.new }
     ensures reads { Gives (λ x. (typed_in scope.new x.0, left x.1)) result (read (next_index (definitions scope.old)) (left tokens.entry)) }
     ensures stays { Stays typed_in scope.new result }
+    ensures uses { IfOk result (λ x. OperandsUse scope.old (operand_seen scope.new x.0.1 ∷ []) scope.new) }
 {
     let rest = tokens.mark(TokenKind::Comma)?;
     let (value, rest) = index_value(alloc, rest, scope)?;
@@ -57,6 +58,7 @@ fn indexes<'t>(
     ensures grows { Widens scope.old scope.new }
     ensures reads { Gives (λ x. (steps_in scope.new (x.0.0.items, x.0.1), left x.1)) result (indexes_read (definitions scope.old) (map (operand_seen scope.old) before) (left tokens.entry)) }
     ensures stays { Stays (λ s x. steps_in s (x.0.items, x.1)) scope.new result }
+    ensures uses { IfOk result (λ x. (start : Scope) → OperandsUse start (map (operand_seen scope.old) before) scope.old → OperandsUse start (map (operand_seen scope.new) x.0.1) scope.new) }
 {
     let mut operands = before;
     let mut widths = Vec::new(alloc);
@@ -81,6 +83,7 @@ fn steps<'t>(
     ensures grows { Widens scope.old scope.new }
     ensures reads { Gives (λ x. (steps_in scope.new x.0, left x.1)) result (steps_read (definitions scope.old) (left tokens.entry)) }
     ensures stays { Stays steps_in scope.new result }
+    ensures uses { IfOk result (λ x. OperandsUse scope.old (map (operand_seen scope.new) x.0.1) scope.new) }
 {
     let (pointer, rest) = comma_pointer(alloc, tokens, scope)?;
     let before = one_operand(alloc, pointer)?;
@@ -98,6 +101,7 @@ pub fn getelementptr<'t>(
     ensures grows { Widens scope.old scope.new }
     ensures reads { Gives (λ x. (inst_seen scope.new x.0, left x.1)) result (read (getelementptr (definitions scope.old)) (left tokens.entry)) }
     ensures stays { Stays inst_seen scope.new result }
+    ensures uses { IfOk result (λ x. InstUses scope.old (inst_seen scope.new x.0) scope.new) }
 {
     let ((inbounds, (nuw, nusw)), rest) = three_flags(tokens);
     let (id, rest) = memory(alloc, rest, scope)?;

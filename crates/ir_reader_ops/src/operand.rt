@@ -1,6 +1,6 @@
 // Written values as operands at their types.
 
-ghost use Rattle.std.specs.Prelude.{◌≡◌, ◌≤◌, Some, replicate, map, All, IfOk};
+ghost use Rattle.std.specs.Prelude.{◌≡◌, ◌≤◌, Some, replicate, map, All, IfOk, ◌∷◌, []};
 ghost use Rattle.forms.specs.Form.{made};
 ghost use Rattle.forms.specs.Reading.{read};
 ghost use Rattle.forms.specs.Gives.{Gives, left};
@@ -12,7 +12,7 @@ ghost use Rattle.type_reader.specs.Tables.{nodes_there};
 ghost use Rattle.ir_types.specs.Grammar.{width_of, lane_at, is_int, zeros_at, splat_at, lanes_at, operand_at, value};
 ghost use Rattle.ir_reader_ops.specs.Operands.{lanes_of_width};
 ghost use Rattle.ir_reader_ops.specs.declared.scope.Scope.{Scope};
-ghost use Rattle.ir_reader_ops.specs.Seen.{operand_seen, definitions, Widens, Stays};
+ghost use Rattle.ir_reader_ops.specs.Seen.{operand_seen, definitions, Widens, Stays, OperandsUse};
 ghost use Rattle.ir_reader_ops.specs.View.{lane_in, lanes_in, written_in, AreIndexed};
 
 use crate::lanes::Lane;
@@ -200,6 +200,7 @@ pub fn value_at<'t>(
     ensures grows { Widens scope.old scope.new }
     ensures reads { Gives (λ x. (operand_seen scope.new x.0, left x.1)) result (read (made (operand_at (definitions scope.old) ty) value) (left tokens.entry)) }
     ensures stays { Stays operand_seen scope.new result }
+    ensures uses { IfOk result (λ x. OperandsUse scope.old (operand_seen scope.new x.0 ∷ []) scope.new) }
 {
     let (written, rest) = written_value(alloc, tokens, scope)?;
     let operand = operand(alloc, ty, &written, tokens, scope)?;

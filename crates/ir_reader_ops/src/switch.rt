@@ -1,13 +1,13 @@
 // The cases of a switch, and the switch without its word.
 
-ghost use Rattle.std.specs.Prelude.{◌≡◌, ◌≤◌, List, map, IfOk};
+ghost use Rattle.std.specs.Prelude.{◌≡◌, ◌≤◌, List, map, IfOk, ◌∷◌, []};
 ghost use Rattle.forms.specs.Reading.{read, opens};
 ghost use Rattle.forms.specs.Walk.{completed};
 ghost use Rattle.forms.specs.Gives.{Gives, left};
 ghost use Rattle.ir_types.specs.Types.{IsOneOf, widths};
 ghost use Rattle.ir_types.specs.Grammar.{case_of_switch, switch};
 ghost use Rattle.ir_reader_ops.specs.Split.{labels_in, case_at, case_in, cases_in, cases_read, switch_head, head_in};
-ghost use Rattle.ir_reader_ops.specs.Seen.{name_seen, inst_seen, definitions, Widens, AreSteady, Stays};
+ghost use Rattle.ir_reader_ops.specs.Seen.{name_seen, inst_seen, definitions, Widens, AreSteady, Stays, OperandsUse, InstUses, operand_seen};
 
 use crate::branches::comma_target;
 use crate::making::{bare, one_label, one_operand};
@@ -32,6 +32,7 @@ fn case<'t>(
     ensures grows { Widens scope.old scope.new }
     ensures reads { Gives (λ x. (case_in scope.new x.0, left x.1)) result (completed (case_at bits) (read case_of_switch (left tokens.entry))) }
     ensures stays { Stays case_in scope.new result }
+    ensures tables { scope.new.tables ≡ scope.old.tables }
 {
     let (written, rest) = width(tokens)?;
     let (digits, rest) = rest.one(TokenKind::Number)?;
@@ -63,6 +64,7 @@ fn cases<'t>(
     ensures grows { Widens scope.old scope.new }
     ensures reads { Gives (λ x. (cases_in scope.new (x.0.0.items, x.0.1), left x.1)) result (cases_read bits (labels_in scope.old labels) (left tokens.entry)) }
     ensures stays { Stays (λ ns x. cases_in ns (x.0.items, x.1)) scope.new result }
+    ensures tables { scope.new.tables ≡ scope.old.tables }
 {
     let mut numbers = Vec::new(alloc);
     let mut labels = labels;
@@ -86,6 +88,7 @@ fn head<'t>(
     ensures reads { Gives (λ x. (head_in scope.new x.0, left x.1)) result (read (switch_head (definitions scope.old)) (left tokens.entry)) }
     ensures stays { Stays head_in scope.new result }
     ensures written { IfOk result (λ x. IsOneOf widths x.0.0.0) }
+    ensures uses { IfOk result (λ x. OperandsUse scope.old (operand_seen scope.new x.0.0.1 ∷ []) scope.new) }
 {
     let (value, rest) = index_value(alloc, tokens, scope)?;
     let (default, rest) = comma_target(alloc, rest, scope)?;
@@ -102,6 +105,7 @@ pub fn switch<'t>(
     ensures grows { Widens scope.old scope.new }
     ensures reads { Gives (λ x. (inst_seen scope.new x.0, left x.1)) result (read (switch (definitions scope.old)) (left tokens.entry)) }
     ensures stays { Stays inst_seen scope.new result }
+    ensures uses { IfOk result (λ x. InstUses scope.old (inst_seen scope.new x.0) scope.new) }
 {
     let (((bits, value), default), rest) = head(alloc, tokens, scope)?;
     let rest = rest.mark(TokenKind::LeftBracket)?;

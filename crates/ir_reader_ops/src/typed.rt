@@ -1,12 +1,12 @@
 // Values behind their types.
 
-ghost use Rattle.std.specs.Prelude.{◌≡◌, List, IfOk};
+ghost use Rattle.std.specs.Prelude.{◌≡◌, List, IfOk, ◌∷◌, []};
 ghost use Rattle.forms.specs.declared.TokenKind.TheVariants.{Comma};
 ghost use Rattle.forms.specs.Reading.{read};
 ghost use Rattle.forms.specs.Gives.{Gives, left};
 ghost use Rattle.ir_types.specs.Types.{IsType, IsOneOf, widths};
 ghost use Rattle.ir_types.specs.Grammar.{typed_value, comma_typed, three_values, typed_pair, pointer_value, index_value, after_mark};
-ghost use Rattle.ir_reader_ops.specs.Seen.{operand_seen, definitions, Widens, Stays};
+ghost use Rattle.ir_reader_ops.specs.Seen.{operand_seen, definitions, Widens, Stays, OperandsUse};
 ghost use Rattle.ir_reader_ops.specs.View.{typed_in, pair_in, three_in};
 
 use crate::operand::value_at;
@@ -30,6 +30,7 @@ pub fn typed_value<'t>(
     ensures reads { Gives (λ x. (typed_in scope.new x.0, left x.1)) result (read (typed_value (definitions scope.old)) (left tokens.entry)) }
     ensures stays { Stays typed_in scope.new result }
     ensures written { IfOk result (λ x. IsType x.0.0) }
+    ensures uses { IfOk result (λ x. OperandsUse scope.old (operand_seen scope.new x.0.1 ∷ []) scope.new) }
 {
     let (ty, rest) = value_type(tokens)?;
     let (operand, rest) = value_at(alloc, ty, rest, scope)?;
@@ -45,6 +46,7 @@ pub fn comma_typed<'t>(
     ensures grows { Widens scope.old scope.new }
     ensures reads { Gives (λ x. (typed_in scope.new x.0, left x.1)) result (read (comma_typed (definitions scope.old)) (left tokens.entry)) }
     ensures stays { Stays typed_in scope.new result }
+    ensures uses { IfOk result (λ x. OperandsUse scope.old (operand_seen scope.new x.0.1 ∷ []) scope.new) }
 {
     let rest = tokens.mark(TokenKind::Comma)?;
     typed_value(alloc, rest, scope)
@@ -59,6 +61,7 @@ pub fn three_values<'t>(
     ensures grows { Widens scope.old scope.new }
     ensures reads { Gives (λ x. (three_in scope.new x.0, left x.1)) result (read (three_values (definitions scope.old)) (left tokens.entry)) }
     ensures stays { Stays three_in scope.new result }
+    ensures uses { IfOk result (λ x. OperandsUse scope.old (operand_seen scope.new x.0.0.1 ∷ operand_seen scope.new x.0.1.0.1 ∷ operand_seen scope.new x.0.1.1.1 ∷ []) scope.new) }
 {
     let (first, rest) = typed_value(alloc, tokens, scope)?;
     let (second, rest) = comma_typed(alloc, rest, scope)?;
@@ -76,6 +79,7 @@ pub fn typed_pair<'t>(
     ensures grows { Widens scope.old scope.new }
     ensures reads { Gives (λ x. (pair_in scope.new x.0, left x.1)) result (read (typed_pair (definitions scope.old)) (left tokens.entry)) }
     ensures stays { Stays pair_in scope.new result }
+    ensures uses { IfOk result (λ x. OperandsUse scope.old (operand_seen scope.new x.0.1.0 ∷ operand_seen scope.new x.0.1.1 ∷ []) scope.new) }
 {
     let (ty, rest) = value_type(tokens)?;
     let (first, rest) = value_at(alloc, ty, rest, scope)?;
@@ -94,6 +98,7 @@ pub fn pointer_value<'t>(
     ensures grows { Widens scope.old scope.new }
     ensures reads { Gives (λ x. (operand_seen scope.new x.0, left x.1)) result (read (pointer_value (definitions scope.old)) (left tokens.entry)) }
     ensures stays { Stays operand_seen scope.new result }
+    ensures uses { IfOk result (λ x. OperandsUse scope.old (operand_seen scope.new x.0 ∷ []) scope.new) }
 {
     let rest = tokens.word(b"ptr")?;
     value_at(alloc, Ty::Ptr, rest, scope)
@@ -108,6 +113,7 @@ pub fn comma_pointer<'t>(
     ensures grows { Widens scope.old scope.new }
     ensures reads { Gives (λ x. (operand_seen scope.new x.0, left x.1)) result (read (after_mark Comma (pointer_value (definitions scope.old))) (left tokens.entry)) }
     ensures stays { Stays operand_seen scope.new result }
+    ensures uses { IfOk result (λ x. OperandsUse scope.old (operand_seen scope.new x.0 ∷ []) scope.new) }
 {
     let rest = tokens.mark(TokenKind::Comma)?;
     pointer_value(alloc, rest, scope)
@@ -124,6 +130,7 @@ pub fn index_value<'t>(
     ensures reads { Gives (λ x. (typed_in scope.new x.0, left x.1)) result (read (index_value (definitions scope.old)) (left tokens.entry)) }
     ensures stays { Stays typed_in scope.new result }
     ensures written { IfOk result (λ x. IsOneOf widths x.0.0) }
+    ensures uses { IfOk result (λ x. OperandsUse scope.old (operand_seen scope.new x.0.1 ∷ []) scope.new) }
 {
     let (width, rest) = width(tokens)?;
     let (operand, rest) = value_at(alloc, Ty::Int(width), rest, scope)?;
@@ -139,6 +146,7 @@ pub fn comma_index<'t>(
     ensures grows { Widens scope.old scope.new }
     ensures reads { Gives (λ x. (typed_in scope.new x.0, left x.1)) result (read (after_mark Comma (index_value (definitions scope.old))) (left tokens.entry)) }
     ensures stays { Stays typed_in scope.new result }
+    ensures uses { IfOk result (λ x. OperandsUse scope.old (operand_seen scope.new x.0.1 ∷ []) scope.new) }
 {
     let rest = tokens.mark(TokenKind::Comma)?;
     let (value, rest) = index_value(alloc, rest, scope)?;

@@ -1,13 +1,13 @@
 // Local names, and values as they are written.
 
-ghost use Rattle.std.specs.Prelude.{◌≡◌, Some, true, false, MatchOption, IfOk};
+ghost use Rattle.std.specs.Prelude.{◌≡◌, Some, true, false, MatchOption, IfSome, IfOk};
 ghost use Rattle.forms.specs.declared.TokenKind.TheVariants.{Comma};
 ghost use Rattle.forms.specs.Reading.{read, opens};
 ghost use Rattle.forms.specs.Gives.{Gives, left};
 ghost use Rattle.ir_types.specs.Grammar.{local_name, constant_word, value, after_mark};
 ghost use Rattle.ir_reader_ops.specs.declared.scope.Scope.{Scope};
 ghost use Rattle.ir_reader_ops.specs.Seen.{name_seen, Widens, Stays};
-ghost use Rattle.ir_reader_ops.specs.View.{written_in, AreIndexed};
+ghost use Rattle.ir_reader_ops.specs.View.{written_in, AreIndexed, WrittenUses};
 
 use crate::constant::{constant_offset, symbol};
 use crate::lanes::{Lane, lane_in_parens, lane_list};
@@ -50,6 +50,7 @@ pub fn local_id<'t>(
     ensures grows { Widens scope.old scope.new }
     ensures reads { Gives (λ x. (name_seen scope.new x.0, left x.1)) result (read local_name (left tokens.entry)) }
     ensures stays { Stays name_seen scope.new result }
+    ensures tables { scope.new.tables ≡ scope.old.tables }
 {
     let (name, rest) = local(alloc, tokens)?;
     let id = scope.names.add(name)?;
@@ -65,6 +66,7 @@ pub fn comma_local<'t>(
     ensures grows { Widens scope.old scope.new }
     ensures reads { Gives (λ x. (name_seen scope.new x.0, left x.1)) result (read (after_mark Comma local_name) (left tokens.entry)) }
     ensures stays { Stays name_seen scope.new result }
+    ensures tables { scope.new.tables ≡ scope.old.tables }
 {
     let rest = tokens.mark(TokenKind::Comma)?;
     local_id(alloc, rest, scope)
@@ -73,7 +75,8 @@ pub fn comma_local<'t>(
 /// A value that is one word, and what is behind it, where such a word stands next.
 #[tactic(auto, unfolding(ir_types::specs::Grammar::constant_word))]
 fn constant_word<'t>(tokens: Cursor<'t>) -> Option<(Written<'t>, Cursor<'t>)>
-    ensures { MatchOption result (opens constant_word (left tokens.entry) ≡ false) (λ x. (opens constant_word (left tokens.entry) ≡ true) × (((scope : Scope) → read constant_word (left tokens.entry) ≡ Some (written_in scope x.0, left x.1)) × AreIndexed x.0)) }
+    ensures reads { MatchOption result (opens constant_word (left tokens.entry) ≡ false) (λ x. (opens constant_word (left tokens.entry) ≡ true) × (((scope : Scope) → read constant_word (left tokens.entry) ≡ Some (written_in scope x.0, left x.1)) × AreIndexed x.0)) }
+    ensures uses { IfSome result (λ x. (scope : Scope) → WrittenUses scope (written_in scope x.0) scope) }
 {
     if let Some(rest) = tokens.behind_word(b"true") {
         return Some((Written::Yes, rest));
@@ -102,6 +105,7 @@ pub fn written_value<'t>(
     ensures reads { Gives (λ x. (written_in scope.new x.0, left x.1)) result (read value (left tokens.entry)) }
     ensures stays { Stays written_in scope.new result }
     ensures indexed { IfOk result (λ x. AreIndexed x.0) }
+    ensures uses { IfOk result (λ x. WrittenUses scope.old (written_in scope.new x.0) scope.new) }
 {
     if tokens.is_next(TokenKind::Local) {
         let (id, rest) = local_id(alloc, tokens, scope)?;

@@ -1,10 +1,10 @@
 // Lanes of vectors, without the words before them.
 
-ghost use Rattle.std.specs.Prelude.{◌≡◌, List};
+ghost use Rattle.std.specs.Prelude.{◌≡◌, List, IfOk};
 ghost use Rattle.forms.specs.Reading.{read};
 ghost use Rattle.forms.specs.Gives.{Gives, left};
 ghost use Rattle.ir_types.specs.Grammar.{element_of, extractelement, insertelement, shuffled, shufflevector};
-ghost use Rattle.ir_reader_ops.specs.Seen.{inst_seen, definitions, Widens, Stays};
+ghost use Rattle.ir_reader_ops.specs.Seen.{inst_seen, definitions, Widens, Stays, InstUses};
 
 use crate::making::{applied, three_operands, two_operands};
 use crate::scope::Scope;
@@ -33,6 +33,7 @@ pub fn extract<'t>(
     ensures grows { Widens scope.old scope.new }
     ensures reads { Gives (λ x. (inst_seen scope.new x.0, left x.1)) result (read (extractelement (definitions scope.old)) (left tokens.entry)) }
     ensures stays { Stays inst_seen scope.new result }
+    ensures uses { IfOk result (λ x. InstUses scope.old (inst_seen scope.new x.0) scope.new) }
 {
     let ((ty, vector), rest) = typed_value(alloc, tokens, scope)?;
     let ((width, index), rest) = comma_index(alloc, rest, scope)?;
@@ -51,6 +52,7 @@ pub fn insert<'t>(
     ensures grows { Widens scope.old scope.new }
     ensures reads { Gives (λ x. (inst_seen scope.new x.0, left x.1)) result (read (insertelement (definitions scope.old)) (left tokens.entry)) }
     ensures stays { Stays inst_seen scope.new result }
+    ensures uses { IfOk result (λ x. InstUses scope.old (inst_seen scope.new x.0) scope.new) }
 {
     let ((ty, vector), rest) = typed_value(alloc, tokens, scope)?;
     let ((element, value), rest) = comma_typed(alloc, rest, scope)?;
@@ -80,6 +82,7 @@ pub fn shuffle<'t>(
     ensures grows { Widens scope.old scope.new }
     ensures reads { Gives (λ x. (inst_seen scope.new x.0, left x.1)) result (read (shufflevector (definitions scope.old)) (left tokens.entry)) }
     ensures stays { Stays inst_seen scope.new result }
+    ensures uses { IfOk result (λ x. InstUses scope.old (inst_seen scope.new x.0) scope.new) }
 {
     let (values, rest) = three_values(alloc, tokens, scope)?;
     let ((ty, first), ((second_type, second), (mask_type, mask))) = values;

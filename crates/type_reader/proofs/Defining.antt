@@ -54,7 +54,7 @@ module _ (names : List Name) (types : List MemTy) where
   skip n name Opaque entries e = rw e refl
   skip n name Missing entries e = refl
 
-  none_found : (n : Name) (entries : List TypeName) → ((j : ℕ) (x : TypeName) → slice_get entries j ≡ Some x → x.name ≢ n) → nodes_of_name (defs entries) n ≡ None
+  pub none_found : (n : Name) (entries : List TypeName) → ((j : ℕ) (x : TypeName) → slice_get entries j ≡ Some x → x.name ≢ n) → nodes_of_name (defs entries) n ≡ None
   none_found n [] h = refl
   none_found n (x ∷ entries) h = skip n x.name x.ty entries (other x.name n (h 0 x refl)) ∙ none_found n entries (λ j y e. h (suc j) y e)
 

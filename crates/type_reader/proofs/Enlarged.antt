@@ -77,7 +77,6 @@ module _ (t : TableLists) (entries : List TypeName) (h : AreTables t) (l : Looks
   pub enlarged : (types : List MemTy) (extents : List Extent) → Extends t.types types → AreTypes (names_of entries) 0 types → AreExtents types entries extents → AreTables (record { symbols = t.symbols; known = t.known; entries = entries; types = types; extents = extents })
   enlarged types extents x are e = record {
     known = h.known;
-    symbols_apart = h.symbols_apart;
     types_are = are;
     defined = rw l.parts (bounds (length t.types) (length types) t.entries (unknown (names_of t.entries) l.used) (extends_length t.types types x) h.defined);
     entries_apart = rw l.parts (entries_looked t.entries l.used h.entries_apart);

@@ -18,7 +18,7 @@ use Rattle.ir_types.specs.Types.{AreTypes}
 use Rattle.ir_types.specs.TypeNodes.{TypeNode}
 use Rattle.ir_types.proofs.NameAt.{name_got, name_stays, extends_refl, extends_trans}
 use Rattle.type_reader.specs.TypeTable.{names_of, missing_entry}
-use Rattle.type_reader.specs.Tables.{TableLists, definition_over, Grows, IsDefinedBefore, AreApartFrom, AreEntriesApart, AreTables}
+use Rattle.type_reader.specs.Tables.{TableLists, definition_over, Grows, IsDefinedBefore, AreEntriesApart, AreTables}
 use Rattle.type_reader.proofs.FirstPlaces.{names_push}
 use Rattle.type_reader.proofs.LookUps.{has_this}
 use Rattle.type_reader.proofs.NodeLists.{nodes_stay}
@@ -48,26 +48,10 @@ got_end [] y (suc i) x e le = absurd cc
 got_end (z ∷ xs) y zero x e le = absurd (omega arith)
 got_end (z ∷ xs) y (suc i) x e le = let g = got_end xs y i x e (omega arith) in (ap suc g.0, g.1)
 
-contains_got : {A : Type 0} (xs : List A) (i : ℕ) (x : A) → slice_get xs i ≡ Some x → Contains xs x
+pub contains_got : {A : Type 0} (xs : List A) (i : ℕ) (x : A) → slice_get xs i ≡ Some x → Contains xs x
 contains_got xs i x e = (i, slice_get_within xs i x e, get_or_from_slice_get xs i x x e)
 
 -- ---- symbols
-
-apart_push : (known : ℕ) (names : List Name) (name : Name) → ¬ Contains names name → AreApartFrom known names → AreApartFrom known (names ++ name ∷ [])
-apart_push known names name fresh h = λ i j n le a b. by i j n le a b (cases_lt i (length names)) (cases_lt j (length names))
-  where
-    not_both : (i j : ℕ) (n : Name) → slice_get names i ≡ Some n → (j ≡ length names) × (n ≡ name) → i ≡ j
-    not_both i j n a b = absurd (fresh (subst (λ (m : Name). Contains names m) b.1 (contains_got names i n a)))
-
-    by : (i j : ℕ) (n : Name) → known ≤ i → slice_get (names ++ name ∷ []) i ≡ Some n → slice_get (names ++ name ∷ []) j ≡ Some n → (i < length names) ⊎ (length names ≤ i) → (j < length names) ⊎ (length names ≤ j) → i ≡ j
-    by i j n le a b (inl p) (inl q) = h i j n le (got_front names name i n a p) (got_front names name j n b q)
-    by i j n le a b (inl p) (inr q) = not_both i j n (got_front names name i n a p) (got_end names name j n b q)
-    by i j n le a b (inr p) (inl q) = sym (not_both j i n (got_front names name j n b q) (got_end names name i n a p))
-    by i j n le a b (inr p) (inr q) = (got_end names name i n a p).0 ∙ sym (got_end names name j n b q).0
-
-apart_adds : (known : ℕ) (old : List Name) (name : Name) (new : List Name) → Adds old name new → AreApartFrom known old → AreApartFrom known new
-apart_adds known old name new (inl there) h = subst (λ (l : List Name). AreApartFrom known l) (sym there.1) h
-apart_adds known old name new (inr fresh) h = subst (λ (l : List Name). AreApartFrom known l) (sym fresh.1) (apart_push known old name fresh.0 h)
 
 adds_extend : (old : List Name) (name : Name) (new : List Name) → Adds old name new → Extends old new
 adds_extend old name new (inl there) = subst (λ (l : List Name). Extends old l) (sym there.1) (extends_refl old)
@@ -81,7 +65,6 @@ with_symbol : (t : TableLists) (name : Name) (symbols : List Name) → Adds t.sy
 with_symbol t name symbols a h =
     record {
       known = omega (arith, h.known, extends_length t.symbols symbols (adds_extend t.symbols name symbols a));
-      symbols_apart = apart_adds t.known t.symbols name symbols a h.symbols_apart;
       types_are = h.types_are;
       defined = h.defined;
       entries_apart = h.entries_apart;
@@ -115,7 +98,7 @@ entries_push entries name fresh h = λ i j x y a b. by i j x y a b (cases_lt i (
     by i j x y a b (inr p) (inl q) m d = λ e. apart j y (got_front entries new j y b q) (sym e ∙ ap (λ (t : TypeName). t.name) (got_end entries new i x a p).1)
     by i j x y a b (inr p) (inr q) m d = absurd (d ((got_end entries new i x a p).0 ∙ sym (got_end entries new j y b q).0))
 
-none_of : (n : Name) (ns : List Name) → has_name n ns ≡ false → ¬ Contains ns n
+pub none_of : (n : Name) (ns : List Name) → has_name n ns ≡ false → ¬ Contains ns n
 none_of n ns e = λ h. true≢false (sym (has_this n ns h.0 h.1 h.2) ∙ e)
 
 -- names that were looked up one after another are apart

@@ -11,3 +11,5 @@ pub mod Growth
 pub mod Enlarged
 pub mod Defining
 pub mod Looking
+pub mod Uses
+pub mod Known

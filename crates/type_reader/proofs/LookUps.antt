@@ -71,7 +71,7 @@ has_this n [] i lt e = absurd (omega arith)
 has_this n (m ∷ ns) zero lt e = rw ((same_name-Decides n m).1 (sym e)) refl
 has_this n (m ∷ ns) (suc i) lt e = or_right (same_name n m) (has_name n ns) (has_this n ns i (omega arith) e)
 
-has_none : (n : Name) (ns : List Name) → ¬ Contains ns n → has_name n ns ≡ false
+pub has_none : (n : Name) (ns : List Name) → ¬ Contains ns n → has_name n ns ≡ false
 has_none n ns h = by (has_name n ns) refl
   where
     by : (b : Bool) → has_name n ns ≡ b → b ≡ false

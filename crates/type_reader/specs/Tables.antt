@@ -1,5 +1,5 @@
 -- What a module has for its functions while they are read: the names of its symbols, the names of its types, its types and their extents.
-use Rattle.std.specs.Prelude.{◌≡◌, ◌<◌, ◌≤◌, ℕ, List, slice_get, length, Option, Some, None}
+use Rattle.std.specs.Prelude.{◌≡◌, ◌≢◌, ◌<◌, ◌≤◌, ℕ, List, slice_get, length, Option, Some, None}
 use Rattle.std.specs.List.{AllByRecursion, filter_map}
 use Rattle.forms.specs.View.{Extends}
 use Rattle.ir_types.specs.declared.name.Name.{Name}
@@ -12,7 +12,7 @@ use Rattle.ir_types.specs.Types.{AreTypes}
 use Rattle.ir_types.specs.TypeNodes.{TypeNode, type_nodes}
 use Rattle.ir_types.specs.Sizes.{AreExtents}
 use Rattle.ir_types.specs.Offsets.{Definitions}
-use Rattle.ir_types.specs.Denotes.{Tables, AreMissingApart}
+use Rattle.ir_types.specs.Denotes.{Tables}
 use Rattle.type_reader.specs.TypeTable.{names_of}
 
 -- the names of symbols, so many of which are defined or declared, and the others only used; the names of types, the types, and their extents
@@ -51,18 +51,13 @@ pub record Grows (old new : TableLists) : Type 0 where
 abbrev pub IsDefinedBefore : ℕ → TypeName → Type 0
 IsDefinedBefore i n = elim n.ty as (λ _. Type 0) [ Defined id ↦ id.0 < i | Opaque ↦ Unit {0} | Missing ↦ Unit {0} ]
 
--- the names from a place on are no other's
-abbrev pub AreApartFrom : ℕ → List Name → Type 0
-AreApartFrom known names = (i j : ℕ) (n : Name) → known ≤ i → slice_get names i ≡ Some n → slice_get names j ≡ Some n → i ≡ j
-
 -- a name of a type that is only used is no other's
 abbrev pub AreEntriesApart : List TypeName → Type 0
-AreEntriesApart entries = AreMissingApart (λ (n : TypeName). n.name) (λ (n : TypeName). n.ty ≡ Missing) entries
+AreEntriesApart entries = (i j : ℕ) (x y : TypeName) → slice_get entries i ≡ Some x → slice_get entries j ≡ Some y → x.ty ≡ Missing → i ≢ j → x.name ≢ y.name
 
 -- the lists fit each other
 pub record AreTables (t : TableLists) : Type 0 where
   pub known : t.known ≤ length t.symbols
-  pub symbols_apart : AreApartFrom t.known t.symbols
   pub types_are : AreTypes (names_of t.entries) 0 t.types
   pub defined : AllByRecursion (IsDefinedBefore (length t.types)) t.entries
   pub entries_apart : AreEntriesApart t.entries

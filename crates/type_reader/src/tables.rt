@@ -1,19 +1,21 @@
 // What a module has for its functions, while these are read.
 
-ghost use Rattle.std.specs.Prelude.{◌≡◌, ◌<◌, ℕ, List, length, map, All, IfOk, OnOk};
+ghost use Rattle.std.specs.Prelude.{◌≡◌, ◌<◌, ◌∷◌, [], ℕ, List, length, map, All, IfOk, OnOk};
 ghost use Rattle.std.specs.List.{AllByRecursion};
 ghost use Rattle.forms.specs.Gives.{Gives, left};
 ghost use Rattle.forms.specs.Reading.{read};
 ghost use Rattle.forms.specs.View.{Extends};
 ghost use Rattle.ir_types.specs.Names.{name_at};
 ghost use Rattle.ir_types.specs.Types.{AreTypes};
-ghost use Rattle.ir_types.specs.TypeNodes.{type_nodes};
+ghost use Rattle.ir_types.specs.TypeNodes.{type_nodes, names_used};
+ghost use Rattle.ir_types.specs.Tree.{global};
 ghost use Rattle.ir_types.specs.Sizes.{AreExtents};
 ghost use Rattle.ir_types.specs.Grammar.{inst_memory};
 ghost use Rattle.ir_types.specs.Offsets.{offset_of};
 ghost use Rattle.ir_sizes.specs.Stepping.{index_pair, IsIndex};
-ghost use Rattle.type_reader.specs.TypeTable.{names_of, LooksUpSome};
+ghost use Rattle.type_reader.specs.TypeTable.{names_of, LooksUpSome, LooksUpAll};
 ghost use Rattle.type_reader.specs.Tables.{TableLists, nodes_there, definitions_of, Grows, IsDefinedBefore, AreEntriesApart, AreTables};
+ghost use Rattle.type_reader.specs.Uses.{Uses};
 
 use crate::memory::memory_type;
 use crate::symbol_names::SymbolNames;
@@ -63,6 +65,7 @@ fn read_type<'t>(
     ensures extents_are { OnOk result (AreExtents types.new.items names.new extents.new.items) }
     ensures reads { Gives (λ x. (type_nodes (names_of names.new) types.new.items x.0, left x.1)) result (read inst_memory (left tokens.entry)) }
     ensures within { IfOk result (λ x. x.0.0 < length types.new.items) }
+    ensures names { IfOk result (λ x. LooksUpAll names.old (type_nodes (names_of names.new) types.new.items x.0) names.new) }
 {
     let (id, rest) = memory_type(alloc, tokens, types, names)?;
     extents_behind(types.as_slice(), names.as_slice(), extents)?;
@@ -119,6 +122,7 @@ impl Tables {
     pub fn symbol(&mut self, name: Name) -> Result<u32, AllocError>
         ensures grows { Grows self.old self.new }
         ensures named { IfOk result (λ id. name_at self.new.symbols id ≡ name) }
+        ensures uses { IfOk result (λ id. Uses self.old [] (global name 0 ∷ []) self.new) }
         ensures stays { IfOk result (λ id. (later : TableLists) → Grows self.new later → name_at later.symbols id ≡ name_at self.new.symbols id) }
     {
         self.symbols.place_of(name)
@@ -137,6 +141,7 @@ impl Tables {
         ensures grows { Grows self.old self.new }
         ensures reads { Gives (λ x. (nodes_there self.new x.0, left x.1)) result (read inst_memory (left tokens.entry)) }
         ensures stays { IfOk result (λ x. (later : TableLists) → Grows self.new later → nodes_there later x.0 ≡ nodes_there self.new x.0) }
+        ensures uses { IfOk result (λ x. Uses self.old (names_used (nodes_there self.new x.0)) [] self.new) }
     {
         let count = self.types.len();
         match read_type(

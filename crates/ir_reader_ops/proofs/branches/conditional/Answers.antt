@@ -1,4 +1,4 @@
-use Rattle.std.proofs.Common.{refl}
+use Rattle.std.proofs.Common.{refl, ◌∙◌}
 use Rattle.forms.specs.Gives.{left}
 use Rattle.ir_reader_ops.specs.Seen.{operand_seen, name_seen, definitions}
 use Rattle.ir_reader_ops.proofs.Widening.{widens_trans, steady_behind}
@@ -26,3 +26,9 @@ returns-clause-stays c = λ later e.
     let value = steady_behind operand_seen a n c.in_ok-condition.condition (widens_trans a b n c.in_ok-then.ensures.grows grows) c.in_ok-condition.ensures.stays later e in
     let then = steady_behind name_seen b n c.in_ok-then.then grows c.in_ok-then.ensures.stays later e in
     rw (c.bare.ensures, c.in_ok-args.ensures, c.in_ok-labels.ensures, value, then, c.in_ok-otherwise.ensures.stays later e) refl
+
+pub returns-clause-uses : goal.returns-clause-uses
+returns-clause-uses c =
+    let n = c.comma_target-2.new.scope in
+    let value = c.in_ok-condition.ensures.stays n (widens_trans c.value_at.new.scope c.comma_target.new.scope n c.in_ok-then.ensures.grows c.in_ok-otherwise.ensures.grows) in
+    rw (c.bare.ensures, c.in_ok-args.ensures, value, c.in_ok-otherwise.ensures.tables ∙ c.in_ok-then.ensures.tables) c.in_ok-condition.ensures.uses

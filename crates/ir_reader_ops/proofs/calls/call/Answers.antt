@@ -17,3 +17,6 @@ returns-clause-reads c =
 pub returns-clause-stays : goal.returns-clause-stays
 returns-clause-stays c = λ later w.
     rw c.applied.ensures (ap (λ (p : List Actual × List OperandTree). call_of c.args.tail c.in_ok-before.before c.in_ok-ty.ty c.in_ok-signature.signature c.in_ok-name.name (c.in_ok-actuals.actuals, p.1) c.in_ok-after.after) (c.in_ok-actuals.ensures.stays later w))
+
+pub returns-clause-uses : goal.returns-clause-uses
+returns-clause-uses c = rw c.applied.ensures c.in_ok-actuals.ensures.uses

@@ -1,4 +1,5 @@
-use Rattle.std.proofs.Common.{◌≡◌, map, refl, sym, ap, ◌∙◌, arith}
+use Rattle.ir_reader_ops.proofs.Using.{uses_behind}
+use Rattle.std.proofs.Common.{◌≡◌, map, refl, sym, ap, ◌∙◌, arith, [], ◌∷◌}
 use Rattle.std.proofs.lemmas.Result.{err_from_is_err_and}
 use Rattle.forms.specs.declared.cursor.Cursor.{Cursor}
 use Rattle.forms.specs.declared.TokenKind.TheVariants.{Comma}
@@ -40,6 +41,8 @@ more-preserved c =
           (goes_two form c.more.actuals.items (map (operand_seen before) c.more.values) c.in_ok-actual-2.actual (operand_seen now value) (left c.more.rest) (left c.in_ok-actual-2.after)
           (some_arguments_read defs (left c.args.tokens)) refl (sym (c.another.ensures defs) ∙ c.more-test.true) (same ∙ c.in_ok-actual-2.ensures.reads) c.more.invariant.reads);
       values = push_steady operand_seen before now c.more.values c.push-in-more-2.new.self value c.in_ok-push-3.ensures.ok grows c.more.invariant.values (λ later e. ap (λ x. x.1) (c.in_ok-actual-2.ensures.stays later e));
+      uses = rw (push_seen operand_seen before now c.more.values c.push-in-more-2.new.self value c.in_ok-push-3.ensures.ok grows c.more.invariant.values)
+          (uses_behind c.args.scope.now before now (map (operand_seen before) c.more.values) (operand_seen now value ∷ []) c.more.invariant.uses c.in_ok-actual-2.ensures.uses);
     }
 
 pub returns-in_err-actual-2-clause-reads : goal.returns-in_err-actual-2-clause-reads

@@ -5,7 +5,7 @@ use Rattle.forms.specs.Reading.{read}
 use Rattle.forms.specs.Walk.{completed}
 use Rattle.forms.specs.Gives.{left}
 use Rattle.ir_types.specs.Grammar.{argument, marked}
-use Rattle.ir_reader_ops.specs.Seen.{definitions, operand_seen, Widens, AreSteady}
+use Rattle.ir_reader_ops.specs.Seen.{definitions, operand_seen, Widens, AreSteady, OperandsUse}
 use Rattle.ir_reader_ops.specs.Split.{split_each, behind_both}
 use Rattle.ir_reader_ops.specs.Offsets.{as_two}
 use Rattle.ir_reader_ops.specs.Calls.{some_arguments_read}
@@ -19,4 +19,5 @@ invariant-more l = record {
   grows : Widens l.fn.scope l.scope;
   reads : behind_both l.actuals.items (map (operand_seen l.scope) l.values) (completed (split_each as_two) (read (many (marked Comma (argument (definitions l.fn.scope)))) (left l.rest))) ≡ some_arguments_read (definitions l.fn.scope) (left l.fn.tokens);
   values : AreSteady operand_seen l.scope l.values;
+  uses : OperandsUse l.fn.scope (map (operand_seen l.scope) l.values) l.scope;
 }

@@ -1,4 +1,5 @@
-use Rattle.std.proofs.Common.{◌≡◌, map, refl, sym, ap, ◌∙◌, arith}
+use Rattle.ir_reader_ops.proofs.Using.{uses_behind}
+use Rattle.std.proofs.Common.{◌≡◌, map, refl, sym, ap, ◌∙◌, arith, [], ◌∷◌}
 use Rattle.forms.specs.declared.TokenKind.TheVariants.{Comma}
 use Rattle.forms.specs.Reading.{read}
 use Rattle.forms.specs.Walk.{completed}
@@ -36,4 +37,6 @@ more-preserved c =
           (completed (split_each (entry_at defs c.args.ty)) (read (commas entry_of_phi) (left c.args.tokens))) refl (sym c.another.ensures ∙ c.more-test.true) (same ∙ c.in_ok-operand-2.ensures.reads) c.more.invariant.reads);
       operands = push_steady operand_seen before now c.more.operands c.push.new.self operand c.in_ok-push.ensures.ok grows c.more.invariant.operands (λ later e. ap (λ x. x.0) (stays later e));
       labels = push_steady name_seen before now c.more.labels c.push-in-more.new.self label c.in_ok-push-2.ensures.ok grows c.more.invariant.labels (λ later e. ap (λ x. x.1) (stays later e));
+      uses = rw (push_seen operand_seen before now c.more.operands c.push.new.self operand c.in_ok-push.ensures.ok grows c.more.invariant.operands)
+          (uses_behind c.args.scope.now before now (map (operand_seen before) c.more.operands) (operand_seen now operand ∷ []) c.more.invariant.uses c.in_ok-operand-2.ensures.uses);
     }

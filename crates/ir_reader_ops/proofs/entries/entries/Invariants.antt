@@ -5,7 +5,7 @@ use Rattle.forms.specs.Reading.{read}
 use Rattle.forms.specs.Walk.{completed}
 use Rattle.forms.specs.Gives.{left}
 use Rattle.ir_types.specs.Grammar.{entry_of_phi, commas, marked}
-use Rattle.ir_reader_ops.specs.Seen.{definitions, name_seen, operand_seen, Widens, AreSteady}
+use Rattle.ir_reader_ops.specs.Seen.{definitions, name_seen, operand_seen, Widens, AreSteady, OperandsUse}
 use Rattle.ir_reader_ops.specs.Split.{split_each, behind_both, labels_in, entry_at}
 use Rattle.ir_reader_ops.proofs.entries.entries.Given as goal
 
@@ -18,4 +18,5 @@ invariant-more l = record {
   reads : behind_both (map (operand_seen l.scope) l.operands) (labels_in l.scope l.labels) (completed (split_each (entry_at (definitions l.fn.scope) l.ty)) (read (many (marked Comma entry_of_phi)) (left l.rest))) ≡ completed (split_each (entry_at (definitions l.fn.scope) l.ty)) (read (commas entry_of_phi) (left l.fn.tokens));
   operands : AreSteady operand_seen l.scope l.operands;
   labels : AreSteady name_seen l.scope l.labels;
+  uses : OperandsUse l.fn.scope (map (operand_seen l.scope) l.operands) l.scope;
 }

@@ -3,4 +3,7 @@ use Rattle.ir_reader_ops.proofs.Attached.{attached_steady}
 use Rattle.ir_reader_ops.proofs.inst.terminator.Goals as goal
 
 pub returns-clause-stays : goal.returns-clause-stays
-returns-clause-stays c = attached_steady c.bare_terminator.new.scope c.in_ok-inst.inst c.in_ok-inst-2.inst (left c.in_ok-inst.rest) (left c.in_ok-inst-2.rest) c.in_ok-inst-2.ensures c.in_ok-inst.ensures.stays
+returns-clause-stays c = attached_steady c.bare_terminator.new.scope c.in_ok-inst.inst c.in_ok-inst-2.inst (left c.in_ok-inst.rest) (left c.in_ok-inst-2.rest) c.in_ok-inst-2.ensures.reads c.in_ok-inst.ensures.stays
+
+pub returns-clause-uses : goal.returns-clause-uses
+returns-clause-uses c = rw (c.in_ok-inst-2.ensures.same.0, c.in_ok-inst-2.ensures.same.1) c.in_ok-inst.ensures.uses

@@ -1,4 +1,5 @@
-use Rattle.std.proofs.Common.{◌≡◌, refl, ap}
+use Rattle.ir_reader_ops.proofs.Using.{uses_behind}
+use Rattle.std.proofs.Common.{◌≡◌, refl, ap, [], ◌∷◌}
 use Rattle.ir_reader_ops.specs.Seen.{operand_seen}
 use Rattle.ir_reader_ops.specs.View.{typed_in}
 use Rattle.ir_reader_ops.proofs.Widening.{steady_behind}
@@ -10,3 +11,11 @@ returns-clause-stays c = λ later e.
     let typed = steady_behind typed_in c.typed_value.new.scope n (c.in_ok-ty.ty, c.in_ok-ty.value) c.in_ok-pointer.ensures.grows c.in_ok-ty.ensures.stays later e in
     let value : operand_seen later c.in_ok-ty.value ≡ operand_seen n c.in_ok-ty.value = ap (λ x. x.1) typed in
     rw (c.applied.ensures, c.in_ok-args.ensures, value, c.in_ok-pointer.ensures.stays later e) refl
+
+pub returns-clause-uses : goal.returns-clause-uses
+returns-clause-uses c =
+    let a = c.typed_value.new.scope in
+    let n = c.comma_pointer.new.scope in
+    let value : operand_seen n c.in_ok-ty.value ≡ operand_seen a c.in_ok-ty.value = ap (λ x. x.1) (c.in_ok-ty.ensures.stays n c.in_ok-pointer.ensures.grows) in
+    rw (c.applied.ensures, c.in_ok-args.ensures, value)
+    (uses_behind c.args.scope.now a n (operand_seen a c.in_ok-ty.value ∷ []) (operand_seen n c.in_ok-pointer.pointer ∷ []) c.in_ok-ty.ensures.uses c.in_ok-pointer.ensures.uses)

@@ -1,4 +1,5 @@
-use Rattle.std.proofs.Common.{◌≡◌, ℕ, [], map, refl, sym, ap, ◌∙◌, arith}
+use Rattle.ir_reader_ops.proofs.Using.{uses_behind}
+use Rattle.std.proofs.Common.{◌≡◌, ℕ, [], map, refl, sym, ap, ◌∙◌, arith, ◌∷◌}
 use Rattle.std.proofs.lemmas.Result.{err_from_is_err_and}
 use Rattle.forms.specs.declared.cursor.Cursor.{Cursor}
 use Rattle.forms.specs.Reading.{read}
@@ -29,6 +30,8 @@ more-init c =
       reads = rw (c.in_ok-push.ensures.items, c.new-widths.ensures.items, push_seen operand_seen before now c.args.before c.push-2.new.self index c.in_ok-push-2.ensures.ok grows c.requires)
           (first_two form form [] (map (operand_seen before) c.args.before) c.in_ok-width.width (operand_seen now index) (left c.args.tokens) (left c.in_ok-width.rest) c.in_ok-width.ensures.reads);
       operands = push_steady operand_seen before now c.args.before c.push-2.new.self index c.in_ok-push-2.ensures.ok grows c.requires (λ later e. ap (λ x. x.1) (c.in_ok-width.ensures.stays later e));
+      uses = λ start u. rw (push_seen operand_seen before now c.args.before c.push-2.new.self index c.in_ok-push-2.ensures.ok grows c.requires)
+          (uses_behind start before now (map (operand_seen before) c.args.before) (operand_seen now index ∷ []) u c.in_ok-width.ensures.uses);
     }
 
 pub more-smaller : goal.more-smaller
@@ -51,6 +54,8 @@ more-preserved c =
           (goes_two (next_index defs) c.more.widths.items (map (operand_seen before) c.more.operands) c.in_ok-width-2.width (operand_seen now index) (left c.more.rest) (left c.in_ok-width-2.after)
           (indexes_read defs (map (operand_seen c.args.scope.now) c.args.before) (left c.args.tokens)) (next_takes defs) (sym (c.another.ensures defs) ∙ c.more-test.true) (same ∙ c.in_ok-width-2.ensures.reads) c.more.invariant.reads);
       operands = push_steady operand_seen before now c.more.operands c.push-in-more-2.new.self index c.in_ok-push-4.ensures.ok grows c.more.invariant.operands (λ later e. ap (λ x. x.1) (c.in_ok-width-2.ensures.stays later e));
+      uses = λ start u. rw (push_seen operand_seen before now c.more.operands c.push-in-more-2.new.self index c.in_ok-push-4.ensures.ok grows c.more.invariant.operands)
+          (uses_behind start before now (map (operand_seen before) c.more.operands) (operand_seen now index ∷ []) (c.more.invariant.uses start u) c.in_ok-width-2.ensures.uses);
     }
 
 pub returns-in_err-width-2-clause-reads : goal.returns-in_err-width-2-clause-reads

@@ -28,3 +28,6 @@ returns-clause-reads c =
     let pointer = c.in_ok-pointer.pointer in
     let same : indexes_read defs (operand_seen a pointer ∷ []) (left c.in_ok-pointer.rest) ≡ indexes_read (definitions a) (map (operand_seen a) c.in_ok-before.before) (left c.in_ok-pointer.rest) = rw (c.in_ok-pointer.ensures.grows.definitions, c.in_ok-before.ensures) refl in
     rw c.from_vec.ensures (steps_behind defs (operand_seen a pointer) (left c.args.tokens) (left c.in_ok-pointer.rest) c.in_ok-pointer.ensures.reads ∙ same ∙ c.in_ok-widths.ensures.reads)
+
+pub returns-clause-uses : goal.returns-clause-uses
+returns-clause-uses c = c.in_ok-widths.ensures.uses c.args.scope.now (rw c.in_ok-before.ensures c.in_ok-pointer.ensures.uses)

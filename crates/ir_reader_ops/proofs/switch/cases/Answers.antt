@@ -27,4 +27,5 @@ more-preserved c =
           (goes_split case_of_switch (case_at c.args.bits) c.more.numbers.items (labels_in before c.more.labels) c.in_ok-number.number (name_seen now label) (left c.more.rest) (left c.in_ok-number.after)
           (cases_read c.args.bits (labels_in c.args.scope.now c.args.labels) (left c.args.tokens)) case_takes (sym c.begins_case.ensures ∙ c.more-test.true) c.in_ok-number.ensures.reads c.more.invariant.reads);
       stays = push_steady name_seen before now c.more.labels c.push-in-more.new.self label c.in_ok-push-2.ensures.ok grows c.more.invariant.stays (λ later e. ap (λ x. x.1) (c.in_ok-number.ensures.stays later e));
+      tables = c.in_ok-number.ensures.tables ∙ c.more.invariant.tables;
     }

@@ -16,4 +16,5 @@ invariant-more l = record {
   grows : Widens l.fn.scope l.scope;
   reads : behind_both l.numbers.items (labels_in l.scope l.labels) (completed (split_each (case_at l.bits)) (read (many case_of_switch) (left l.rest))) ≡ cases_read l.bits (labels_in l.fn.scope l.fn.labels) (left l.fn.tokens);
   stays : AreSteady name_seen l.scope l.labels;
+  tables : l.scope.tables ≡ l.fn.scope.tables;
 }

@@ -1,7 +1,8 @@
-use Rattle.std.proofs.Common.{refl, ◌∙◌}
+use Rattle.ir_reader_ops.proofs.Using.{uses_behind}
+use Rattle.std.proofs.Common.{refl, ◌∙◌, ◌≡◌, [], ◌∷◌, ap}
 use Rattle.forms.specs.Gives.{left}
 use Rattle.ir_types.specs.Grammar.{typed_value, comma_typed}
-use Rattle.ir_reader_ops.specs.Seen.{definitions}
+use Rattle.ir_reader_ops.specs.Seen.{definitions, operand_seen}
 use Rattle.ir_reader_ops.specs.View.{typed_in}
 use Rattle.ir_reader_ops.proofs.Chains.{three_apart}
 use Rattle.ir_reader_ops.proofs.Operands.{by_definitions}
@@ -33,3 +34,16 @@ returns-clause-stays c = λ later e.
     let first = steady_behind typed_in a n c.in_ok-first.first (widens_trans a b n c.in_ok-second.ensures.grows grows) c.in_ok-first.ensures.stays later e in
     let second = steady_behind typed_in b n c.in_ok-second.second grows c.in_ok-second.ensures.stays later e in
     rw (first, second, c.in_ok-third.ensures.stays later e) refl
+
+pub returns-clause-uses : goal.returns-clause-uses
+returns-clause-uses c =
+    let a = c.typed_value.new.scope in
+    let b = c.comma_typed.new.scope in
+    let n = c.comma_typed-2.new.scope in
+    let later = c.in_ok-third.ensures.grows in
+    let one = c.in_ok-first.first.1 in
+    let two = c.in_ok-second.second.1 in
+    let first : operand_seen n one ≡ operand_seen a one = ap (λ x. x.1) (c.in_ok-first.ensures.stays n (widens_trans a b n c.in_ok-second.ensures.grows later)) in
+    let second : operand_seen n two ≡ operand_seen b two = ap (λ x. x.1) (c.in_ok-second.ensures.stays n later) in
+    let both = uses_behind c.args.scope.now a b (operand_seen a one ∷ []) (operand_seen b two ∷ []) c.in_ok-first.ensures.uses c.in_ok-second.ensures.uses in
+    rw (first, second) (uses_behind c.args.scope.now b n (operand_seen a one ∷ operand_seen b two ∷ []) (operand_seen n c.in_ok-third.third.1 ∷ []) both c.in_ok-third.ensures.uses)

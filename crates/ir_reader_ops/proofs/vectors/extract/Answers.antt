@@ -1,4 +1,5 @@
-use Rattle.std.proofs.Common.{◌≡◌, ℕ, refl, ap, ◌∙◌}
+use Rattle.ir_reader_ops.proofs.Using.{uses_behind}
+use Rattle.std.proofs.Common.{◌≡◌, ℕ, refl, ap, ◌∙◌, [], ◌∷◌}
 use Rattle.std.proofs.lemmas.Result.{err_from_is_err_and}
 use Rattle.forms.specs.declared.cursor.Cursor.{Cursor}
 use Rattle.forms.specs.Gives.{left}
@@ -41,3 +42,11 @@ returns-clause-stays c = λ later e.
     let vector : operand_seen later c.in_ok-ty.vector ≡ operand_seen n c.in_ok-ty.vector = ap (λ x. x.1) typed in
     let index : operand_seen later c.in_ok-width.index ≡ operand_seen n c.in_ok-width.index = ap (λ x. x.1) (c.in_ok-width.ensures.stays later e) in
     rw (c.applied.ensures, c.in_ok-args.ensures, vector, index) refl
+
+pub returns-clause-uses : goal.returns-clause-uses
+returns-clause-uses c =
+    let a = c.typed_value.new.scope in
+    let n = c.comma_index.new.scope in
+    let vector : operand_seen n c.in_ok-ty.vector ≡ operand_seen a c.in_ok-ty.vector = ap (λ x. x.1) (c.in_ok-ty.ensures.stays n c.in_ok-width.ensures.grows) in
+    rw (c.applied.ensures, c.in_ok-args.ensures, vector)
+    (uses_behind c.args.scope.now a n (operand_seen a c.in_ok-ty.vector ∷ []) (operand_seen n c.in_ok-width.index ∷ []) c.in_ok-ty.ensures.uses c.in_ok-width.ensures.uses)

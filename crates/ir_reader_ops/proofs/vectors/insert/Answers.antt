@@ -1,4 +1,5 @@
-use Rattle.std.proofs.Common.{◌≡◌, refl, ap, ◌∙◌}
+use Rattle.ir_reader_ops.proofs.Using.{uses_behind}
+use Rattle.std.proofs.Common.{◌≡◌, refl, ap, ◌∙◌, [], ◌∷◌}
 use Rattle.forms.specs.Gives.{left}
 use Rattle.ir_types.specs.Grammar.{comma_typed}
 use Rattle.ir_reader_ops.specs.Seen.{operand_seen, definitions}
@@ -38,3 +39,17 @@ returns-clause-stays c = λ later e.
     let value : operand_seen later c.in_ok-element.value ≡ operand_seen n c.in_ok-element.value = ap (λ x. x.1) second in
     let index : operand_seen later c.in_ok-width.index ≡ operand_seen n c.in_ok-width.index = ap (λ x. x.1) (c.in_ok-width.ensures.stays later e) in
     rw (c.applied.ensures, c.in_ok-args.ensures, vector, value, index) refl
+
+pub returns-clause-uses : goal.returns-clause-uses
+returns-clause-uses c =
+    let a = c.typed_value.new.scope in
+    let b = c.comma_typed.new.scope in
+    let n = c.comma_index.new.scope in
+    let later = c.in_ok-width.ensures.grows in
+    let one = c.in_ok-ty.vector in
+    let two = c.in_ok-element.value in
+    let vector : operand_seen n one ≡ operand_seen a one = ap (λ x. x.1) (c.in_ok-ty.ensures.stays n (widens_trans a b n c.in_ok-element.ensures.grows later)) in
+    let value : operand_seen n two ≡ operand_seen b two = ap (λ x. x.1) (c.in_ok-element.ensures.stays n later) in
+    let both = uses_behind c.args.scope.now a b (operand_seen a one ∷ []) (operand_seen b two ∷ []) c.in_ok-ty.ensures.uses c.in_ok-element.ensures.uses in
+    rw (c.applied.ensures, c.in_ok-args.ensures, vector, value)
+    (uses_behind c.args.scope.now b n (operand_seen a one ∷ operand_seen b two ∷ []) (operand_seen n c.in_ok-width.index ∷ []) both c.in_ok-width.ensures.uses)

@@ -1,4 +1,5 @@
 use Rattle.std.proofs.Common.{◌≡◌, length, sym, ◌∙◌}
+use Rattle.std.proofs.lemmas.List.{append-nil}
 use Rattle.ir_types.proofs.NameAt.{extends_refl}
 use Rattle.type_reader.specs.Tables.{TableLists}
 use Rattle.type_reader.proofs.Enlarged.{enlarged, enlarged_grows, with_entries, cut_back, nodes_kept}
@@ -44,3 +45,9 @@ returns-in-Err-clause-grows c =
     let types = cut_back c.len-count.result t.types c.read_type.new.types.items c.truncate.new.self.items count e.types_grow c.truncate.ensures.items in
     let extents = cut_back c.len-count.result t.extents c.read_type.new.extents.items c.truncate-in-Err.new.self.items (count ∙ sym c.self.invariant.extents_are.as_many) e.extents_grow c.truncate-in-Err.ensures.items in
     rw (types, extents, sym c.self.view_is) (enlarged_grows t c.read_type.new.names c.self.invariant e.looks_up t.types t.extents (extends_refl t.types))
+
+pub returns-in-Ok-clause-uses : goal.returns-in-Ok-clause-uses
+returns-in-Ok-clause-uses c =
+    let s = c.self.inside in
+    let t : TableLists = record { symbols = s.symbols; known = s.known; entries = s.names; types = s.types.items; extents = s.extents.items } in
+    rw (sym c.self.view_is) (record { entries = c.in-Ok.ensures.names; symbols = sym (append-nil t.symbols) })

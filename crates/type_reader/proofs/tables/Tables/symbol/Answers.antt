@@ -1,4 +1,4 @@
-use Rattle.std.proofs.Common.{◌≡◌, ℕ, Result, Ok, Err}
+use Rattle.std.proofs.Common.{◌≡◌, ℕ, Result, Ok, Err, sym}
 use Rattle.std.specs.Prelude.{IfOk}
 use Rattle.std.specs.declared.alloc.AllocError.{AllocError}
 use Rattle.ir_types.specs.declared.name.Name.{Name}
@@ -6,6 +6,7 @@ use Rattle.ir_types.specs.Names.{name_at}
 use Rattle.type_reader.specs.TypeTable.{IsPlaceOf}
 use Rattle.type_reader.specs.Tables.{TableLists, Grows}
 use Rattle.type_reader.proofs.Growth.{tables_with_symbol, symbol_stays}
+use Rattle.type_reader.proofs.Uses.{uses_symbol}
 use Rattle.type_reader.proofs.tables.Tables.symbol.Goals as goal
 
 pub invariant_of-self : goal.invariant_of-self
@@ -22,3 +23,8 @@ pub returns-clause-stays : goal.returns-clause-stays
 returns-clause-stays c =
     let s = c.self.inside in
     stays c.place_of.result c.args.name (record { symbols = c.place_of.new.self; known = s.known; entries = s.names; types = s.types.items; extents = s.extents.items }) c.place_of.ensures.place
+
+pub returns-clause-uses : goal.returns-clause-uses
+returns-clause-uses c =
+    let s = c.self.inside in
+    rw (sym c.self.view_is) (uses_symbol c.place_of.result (record { symbols = s.symbols; known = s.known; entries = s.names; types = s.types.items; extents = s.extents.items }) c.args.name c.place_of.new.self c.place_of.ensures.ok)
