@@ -9,7 +9,7 @@ use Rattle.ir_types.specs.declared.name.Name.{Name}
 use Rattle.ir_types.specs.declared.inst.Ty.{Ty}
 use Rattle.ir_types.specs.Sizes.{Layout, struct_layout}
 use Rattle.ir_types.specs.TypeNodes.{TypeNode, scalar, called, array, opening, closing}
-use Rattle.ir_types.specs.Offsets.{Laid, Cell, whole, end, up_to_end, layouts, struct_of, cell_before, cells_of, one_type, layout_by, member_at}
+use Rattle.ir_types.specs.Offsets.{Laid, Cell, whole, end, up_to_end, layouts, struct_of, cell_before, cells_of, one_type, layout_by}
 use Rattle.ir_sizes.specs.Definitions.{struct_nodes}
 
 -- the cell of a type before others

@@ -13,3 +13,8 @@ pub mod Paths
 pub mod Pushing
 pub mod Defining
 pub mod Staying
+pub mod Places
+pub mod Leading
+pub mod Beginning
+pub mod Ahead
+pub mod Keeping

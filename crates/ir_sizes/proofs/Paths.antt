@@ -66,3 +66,8 @@ module _ (defs : Definitions) (nodes : List TypeNode) (i : ℕ × ℕ) (more : L
   offset_found s k e f =
       ap (λ (o : Option ℕ). o >>= λ s. path_offset defs nodes more >>= λ k. Some ((scaled s i + k) % 2 ^ 64)) e
       ∙ ap (λ (o : Option ℕ). o >>= λ k. Some ((scaled s i + k) % 2 ^ 64)) f
+
+  pub offset_refused : (s : ℕ) → small_size defs nodes ≡ Some s → path_offset defs nodes more ≡ None → offset_of defs nodes (i ∷ more) ≡ None
+  offset_refused s e f =
+      ap (λ (o : Option ℕ). o >>= λ s. path_offset defs nodes more >>= λ k. Some ((scaled s i + k) % 2 ^ 64)) e
+      ∙ ap (λ (o : Option ℕ). o >>= λ k. Some ((scaled s i + k) % 2 ^ 64)) f

@@ -21,7 +21,7 @@ got_before [] ys i lt = absurd (omega arith)
 got_before (x ∷ xs) ys zero lt = refl
 got_before (x ∷ xs) ys (suc i) lt = got_before xs ys i (omega arith)
 
-got_last : {A : Type 0} (xs : List A) (x : A) (i : ℕ) → i ≡ length xs → slice_get (xs ++ x ∷ []) i ≡ Some x
+pub got_last : {A : Type 0} (xs : List A) (x : A) (i : ℕ) → i ≡ length xs → slice_get (xs ++ x ∷ []) i ≡ Some x
 got_last [] x i e = rw e refl
 got_last (y ∷ xs) x zero e = absurd (omega arith)
 got_last (y ∷ xs) x (suc i) e = got_last xs x i (omega arith)

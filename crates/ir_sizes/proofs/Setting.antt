@@ -39,7 +39,7 @@ module _ (types : List MemTy) (names : List TypeName) where
     ];
   }
 
-  laid_there : (id : TypeId) (t : MemTy) (l : Layout) → slice_get types id.0 ≡ Some t → IsLaid types names (at_place id) (l ∷ []) → HasLayout types names t l
+  pub laid_there : (id : TypeId) (t : MemTy) (l : Layout) → slice_get types id.0 ≡ Some t → IsLaid types names (at_place id) (l ∷ []) → HasLayout types names t l
   laid_there id t l e (place_laid id' u l' f h) = let same : u ≡ t = cc in subst (λ v. HasLayout types names v l) same h
 
   pub extent_from : (t : MemTy) (x : Extent) → IsRight types names t x → ((l : Layout) → HasLayout types names t l → IsSized x) → IsExtent types names t x

@@ -19,11 +19,11 @@ use Rattle.ir_sizes.proofs.PlaceNodes.{type_at}
 use Rattle.ir_sizes.proofs.Agreed.{later_type}
 use Rattle.ir_sizes.proofs.Pushing.{got_before}
 
-got_in_front : {A : Type 0} (xs ys : List A) (i : ℕ) (x : A) → slice_get xs i ≡ Some x → slice_get (xs ++ ys) i ≡ Some x
+pub got_in_front : {A : Type 0} (xs ys : List A) (i : ℕ) (x : A) → slice_get xs i ≡ Some x → slice_get (xs ++ ys) i ≡ Some x
 got_in_front xs ys i x e = got_before xs ys i (slice_get_within xs i x e) ∙ e
 
 -- what stands behind a list is one of those that were added
-got_behind : {A : Type 0} (P : A → Type 0) (xs ys : List A) (i : ℕ) (x : A) → length xs ≤ i → AllByRecursion P ys → slice_get (xs ++ ys) i ≡ Some x → P x
+pub got_behind : {A : Type 0} (P : A → Type 0) (xs ys : List A) (i : ℕ) (x : A) → length xs ≤ i → AllByRecursion P ys → slice_get (xs ++ ys) i ≡ Some x → P x
 got_behind P [] [] i x le h e = absurd cc
 got_behind P [] (y ∷ ys) zero x le h e = let same : y ≡ x = cc in subst P same h.0
 got_behind P [] (y ∷ ys) (suc i) x le h e = got_behind P [] ys i x (omega arith) h.1 e

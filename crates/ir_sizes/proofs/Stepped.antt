@@ -24,7 +24,7 @@ use Rattle.ir_sizes.specs.Put.{put_at, put}
 use Rattle.ir_sizes.specs.Definitions.{names_in, nodes_in, type_in, AreDefinitions}
 use Rattle.ir_sizes.specs.Stepping.{index_pair, small_extent, IsSteppable, BeginsAt, step_by, IsStep}
 use Rattle.ir_sizes.specs.declared.offsets.Index.{Index}
-use Rattle.ir_sizes.specs.declared.steps.Step.{Step}
+use Rattle.ir_sizes.specs.declared.step.Step.{Step}
 use Rattle.ir_sizes.proofs.Layouts.{IsAlign, laid_aligns, laid_once}
 use Rattle.ir_sizes.proofs.Capping.{aligned_least}
 use Rattle.ir_sizes.proofs.Setting.{extents_right, extents_sized}

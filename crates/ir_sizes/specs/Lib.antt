@@ -3,3 +3,4 @@ pub mod Put
 pub mod Small
 pub mod Definitions
 pub mod Stepping
+pub mod Prepared

@@ -12,7 +12,7 @@ use Rattle.ir_types.specs.Sizes.{Layout, IsLaid, at_place, aligned, SIZE_CAP}
 use Rattle.ir_types.specs.TypeNodes.{TypeNode}
 use Rattle.ir_types.specs.Offsets.{Definitions, unnamed, stepped_into}
 use Rattle.ir_sizes.specs.declared.offsets.Index.{Index}
-use Rattle.ir_sizes.specs.declared.steps.Step.{Step}
+use Rattle.ir_sizes.specs.declared.step.Step.{Step}
 use Rattle.ir_sizes.specs.Known.{extent_at}
 use Rattle.ir_sizes.specs.Put.{put_at, EndAt}
 use Rattle.ir_sizes.specs.Definitions.{nodes_in}

@@ -3,7 +3,7 @@ ghost use Rattle.ir_types.specs.declared.memory_type.MemTy.TheVariants.{Struct};
 ghost use Rattle.ir_types.specs.Types.{AreTypes};
 ghost use Rattle.ir_sizes.specs.Definitions.{names_in};
 
-use crate::{Index, extents_of, offset, size_of};
+use crate::{Index, extents_of, offset, size_of, steps_of};
 use ir_types::{Extent, MemTy, Module, Name, NamedType, Ty, TypeId, TypeName};
 use lists::{Items, Text};
 use std::alloc::{AllocError, Global};
@@ -149,9 +149,15 @@ fn indexes_lead_into_types(rt: HostRuntime) -> Result<(), Fail> {
     let alloc = rt.alloc();
     let s = lists(alloc)?;
     let extents = extents_of(alloc, s.types.as_slice(), s.names.as_slice())?;
+    let steps = steps_of(
+        alloc,
+        s.types.as_slice(),
+        s.names.as_slice(),
+        extents.as_slice(),
+    )?;
     let two_deep = [index(64, 1), index(64, 1), index(32, 2), index(64, 2)];
     assert_eq!(rt;
-        offset(&s.types, &s.names, extents.as_slice(), TypeId(6), &two_deep),
+        offset(&s.types, &steps, extents.as_slice(), TypeId(6), &two_deep),
         Some(76)
     );
     Ok(())

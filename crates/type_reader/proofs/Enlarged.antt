@@ -17,7 +17,9 @@ use Rattle.ir_types.specs.Sizes.{AreExtents}
 use Rattle.ir_types.proofs.NameAt.{extends_refl}
 use Rattle.ir_sizes.specs.Definitions.{IsMissing}
 use Rattle.ir_sizes.specs.Known.{IsDefined, AreFirstExtents}
+use Rattle.ir_sizes.specs.Prepared.{StepLists, AreFirstSteps, AreSteps}
 use Rattle.ir_sizes.proofs.Staying.{extents_first}
+use Rattle.ir_sizes.proofs.Keeping.{steps_first}
 use Rattle.type_reader.specs.TypeTable.{names_of, missing_entry, LooksUpSome}
 use Rattle.type_reader.specs.Tables.{TableLists, nodes_there, definition_over, Grows, IsDefinedBefore, AreTables}
 use Rattle.type_reader.proofs.Growth.{entries_looked, definitions_stay, extends_length}
@@ -64,6 +66,23 @@ extents_with_names : (types : List MemTy) (entries new : List TypeName) (extents
 extents_with_names types entries new extents are defined h l =
     let f = subst (λ (ts : List MemTy). AreFirstExtents ts new extents) (append-nil types) (first_extents types [] entries new extents are defined h l) in
     record { as_many = h.as_many; each = f.each }
+
+-- ---- steps
+
+-- what is prepared of the types before
+pub first_steps : (types more : List MemTy) (entries new : List TypeName) (extents grown : List Extent) (steps : StepLists) → AreTypes (names_of entries) 0 types → AllByRecursion (IsDefinedBefore (length types)) entries → AreExtents types entries extents → Extends extents grown → LooksUpSome entries new
+    → AreSteps types entries extents steps → AreFirstSteps (types ++ more) new grown steps
+first_steps types more entries new extents grown steps are defined h x l s =
+    let ns = unknown (names_of entries) l.used in
+    subst (λ (e : List TypeName). AreFirstSteps (types ++ more) e grown steps) (sym l.parts)
+    (steps_first types more entries (map missing_entry ns) extents grown steps are (λ k id d. bound_at (length types) k entries id defined d) h.as_many x (are_missing ns) s)
+
+pub steps_with_names : (types : List MemTy) (entries new : List TypeName) (extents : List Extent) (steps : StepLists) → AreTypes (names_of entries) 0 types → AllByRecursion (IsDefinedBefore (length types)) entries → AreExtents types entries extents → LooksUpSome entries new → AreSteps types entries extents steps
+    → AreSteps types new extents steps
+steps_with_names types entries new extents steps are defined h l s = record {
+  first = subst (λ (ts : List MemTy). AreFirstSteps ts new extents steps) (append-nil types) (first_steps types [] entries new extents extents steps are defined h (extends_refl extents) l s);
+  as_many = s.as_many;
+}
 
 -- ---- tables
 

@@ -1,6 +1,6 @@
 // What a module has for its functions, while these are read.
 
-ghost use Rattle.std.specs.Prelude.{◌≡◌, ◌<◌, ◌∷◌, [], ℕ, List, length, map, All, IfOk, OnOk};
+ghost use Rattle.std.specs.Prelude.{◌≡◌, ◌<◌, ◌∷◌, [], ℕ, List, length, map, All, IfOk, OnOk, OnErr};
 ghost use Rattle.std.specs.List.{AllByRecursion};
 ghost use Rattle.forms.specs.Gives.{Gives, left};
 ghost use Rattle.forms.specs.Reading.{read};
@@ -13,6 +13,7 @@ ghost use Rattle.ir_types.specs.Sizes.{AreExtents};
 ghost use Rattle.ir_types.specs.Grammar.{inst_memory};
 ghost use Rattle.ir_types.specs.Offsets.{offset_of};
 ghost use Rattle.ir_sizes.specs.Stepping.{index_pair, IsIndex};
+ghost use Rattle.ir_sizes.specs.Prepared.{AreSteps};
 ghost use Rattle.type_reader.specs.TypeTable.{names_of, LooksUpSome, LooksUpAll};
 ghost use Rattle.type_reader.specs.Tables.{TableLists, nodes_there, definitions_of, Grows, IsDefinedBefore, AreEntriesApart, AreTables};
 ghost use Rattle.type_reader.specs.Uses.{Uses};
@@ -21,7 +22,7 @@ use crate::memory::memory_type;
 use crate::symbol_names::SymbolNames;
 use crate::type_names::TypeNames;
 use forms::{Cursor, SyntaxFault};
-use ir_sizes::{Index, extents_behind, extents_of, offset};
+use ir_sizes::{Index, Steps, extents_behind, extents_of, offset, steps_behind, steps_of};
 use ir_types::{Extent, MemTy, Name, TypeId, TypeName};
 use lists::Items;
 use std::alloc::{AllocError, Global};
@@ -32,43 +33,50 @@ use std::marker::Model;
 pub struct Tables {
     types: Vec<MemTy>,
     extents: Vec<Extent>,
+    steps: Steps,
     names: TypeNames,
     symbols: SymbolNames,
     known: usize,
 }
 
 impl Model for Tables {
+    ghost use Rattle.ir_sizes.specs.Prepared.{AreSteps};
     ghost use Rattle.type_reader.specs.Tables.{TableLists, AreTables};
 
     ghost Value = { TableLists };
 
     ghost view = { λ s. record { symbols = s.symbols; known = s.known; entries = s.names; types = s.types.items; extents = s.extents.items } };
 
-    ghost invariant = { λ s. AreTables (record { symbols = s.symbols; known = s.known; entries = s.names; types = s.types.items; extents = s.extents.items }) };
+    ghost invariant = { λ s. AreTables (record { symbols = s.symbols; known = s.known; entries = s.names; types = s.types.items; extents = s.extents.items }) × AreSteps s.types.items s.names s.extents.items s.steps };
 }
 
-/// A memory type, which is added at the end of the list of types behind its parts, with the extents of all.
+/// A memory type, which is added at the end of the list of types behind its parts, with the extents of all and what steps into them need.
 fn read_type<'t>(
     alloc: Global,
     tokens: Cursor<'t>,
     types: &mut Vec<MemTy>,
     names: &mut TypeNames,
     extents: &mut Vec<Extent>,
+    steps: &mut Steps,
 ) -> Result<(TypeId, Cursor<'t>), SyntaxFault>
     requires are { AreTypes (names_of names.old) 0 types.old.items }
     requires defined { AllByRecursion (IsDefinedBefore (length types.old.items)) names.old }
     requires extents { AreExtents types.old.items names.old extents.old.items }
+    requires steps { AreSteps types.old.items names.old extents.old.items steps.old }
     ensures types_grow { Extends types.old.items types.new.items }
     ensures extents_grow { Extends extents.old.items extents.new.items }
     ensures looks_up { LooksUpSome names.old names.new }
     ensures are { OnOk result (AreTypes (names_of names.new) 0 types.new.items) }
     ensures extents_are { OnOk result (AreExtents types.new.items names.new extents.new.items) }
+    ensures steps_are { OnOk result (AreSteps types.new.items names.new extents.new.items steps.new) }
+    ensures steps_stay { OnErr result (steps.new ≡ steps.old) }
     ensures reads { Gives (λ x. (type_nodes (names_of names.new) types.new.items x.0, left x.1)) result (read inst_memory (left tokens.entry)) }
     ensures within { IfOk result (λ x. x.0.0 < length types.new.items) }
     ensures names { IfOk result (λ x. LooksUpAll names.old (type_nodes (names_of names.new) types.new.items x.0) names.new) }
 {
     let (id, rest) = memory_type(alloc, tokens, types, names)?;
     extents_behind(types.as_slice(), names.as_slice(), extents)?;
+    steps_behind(types.as_slice(), extents.as_slice(), steps)?;
     Ok((id, rest))
 }
 
@@ -104,10 +112,17 @@ impl Tables {
         ensures types { IfOk result (λ t. t.types ≡ types.items) }
     {
         let extents = extents_of(alloc, types.as_slice(), names.as_slice())?.into_vec();
+        let steps = steps_of(
+            alloc,
+            types.as_slice(),
+            names.as_slice(),
+            extents.as_slice(),
+        )?;
         let known = symbols.len();
         Ok(Tables {
             types,
             extents,
+            steps,
             names,
             symbols,
             known,
@@ -150,6 +165,7 @@ impl Tables {
             &mut self.types,
             &mut self.names,
             &mut self.extents,
+            &mut self.steps,
         ) {
             Ok(found) => Ok(found),
             Err(fault) => {
@@ -168,7 +184,7 @@ impl Tables {
     {
         offset(
             self.types.as_slice(),
-            self.names.as_slice(),
+            &self.steps,
             self.extents.as_slice(),
             id,
             indexes,
@@ -187,6 +203,7 @@ impl Tables {
         let Tables {
             types,
             extents,
+            steps: _,
             names,
             symbols,
             known,

@@ -1,4 +1,4 @@
-use Rattle.std.proofs.Common.{◌≡◌, List, length, Result, Err, ◌∙◌, arith}
+use Rattle.std.proofs.Common.{◌≡◌, List, length, Result, Err, sym, subst, ◌∙◌, arith}
 use Rattle.std.proofs.lemmas.Result.{err_from_is_err_and}
 use Rattle.forms.specs.declared.cursor.Cursor.{Cursor}
 use Rattle.forms.specs.declared.cursor.SyntaxFault.{SyntaxFault}
@@ -10,7 +10,9 @@ use Rattle.ir_types.specs.TypeNodes.{TypeNode, type_nodes}
 use Rattle.ir_types.specs.Grammar.{memory_type, inst_memory}
 use Rattle.ir_types.proofs.InstMemory.{inst_memory_reads}
 use Rattle.type_reader.specs.TypeTable.{names_of}
-use Rattle.type_reader.proofs.Enlarged.{first_extents}
+use Rattle.ir_sizes.specs.Prepared.{AreFirstSteps}
+use Rattle.ir_sizes.proofs.Setting.{right_small, extents_right}
+use Rattle.type_reader.proofs.Enlarged.{first_extents, first_steps}
 use Rattle.type_reader.proofs.Same.{gives_failed}
 use Rattle.type_reader.proofs.tables.read_type.Goals as goal
 
@@ -42,3 +44,21 @@ pub returns-clause-reads : goal.returns-clause-reads
 returns-clause-reads c =
     let ts = left c.args.tokens in
     as_any ts ∙ c.in_ok-id.ensures.reads (length ts) (omega arith)
+
+pub steps_behind-requires : goal.steps_behind-requires
+steps_behind-requires c =
+    let are = c.in_ok-extents_behind.ensures.are in
+    record { small = rw c.as_slice-4.ensures.value (right_small _ _ c.extents_behind.new.extents.items (extents_right c.as_slice.result.now c.as_slice-2.result.now c.extents_behind.new.extents.items are).each) }
+
+pub returns-clause-steps_are : goal.returns-clause-steps_are
+returns-clause-steps_are c =
+    let r = c.requires in
+    let e = c.in_ok-id.ensures in
+    let types = c.args.types.now.items in
+    let names = c.memory_type.new.names in
+    let extents = c.extents_behind.new.extents.items in
+    let are = rw (c.as_slice.ensures.value, c.as_slice-2.ensures) at c.in_ok-extents_behind.ensures.are in
+    let first = first_steps types e.types_grow.more c.args.names.now names c.args.extents.now.items extents c.args.steps.now r.are r.defined r.extents c.in_ok-extents_behind.ensures.grows e.looks_up r.steps in
+    let later = subst (λ ts. AreFirstSteps ts names extents c.args.steps.now) (sym e.types_grow.parts) first in
+    let steps = rw (c.as_slice-3.ensures.value, c.as_slice-4.ensures.value) at c.in_ok-steps_behind.ensures.are in
+    steps names are later

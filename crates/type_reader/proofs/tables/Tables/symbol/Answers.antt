@@ -13,7 +13,7 @@ pub invariant_of-self : goal.invariant_of-self
 invariant_of-self c =
     let s = c.self.inside in
     let t : TableLists = record { symbols = s.symbols; known = s.known; entries = s.names; types = s.types.items; extents = s.extents.items } in
-    tables_with_symbol c.place_of.result t c.args.name c.place_of.new.self c.place_of.ensures.ok c.place_of.ensures.err c.self.invariant
+    (tables_with_symbol c.place_of.result t c.args.name c.place_of.new.self c.place_of.ensures.ok c.place_of.ensures.err c.self.invariant.0, c.self.invariant.1)
 
 stays : (r : Result ℕ AllocError) (name : Name) (t : TableLists) → IfOk r (IsPlaceOf t.symbols name) → IfOk r (λ id. (later : TableLists) → Grows t later → name_at later.symbols id ≡ name_at t.symbols id)
 stays (Ok id) name t p = λ later g. symbol_stays t.symbols later.symbols id p.0.within g.symbols
