@@ -1,0 +1,8 @@
+/* Memory that others look at. */
+volatile int status;
+
+int wait(void) {
+    while (!status) {
+    }
+    return status;
+}
