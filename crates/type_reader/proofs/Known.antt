@@ -1,6 +1,6 @@
 -- A constant that steps through a type uses no name of a type that isn't defined.
-use Rattle.std.proofs.Common.{◌≡◌, ℕ, zero, suc, Bool, true, false, List, [], ◌∷◌, length, Option, Some, refl, subst}
-use Rattle.std.specs.Prelude.{Contains}
+use Rattle.std.proofs.Common.{◌≡◌, ◌≢◌, ℕ, zero, suc, Bool, true, false, List, [], ◌∷◌, map, length, Option, Some, None, refl, sym, ap, ◌∙◌, subst}
+use Rattle.std.specs.Prelude.{slice_get, Contains}
 use Rattle.std.specs.List.{filter_map}
 use Rattle.forms.specs.Bind.{◌>>=◌}
 use Rattle.forms.proofs.Parts.{bind_some}
@@ -10,7 +10,8 @@ use Rattle.ir_types.specs.declared.memory_type.MemTy.{MemTy}
 use Rattle.ir_types.specs.Names.{has_name, unknown}
 use Rattle.ir_types.specs.Sizes.{Layout}
 use Rattle.ir_types.specs.TypeNodes.{TypeNode, scalar, called, array, opening, closing, names_used}
-use Rattle.ir_types.specs.Offsets.{nodes_of_name, Cell, cell_before, cells_of, one_type, layout_by, layout_within, layout_of_name, layout_of, small_size, offset_of}
+use Rattle.ir_types.specs.Offsets.{Definitions, nodes_of_name, Cell, cell_before, cells_of, one_type, layout_by, layout_within, layout_of_name, layout_of, small_size, path_offset, scaled, offset_of}
+use Rattle.ir_types.specs.Sizes.{SIZE_CAP}
 use Rattle.type_reader.specs.TypeTable.{names_of}
 use Rattle.type_reader.specs.Tables.{TableLists, definition_over, definitions_of}
 use Rattle.type_reader.proofs.Growth.{contains_got, got_name, none_of}

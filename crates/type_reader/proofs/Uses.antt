@@ -5,9 +5,12 @@ use Rattle.std.specs.declared.alloc.AllocError.{AllocError}
 use Rattle.std.proofs.lemmas.List.{append-nil}
 use Rattle.std.proofs.lemmas.List.Elements.{filter_map-append}
 use Rattle.ir_types.specs.declared.name.Name.{Name}
+use Rattle.ir_types.specs.declared.memory_type.TypeName.{TypeName}
 use Rattle.ir_types.specs.Names.{Adds, unknown}
+use Rattle.ir_types.specs.TypeNodes.{TypeNode, names_used}
 use Rattle.ir_types.specs.Tree.{OperandTree, global}
 use Rattle.ir_types.specs.Used.{symbol_at, symbols_of, with_unknown}
+use Rattle.type_reader.specs.TypeTable.{LooksUpAll}
 use Rattle.type_reader.specs.Tables.{TableLists}
 use Rattle.type_reader.specs.Uses.{Uses}
 use Rattle.type_reader.proofs.LookUps.{unknown_append, looked_up, has_this, has_none}
