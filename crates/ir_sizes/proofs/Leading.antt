@@ -1,12 +1,11 @@
 -- Where types lead through names.
-use Rattle.std.proofs.Common.{◌≡◌, ℕ, suc, ◌+◌, ◌<◌, List, [], ◌∷◌, ◌++◌, map, length, set, length-set, get_or-set_same, get_or-set_other, Option, Some, None, refl, sym, ap, ◌∙◌, subst, inl, inr, arith}
-use Rattle.std.specs.Prelude.{slice_get, IsSome}
+use Rattle.std.proofs.Common.{◌≡◌, ℕ, suc, ◌+◌, ◌<◌, List, [], ◌∷◌, ◌++◌, map, length, set, length-set, get_or-set_same, get_or-set_other, Option, Some, None, sym, ap, ◌∙◌, subst, inl, inr, arith}
+use Rattle.std.specs.Prelude.{slice_get}
 use Rattle.std.proofs.lemmas.Bool.{cases_eq}
 use Rattle.std.proofs.lemmas.List.{append-nil}
 use Rattle.ir_types.specs.declared.memory_type.TypeId.{TypeId}
 use Rattle.ir_types.specs.declared.memory_type.MemTy.{MemTy}
 use Rattle.ir_types.specs.declared.memory_type.MemTy.TheVariants.{Named}
-use Rattle.ir_types.specs.declared.memory_type.NamedType.TheVariants.{Defined}
 use Rattle.ir_types.specs.declared.memory_type.TypeName.{TypeName}
 use Rattle.ir_types.specs.Types.{AreTypes}
 use Rattle.ir_types.specs.Sizes.{Layout, IsLaid, at_place}
@@ -26,14 +25,6 @@ pub some_nodes : {o : Option (List TypeNode)} → o ≡ None → (u : List TypeN
 some_nodes none some = let e = some.1 in cc
 
 module _ (types : List MemTy) (names : List TypeName) where
-  one_definition : (k : ℕ) (id next : TypeId) → IsDefined names k id → IsDefined names k next → id ≡ next
-  one_definition k id next d e =
-      let f = d.1 in
-      let g = e.1 in
-      let same : ◌≡◌ {A = TypeName} (record { name = d.0; ty = Defined id }) (record { name = e.0; ty = Defined next }) = cc in
-      let ty : Defined id ≡ Defined next = ap (λ (n : TypeName). n.ty) same in
-      cc
-
   -- a type that begins with a name leads where that leads
   pub leads_next : {id last : TypeId} → LeadsTo types names id last → (k : ℕ) → slice_get types id.0 ≡ Some (Named k) → IsEndOf types names k last
   leads_next (no_name id t e h) k f = let same : t ≡ Named k = cc in absurd (subst IsUnnamed same h)
@@ -43,9 +34,6 @@ module _ (types : List MemTy) (names : List TypeName) where
 
   pub leads_from : (id : TypeId) (k : ℕ) (last : TypeId) → slice_get types id.0 ≡ Some (Named k) → IsEndOf types names k last → LeadsTo types names id last
   leads_from id k last e h = by_name id k h.id last e h.defined h.leads
-
-  pub end_leads : (k : ℕ) (next last : TypeId) → IsEndOf types names k last → IsDefined names k next → LeadsTo types names next last
-  end_leads k next last h d = subst (λ (i : TypeId). LeadsTo types names i last) (one_definition k h.id next h.defined d) h.leads
 
   -- it leads to a type that is no name
   pub leads_within : {id last : TypeId} → LeadsTo types names id last → (t : MemTy) × (slice_get types last.0 ≡ Some t) × IsUnnamed t
@@ -71,12 +59,6 @@ module _ (types : List MemTy) (names : List TypeName) where
       | inr other ↦ are.each j to (sym (get_or-set_other ends k j (Some last) None other) ∙ e)
     ];
   }
-
-  pub ends_stay : (ends : List (Option TypeId)) (k : ℕ) (last : TypeId) → k < length ends → (j : ℕ) → IsSome (end_at ends j) → IsSome (end_at (set ends k (Some last)) j)
-  ends_stay ends k last within j some = elim (cases_eq j k) [
-    | inl same ↦ let here : end_at (set ends k (Some last)) j ≡ Some last = rw same (get_or-set_same ends k (Some last) None within) in subst IsSome (sym here) refl
-    | inr other ↦ subst IsSome (sym (get_or-set_other ends k j (Some last) None other)) some
-  ]
 
   -- ---- nodes
 

@@ -194,13 +194,6 @@ module _ (types : List MemTy) (names : List TypeName) (extents : List Extent) (d
       let there = unnamed_there defs (length defs) (nodes id) laid.layout laid.is in
       there.1 ∙ sym (unnamed_more defs (length defs) (length names) (nodes id) there.0 agree.as_many there.1)
 
-  pub unnamed_leads : (id : TypeId) → IsSteppable (extent_at extents id.0) → unnamed (length names) defs (nodes id) ≡ None → ⊥
-  unnamed_leads id h e =
-      let laid = small_laid id h in
-      let there = unnamed_there defs (length defs) (nodes id) laid.layout laid.is in
-      let none = unnamed_agrees id h ∙ e in
-      absurd (cc (there.1, none))
-
   behind_small : (id : TypeId) (u : List TypeNode) → IsSteppable (extent_at extents id.0) → unnamed (length names) defs (nodes id) ≡ Some u → IsSmallLaid u
   behind_small id u h e =
       let laid = small_laid id h in

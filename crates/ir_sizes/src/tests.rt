@@ -1,9 +1,9 @@
-ghost use Rattle.std.specs.Prelude.{◌≡◌, IfOk};
+ghost use Rattle.std.specs.Prelude.{◌≡◌, [], IfOk};
 ghost use Rattle.ir_types.specs.declared.memory_type.MemTy.TheVariants.{Struct};
 ghost use Rattle.ir_types.specs.Types.{AreTypes};
 ghost use Rattle.ir_sizes.specs.Definitions.{names_in};
 
-use crate::{Index, extents_of, offset, size_of, steps_of};
+use crate::{Index, extents_of, offset, size_of, steps_behind, steps_of};
 use ir_types::{Extent, MemTy, Module, Name, NamedType, Ty, TypeId, TypeName};
 use lists::{Items, Text};
 use std::alloc::{AllocError, Global};
@@ -159,6 +159,29 @@ fn indexes_lead_into_types(rt: HostRuntime) -> Result<(), Fail> {
     assert_eq!(rt;
         offset(&s.types, &steps, extents.as_slice(), TypeId(6), &two_deep),
         Some(76)
+    );
+    Ok(())
+}
+
+fn scalars(alloc: Global) -> Result<Vec<MemTy>, AllocError>
+    ensures { IfOk result (λ types. AreTypes [] 0 types.items) }
+{
+    Ok(vec![in alloc; MemTy::One(Ty::Int(8)), MemTy::One(Ty::Int(32))]?)
+}
+
+#[test]
+fn indexes_lead_into_types_that_are_added(rt: HostRuntime) -> Result<(), Fail> {
+    let alloc = rt.alloc();
+    let first = scalars(alloc)?;
+    let extents = extents_of(alloc, first.as_slice(), &[])?;
+    let mut steps = steps_of(alloc, first.as_slice(), &[], extents.as_slice())?;
+    let s = lists(alloc)?;
+    let extents = extents_of(alloc, s.types.as_slice(), s.names.as_slice())?;
+    steps_behind(s.types.as_slice(), extents.as_slice(), &mut steps)?;
+    let indexes = [index(64, 1), index(32, 2), index(64, 2)];
+    assert_eq!(rt;
+        offset(&s.types, &steps, extents.as_slice(), TypeId(3), &indexes),
+        Some(36)
     );
     Ok(())
 }
