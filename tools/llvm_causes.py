@@ -4,20 +4,18 @@ import re
 
 UNEXPLAINED = "unexplained"
 NAME = rb"[-a-zA-Z$._][-a-zA-Z$._0-9]*"
-TOKENS = tuple(
-    re.compile(form)
-    for form in (
-        rb"(?:" + NAME + rb"|[0-9]+|\"[^\"]*\"):",
-        rb"[%@](?:" + NAME + rb"|[0-9]+|\"[^\"]*\")",
-        rb"\$(?:" + NAME + rb"|\"[^\"]*\")",
-        rb"[a-zA-Z_][a-zA-Z0-9_.]*",
-        rb"-?[0-9]+(?:\.[0-9]+(?:[eE][-+]?[0-9]+)?)?",
-        rb"0x[0-9a-fA-F]+",
-        rb"c?\"[^\"]*\"",
-        rb"[!#](?:" + NAME + rb"|[0-9]+)",
-        rb"\.\.\.",
-        rb"[=,()\[\]{}<>*!:|]",
-    )
+# A token, of those that may begin at one place the longest.
+TOKEN = re.compile(
+    rb"(?:" + NAME + rb"|[0-9]+|\"[^\"]*\"):"
+    rb"|[%@](?:" + NAME + rb"|[0-9]+|\"[^\"]*\")"
+    rb"|\$(?:" + NAME + rb"|\"[^\"]*\")"
+    rb"|c?\"[^\"]*\""
+    rb"|[a-zA-Z_][a-zA-Z0-9_.]*"
+    rb"|0x[0-9a-fA-F]+"
+    rb"|-?[0-9]+(?:\.[0-9]+(?:[eE][-+]?[0-9]+)?)?"
+    rb"|[!#](?:" + NAME + rb"|[0-9]+)"
+    rb"|\.\.\."
+    rb"|[=,()\[\]{}<>*!:|]"
 )
 SPACE = re.compile(rb"(?:[ \t\n\r]|;[^\n\r]*)*")
 FUNCTION = re.compile(rb"^define .*?^}", re.MULTILINE | re.DOTALL)
@@ -28,11 +26,11 @@ def lexed(text):
     """The places of a text's tokens, each with its end, up to the first place where none begins, and that place, or the text's length."""
     spans, place = [], SPACE.match(text).end()
     while place < len(text):
-        end = max((found.end() for found in (form.match(text, place) for form in TOKENS) if found), default=place)
-        if end == place:
+        token = TOKEN.match(text, place)
+        if token is None:
             break
-        spans.append((place, end))
-        place = SPACE.match(text, end).end()
+        spans.append(token.span())
+        place = SPACE.match(text, token.end()).end()
     return tuple(spans), place
 
 
@@ -106,13 +104,21 @@ CHECKED = re.compile(
     r"cannot have a name|power of two|huge alignment|requires integer operands|invalid (?:shufflevector|extractelement|insertelement) operands|must be (?:i1|first class)|vector select|"
     r"select (?:condition|values)|unsized types|operand must be|first class type|type sizes|is not an integer|element type|number of elements|base of getelementptr|unable to create block"
 )
+# What it says of the names of items, and of the types of variables.
+DEFINED = re.compile(r"redefinition of|expected to be numbered|use of undefined type")
 VERIFIED = (
-    ("checker", r"dominate all uses|must not have predecessors|PHI ?[nN]ode|phi|PHINode|Both operands|same type|return type does not match|Call parameter type|Incorrect number of arguments"
-        r"|may reference their own value|[iI]nvalid .* operands|only operate|must have same|Duplicate|only produces|Illegal .* type|types? must|should have one entry"),
+    (
+        "checker",
+        r"dominate all uses|must not have predecessors|PHI ?[nN]ode|PHI nodes|Both operands|same type|return type does not match|Call parameter type|Incorrect number of arguments|"
+        r"may reference their own value|[iI]nvalid .* operands|only operate|must have same|Duplicate|only produces|Illegal .* type|types? must|should have one entry|GEP",
+    ),
     ("intrinsics", r"[Ii]ntrinsic|immarg"),
     ("musttail", r"musttail|guarantee tail call"),
-    ("kept", r"[Aa]ttribute|[Mm]etadata|module flag|Access|TBAA|tbaa|[Rr]ange|prof|[Cc]omdat|[Ll]inkage|linkage|visibility|dso_local|dereferenceable|nonnull|alignment|Alignment|calling conv|!|Wrong number|dllimport"
-        r"|Initializer|initializer|appending"),
+    (
+        "kept",
+        r"[Aa]ttribute|[Mm]etadata|module flag|TBAA|Access|access|[Ss]truct (?:type|tag)|[Bb]ase node|field entry|bit-?width|![a-z]|[Rr]ange|Wrong number|[Cc]omdat|[Ll]inkage|visibility|dso_local|"
+        r"dereferenceable|nonnull|[Aa]lignment|[Cc]alling conv|[Ii]nitializer|dllimport|dllexport",
+    ),
 )
 HEAD = re.compile(rb"source_filename|target")
 
@@ -151,11 +157,11 @@ def of_llvm(text, message):
     said = message.split("error: ", 1)[1].split("\n", 1)[0]
     if "top-level entity" in said and HEAD.match(text, place):
         return "order"
-    if b"\\00" in text[place : lexed_end(text, place)]:
+    if text[place : place + 1] in (b"%", b"@", b"$", b'"') and b"\\00" in text[place : lexed_end(text, place)]:
         return "names"
-    item = text[text.rfind(b"\n", 0, place) + 1 :][:1]
-    if item in b"@!$a" and not in_function(text, place):
-        return "kept"
+    line = text.rfind(b"\n", 0, place) + 1
+    if not in_function(text, line) and text[line : line + 1] in b"@!$a":
+        return "checker" if DEFINED.search(said) else "kept"
     if CHECKED.search(said):
         return "checker"
     return "kept" if is_kept(text, place) else UNEXPLAINED
