@@ -2,6 +2,8 @@
 
 use crate::{declared, defined};
 use forms::{Cursor, SyntaxFault, Token, TokenKind};
+use ir_reader_ops::{Scope, read_inst};
+use ir_types::Names;
 use lists::Texts;
 use std::alloc::{AllocError, Global};
 use type_reader::{SymbolNames, Tables, TypeNames};
@@ -157,5 +159,47 @@ fn refuses(rt: HostRuntime) -> Result<(), AllocError> {
             matches!(counted(rt.alloc(), text), Err(SyntaxFault::NoReading(at)) if at == place)
         );
     }
+    Ok(())
+}
+
+const STORED: &[u8] = b"store ptr @w , ptr %p , align 4 ret ";
+
+/// Nothing, for instructions to add to.
+fn no_scope(alloc: Global) -> Result<Scope, AllocError> {
+    Ok(Scope {
+        names: Names::new(alloc),
+        tables: no_tables(alloc)?,
+    })
+}
+
+#[test]
+fn reads_one_instruction(rt: HostRuntime) -> Result<(), SyntaxFault> {
+    let tokens = parted(rt.alloc(), STORED)?;
+    let cursor = Cursor {
+        text: STORED,
+        rest: tokens.as_slice(),
+    };
+    let mut scope = no_scope(rt.alloc())?;
+    let (inst, rest) = read_inst(rt.alloc(), cursor, &mut scope)?;
+    assert_eq!(rt; rest.rest.len(), 1);
+    assert_eq!(rt; inst.args.len(), 2);
+    assert_eq!(rt; scope.names.len(), 1);
+    assert_eq!(rt; scope.tables.into_parts().symbols.len(), 1);
+    Ok(())
+}
+
+const STOPPED: &[u8] = b"store ptr @w , ptr %p , align x ";
+
+#[test]
+fn keeps_the_lists_where_no_instruction_stands(rt: HostRuntime) -> Result<(), AllocError> {
+    let tokens = parted(rt.alloc(), STOPPED)?;
+    let cursor = Cursor {
+        text: STOPPED,
+        rest: tokens.as_slice(),
+    };
+    let mut scope = no_scope(rt.alloc())?;
+    let read = read_inst(rt.alloc(), cursor, &mut scope);
+    assert!(rt; matches!(read, Err(SyntaxFault::NoReading(30))));
+    assert_eq!(rt; scope.names.len(), 1);
     Ok(())
 }
