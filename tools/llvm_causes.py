@@ -64,6 +64,7 @@ REFUSED = tuple(
         ("dots", rb"define [^\n]*\([^\n]*", rb"\.\.\."),
         ("indexes", rb"getelementptr [^\n]*, *ptr +[^\n,]+,?\s*", rb"\S"),
         ("indexes", rb"getelementptr [^\n]*, *", rb"< *\d"),
+        ("flags", rb"getelementptr [^\n]*\b(?:inbounds|nuw|nusw) +", rb"(?:inbounds|nuw|nusw)\b"),
         ("phis", rb"\bphi +" + TYPE + rb"\s*", rb"[^\[\s]"),
         ("numbers", rb"", rb"[%@]?\"?\d{10,}"),
         ("use lists", rb"", rb"uselistorder"),
