@@ -21,8 +21,8 @@ use Rattle.ir_types.specs.declared.inst.BinOp.TheVariants.{Add, Sub, Mul, Shl, U
 use Rattle.ir_types.specs.Written.{number_of, number_at, unescaped, name_behind, name_before}
 use Rattle.ir_types.specs.Offsets.{Definitions, definitions_in}
 use Rattle.ir_types.specs.TypeNodes.{scalar, called, array, opening, closing}
-use Rattle.ir_types.specs.Tree.{KeptTexts, OperandTree, local, number, null, poison, lanes, global, InstTree, BlockTree, FunctionTree, WrittenFunction, TypeNameTree, defined, opaque, ModuleTree, Item, comdat_line, variable_item, function_item, metadata_line}
-use Rattle.ir_types.specs.Grammar.{local_name, global_name, label, width, vector_type, value_type, return_type, three_flags, inst_memory, lane, constant_word, typed_lane, constant_offset, value, typed_value, typed_pair, pointer_value, index_value, target, alignment, overflowing, possibly_exact, plain_binary, or_operation, predicates, compared, compare, select, freeze, trunc, zext, sext, ptrtoint, entry_of_phi, phi, getelementptr, load, store, argument, signature, call, extractelement, insertelement, shufflevector, branch, case_of_switch, switch, ret, inst_attachments, bare_inst, named_by, with_kept, no_flags, wrap_flags, exact_flag, disjoint_flag, operation_words, operation, terminator_words, terminator, block, type_words, value_words, item_words, instruction_words, excluded_words, kept, memory_leaf, array_begin, type_parts, parameter, dotted_parameters, declared_function, defined_function, target_line, attribute_group, comdat, metadata, type_definition, initialiser_stops, extra_behind, behind_type, variable_word, variable_definition, item, module_form}
+use Rattle.ir_types.specs.Tree.{KeptTexts, OperandTree, local, number, null, poison, lanes, global, out_of_range, InstTree, BlockTree, FunctionTree, WrittenFunction, TypeNameTree, defined, opaque, ModuleTree, Item, comdat_line, variable_item, function_item, metadata_line}
+use Rattle.ir_types.specs.Grammar.{if_wide, local_name, global_name, label, width, vector_type, value_type, return_type, three_flags, inst_memory, lane, constant_word, typed_lane, constant_offset, value, typed_value, typed_pair, pointer_value, index_value, target, alignment, overflowing, possibly_exact, plain_binary, or_operation, predicates, compared, compare, select, freeze, trunc, zext, sext, ptrtoint, entry_of_phi, phi, getelementptr, load, store, argument, signature, call, extractelement, insertelement, shufflevector, branch, case_of_switch, switch, ret, inst_attachments, bare_inst, named_by, with_kept, no_flags, wrap_flags, exact_flag, disjoint_flag, operation_words, operation, terminator_words, terminator, block, type_words, value_words, item_words, instruction_words, excluded_words, kept, memory_leaf, array_begin, type_parts, parameter, dotted_parameters, declared_function, defined_function, target_line, attribute_group, comdat, metadata, type_definition, initialiser_stops, extra_behind, behind_type, variable_word, variable_definition, item, module_form}
 use Rattle.ir_types.specs.Sizes.{Layout, value_size, struct_layout}
 use Rattle.ir_types.specs.Numbered.{numbered_module}
 use Rattle.ir_types.specs.Collected.{as_function, collected}
@@ -174,7 +174,7 @@ record Readings : Type 0 where
   -- a module may have no function
   none : reading [] ≡ Some []
   -- an operation's operands are held at its type, and `true` is 1
-  operands : reading (codes "define i1 @f ( ) { %x = icmp slt i32 -1 , true ret i1 2 }") ≡ Some (function_item (record {
+  operands : reading (codes "define i1 @f ( ) { %x = icmp slt i32 -1 , true ret i1 false }") ≡ Some (function_item (record {
     name = Text (codes "f");
     before = [];
     ret = Int 1;
@@ -244,8 +244,13 @@ abbrev y : OperandTree
 y = local (Text (codes "y"))
 
 record Values : Type 0 where
-  -- a number is held modulo 2^8, and `true` is 1
-  numbers : inst (codes "add i8 -1 , 300") ≡ Some (bare_inst (Binary Add no_flags) (Int 8) (number 255 ∷ number 44 ∷ []) [])
+  -- a number is held modulo 2^8, from -128 to 255, and `true` is 1
+  numbers : inst (codes "add i8 -1 , 200") ≡ Some (bare_inst (Binary Add no_flags) (Int 8) (number 255 ∷ number 200 ∷ []) [])
+  least_and_greatest : inst (codes "add i8 -128 , 255") ≡ Some (bare_inst (Binary Add no_flags) (Int 8) (number 128 ∷ number 255 ∷ []) [])
+  too_small : inst (codes "add i8 -129 , 1") ≡ Some (if_wide true (bare_inst (Binary Add no_flags) (Int 8) (out_of_range None ∷ number 1 ∷ []) []))
+  too_great : inst (codes "add i64 1 , 18446744073709551616") ≡ Some (if_wide true (bare_inst (Binary Add no_flags) (Int 64) (number 1 ∷ out_of_range None ∷ []) []))
+  great_lane : inst (codes "freeze < 2 x i8 > < i8 -128 , i8 256 >") ≡ Some (if_wide true (bare_inst Freeze (Vector 2 8) (out_of_range None ∷ []) []))
+  great_splat : inst (codes "freeze < 2 x i1 > splat ( i1 -2 )") ≡ Some (if_wide true (bare_inst Freeze (Vector 2 1) (out_of_range None ∷ []) []))
   truths : inst (codes "and i1 true , false") ≡ Some (bare_inst (Binary And no_flags) (Int 1) (number 1 ∷ number 0 ∷ []) [])
   null_pointer : inst (codes "icmp eq ptr %x , null") ≡ Some (bare_inst (Compare Eq Ptr) (Int 1) (x ∷ null ∷ []) [])
   poison_lanes : inst (codes "mul < 2 x i8 > poison , < i8 -1 , i8 poison >") ≡ Some (bare_inst (Binary Mul no_flags) (Vector 2 8) (poison ∷ lanes (Some 255 ∷ None ∷ []) ∷ []) [])
@@ -267,7 +272,7 @@ record Values : Type 0 where
 
 values : Values
 unfolding table local_name global_name label width vector_type value_type return_type three_flags inst_memory lane constant_word typed_lane constant_offset value typed_value typed_pair pointer_value index_value target alignment overflowing possibly_exact plain_binary or_operation predicates compared compare select freeze trunc zext sext ptrtoint entry_of_phi phi getelementptr load store argument signature call extractelement insertelement shufflevector branch case_of_switch switch ret inst_attachments operation_words operation terminator_words terminator block kept_piece kept_run metadata_node attachment attachments left_out_words type_words value_words item_words instruction_words excluded_words kept memory_leaf array_begin type_parts parameter dotted_parameters declared_function defined_function target_line attribute_group comdat metadata type_definition initialiser_stops extra_behind behind_type variable_word variable_definition item module_form
-values = record { numbers = refl; truths = refl; null_pointer = refl; poison_lanes = refl; all_zero = refl; bits = refl; few_lanes = refl; zero_number = refl; number_lanes = refl; pointer_splat = refl; other_lanes = refl; other_splat = refl; open_lane = refl; null_lane = refl; zero_lane = refl; no_lanes = refl; lane_comma = refl }
+values = record { numbers = refl; least_and_greatest = refl; too_small = refl; too_great = refl; great_lane = refl; great_splat = refl; truths = refl; null_pointer = refl; poison_lanes = refl; all_zero = refl; bits = refl; few_lanes = refl; zero_number = refl; number_lanes = refl; pointer_splat = refl; other_lanes = refl; other_splat = refl; open_lane = refl; null_lane = refl; zero_lane = refl; no_lanes = refl; lane_comma = refl }
 
 record Instructions : Type 0 where
   -- flags in any order, each once at most
@@ -292,7 +297,7 @@ record Instructions : Type 0 where
   natural_bits : inst (codes "load < 4 x i1 > , ptr %x") ≡ Some (bare_inst (Load 1) (Vector 4 1) (x ∷ []) [])
   late_alignment : inst (codes "load i8 , ptr %x , !a !0 , align 1") ≡ None
   natural : inst (codes "load < 4 x i32 > , ptr %x") ≡ Some (bare_inst (Load 16) (Vector 4 32) (x ∷ []) [])
-  aligned_load : inst (codes "load i64 , ptr %x , align 18446744073709551618") ≡ Some (bare_inst (Load 2) (Int 64) (x ∷ []) [])
+  aligned_load : inst (codes "load i64 , ptr %x , align 18446744073709551618") ≡ Some (bare_inst (Load (2 ^ 64 - 1)) (Int 64) (x ∷ []) [])
   signed_load : inst (codes "load i64 , ptr %x , align -8") ≡ None
   stored : inst (codes "store i16 7 , ptr %x , !a !0") ≡ Some (with_kept (bare_inst (Store (Int 16) 2) Void (number 7 ∷ x ∷ []) []) (codes "," ∷ codes "!a" ∷ codes "!0" ∷ []))
   stored_so : inst (codes "store i16 7 , ptr %x , align 1 , !a !0 , !b ! { }") ≡ Some (with_kept (bare_inst (Store (Int 16) 1) Void (number 7 ∷ x ∷ []) []) (codes "," ∷ codes "!a" ∷ codes "!0" ∷ codes "," ∷ codes "!b" ∷ codes "!" ∷ codes "{" ∷ codes "}" ∷ []))
@@ -306,6 +311,8 @@ record Instructions : Type 0 where
   joined_numbers : inst (codes "phi i8 [ zeroinitializer , %a ]") ≡ None
   switched : last_inst (codes "switch i8 %x , label %d [ i8 -1 , label %a i8 2 , label %b ] , !prof !3")
       ≡ Some (with_kept (bare_inst (Switch 8 (255 ∷ 2 ∷ [])) Void (x ∷ []) (Text (codes "d") ∷ Text (codes "a") ∷ Text (codes "b") ∷ [])) (codes "," ∷ codes "!prof" ∷ codes "!3" ∷ []))
+  great_case : last_inst (codes "switch i8 %x , label %d [ i8 2 , label %a i8 256 , label %b ]")
+      ≡ Some (if_wide true (bare_inst (Switch 8 (2 ∷ 0 ∷ [])) Void (x ∷ []) (Text (codes "d") ∷ Text (codes "a") ∷ Text (codes "b") ∷ [])))
   no_cases : last_inst (codes "switch i8 %x , label %d [ ]") ≡ Some (bare_inst (Switch 8 []) Void (x ∷ []) (Text (codes "d") ∷ []))
   wide_case : last_inst (codes "switch i8 %x , label %d [ i16 2 , label %b ]") ≡ None
   comma_case : last_inst (codes "switch i8 %x , label %d [ i8 1 , label %a , i8 2 , label %b ]") ≡ None
@@ -315,7 +322,7 @@ record Instructions : Type 0 where
 
 instructions : Instructions
 unfolding table local_name global_name label width vector_type value_type return_type three_flags inst_memory lane constant_word typed_lane constant_offset value typed_value typed_pair pointer_value index_value target alignment overflowing possibly_exact plain_binary or_operation predicates compared compare select freeze trunc zext sext ptrtoint entry_of_phi phi getelementptr load store argument signature call extractelement insertelement shufflevector branch case_of_switch switch ret inst_attachments operation_words operation terminator_words terminator block kept_piece kept_run metadata_node attachment attachments left_out_words type_words value_words item_words instruction_words excluded_words kept memory_leaf array_begin type_parts parameter dotted_parameters declared_function defined_function target_line attribute_group comdat metadata type_definition initialiser_stops extra_behind behind_type variable_word variable_definition item module_form
-instructions = record { wraps = refl; one_wrap = refl; twice = refl; exactly_so = refl; inexact = refl; apart_bits = refl; no_wraps = refl; exact_sum = refl; two_casts = refl; lanes_compared = refl; other_arm = refl; chosen = refl; fewer_bits = refl; more_bits = refl; sign_bits = refl; address = refl; natural_bits = refl; late_alignment = refl; natural = refl; aligned_load = refl; signed_load = refl; stored = refl; stored_so = refl; a_lane = refl; another_lane = refl; mixed_lanes = refl; joined_values = refl; joined_numbers = refl; switched = refl; no_cases = refl; wide_case = refl; comma_case = refl; true_case = refl; never = refl; no_attachment = refl }
+instructions = record { wraps = refl; one_wrap = refl; twice = refl; exactly_so = refl; inexact = refl; apart_bits = refl; no_wraps = refl; exact_sum = refl; two_casts = refl; lanes_compared = refl; other_arm = refl; chosen = refl; fewer_bits = refl; more_bits = refl; sign_bits = refl; address = refl; natural_bits = refl; late_alignment = refl; natural = refl; aligned_load = refl; signed_load = refl; stored = refl; stored_so = refl; a_lane = refl; another_lane = refl; mixed_lanes = refl; joined_values = refl; joined_numbers = refl; switched = refl; great_case = refl; no_cases = refl; wide_case = refl; comma_case = refl; true_case = refl; never = refl; no_attachment = refl }
 
 -- ---- calls
 
@@ -458,6 +465,8 @@ record Constants : Type 0 where
   -- indexes are signed
   before : constant [] (codes "getelementptr ( i32 , ptr @v , i64 -1 )") ≡ behind_v (2 ^ 64 - 4)
   small_before : constant [] (codes "getelementptr ( i16 , ptr @v , i8 255 )") ≡ behind_v (2 ^ 64 - 2)
+  great_index : constant [] (codes "getelementptr ( i16 , ptr @v , i64 1 , i8 256 )") ≡ None
+  great_first : constant [] (codes "getelementptr ( i16 , ptr @v , i8 256 )") ≡ Some (null ∷ out_of_range (Some (Text (codes "v"))) ∷ [])
   around : constant [] (codes "getelementptr ( [ 8 x i8 ] , ptr @v , i64 1 , i64 -8 )") ≡ behind_v 0
   beyond : constant [] (codes "getelementptr ( [ 8 x i8 ] , ptr @v , i64 0 , i64 9 )") ≡ behind_v 9
   -- 2^60 + 1 times 16, and an array of none, whose elements are too large to step over
@@ -499,7 +508,7 @@ record Constants : Type 0 where
 
 constants : Constants
 unfolding table local_name global_name label width vector_type value_type return_type three_flags inst_memory lane constant_word typed_lane constant_offset value typed_value typed_pair pointer_value index_value target alignment overflowing possibly_exact plain_binary or_operation predicates compared compare select freeze trunc zext sext ptrtoint entry_of_phi phi getelementptr load store argument signature call extractelement insertelement shufflevector branch case_of_switch switch ret inst_attachments operation_words operation terminator_words terminator block kept_piece kept_run metadata_node attachment attachments left_out_words type_words value_words item_words instruction_words excluded_words kept memory_leaf array_begin type_parts parameter dotted_parameters declared_function defined_function target_line attribute_group comdat metadata type_definition initialiser_stops extra_behind behind_type variable_word variable_definition item module_form
-constants = record { bare = refl; member = refl; packed = refl; named_twice = refl; before = refl; small_before = refl; around = refl; beyond = refl; no_type = refl; great_step = refl; none_of_great = refl; into_great = refl; great = refl; almost_great = refl; no_member = refl; negative_bit = refl; backwards = refl; padded = refl; few_bits = refl; none_aligned = refl; first_counts = refl; first_opaque = refl; chain = refl; circle = refl; part_of_itself = refl; negative_member = refl; into_number = refl; into_lanes = refl; itself = refl; unknown_type = refl; missing_struct = refl; no_index = refl; local_index = refl; stepped_from = refl; packed_from = refl; lanes_from = refl; no_steps = refl; flag_twice = refl; void_from = refl; unclosed_type = refl }
+constants = record { bare = refl; member = refl; packed = refl; named_twice = refl; before = refl; small_before = refl; great_index = refl; great_first = refl; around = refl; beyond = refl; no_type = refl; great_step = refl; none_of_great = refl; into_great = refl; great = refl; almost_great = refl; no_member = refl; negative_bit = refl; backwards = refl; padded = refl; few_bits = refl; none_aligned = refl; first_counts = refl; first_opaque = refl; chain = refl; circle = refl; part_of_itself = refl; negative_member = refl; into_number = refl; into_lanes = refl; itself = refl; unknown_type = refl; missing_struct = refl; no_index = refl; local_index = refl; stepped_from = refl; packed_from = refl; lanes_from = refl; no_steps = refl; flag_twice = refl; void_from = refl; unclosed_type = refl }
 
 -- a constant whose type is defined behind it: the items that are read with these definitions have these definitions
 abbrev later_text : List Lexeme

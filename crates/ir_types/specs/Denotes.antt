@@ -5,7 +5,7 @@ use Rattle.std.specs.List.{AllByRecursion, filter_map}
 use Rattle.ir_types.specs.declared.name.Name.{Name}
 use Rattle.ir_types.specs.declared.name.ValueId.{ValueId}
 use Rattle.ir_types.specs.declared.inst.Operand.{Operand}
-use Rattle.ir_types.specs.declared.inst.Operand.TheVariants.{Local, Int, Null, Poison, Lanes, Global}
+use Rattle.ir_types.specs.declared.inst.Operand.TheVariants.{Local, Int, Null, Poison, Lanes, Global, OutOfRange}
 use Rattle.ir_types.specs.declared.inst.InstKind.{InstKind}
 use Rattle.ir_types.specs.declared.inst.InstKind.TheVariants as kinds
 use Rattle.ir_types.specs.declared.memory_type.MemTy.{MemTy}
@@ -25,7 +25,7 @@ use Rattle.ir_types.specs.Sizes.{AreExtents}
 use Rattle.ir_types.specs.Names.{name_at, IsTable}
 use Rattle.ir_types.specs.Used.{all_type_names, all_symbol_names}
 use Rattle.ir_types.specs.Kinds.{Kind, Binary, Compare, Select, Freeze, Trunc, Zext, Sext, PtrToInt, Phi, Offset, Load, Store, Call, Extract, Insert, Shuffle, Jump, Branch, Switch, ReturnVoid, Return, Unreachable}
-use Rattle.ir_types.specs.Tree.{OperandTree, local, number, null, poison, lanes, global, InstTree, BlockTree, ParamTree, FunctionTree, defined, opaque, TypeNameTree, variable, function, SymbolTree, ModuleTree}
+use Rattle.ir_types.specs.Tree.{OperandTree, local, number, null, poison, lanes, global, out_of_range, InstTree, BlockTree, ParamTree, FunctionTree, defined, opaque, TypeNameTree, variable, function, SymbolTree, ModuleTree}
 
 -- the name at a place
 abbrev pub name_in : List Name → ValueId → Name
@@ -45,6 +45,7 @@ operand_in t ns Null = null
 operand_in t ns Poison = poison
 operand_in t ns (Lanes xs) = lanes xs
 operand_in t ns (Global i o) = global (name_at t.symbols i) o
+operand_in t ns (OutOfRange i) = out_of_range (option_map (name_at t.symbols) i)
 
 -- what an instruction does, a memory type by its nodes
 abbrev pub kind_in : Tables → InstKind → Kind

@@ -1,6 +1,6 @@
 -- The grammar of modules.
-use Rattle.std.specs.Prelude.{ℕ, ◌%◌, Bool, true, false, ◌&&◌, nat_le, count_by, is_some, length, List, [], ◌∷◌, ◌++◌, map, replicate, codes, find, nat_lt, ◌^◌, ◌==◌, Option, Some, None, if◌then◌else◌}
-use Rattle.std.specs.List.{list_all}
+use Rattle.std.specs.Prelude.{ℕ, ◌%◌, Bool, true, false, not, ◌&&◌, ◌||◌, nat_le, count_by, is_some, length, List, [], ◌∷◌, ◌++◌, map, replicate, codes, find, nat_lt, ◌^◌, ◌==◌, Option, Some, None, if◌then◌else◌}
+use Rattle.std.specs.List.{list_all, list_any}
 use Rattle.forms.specs.declared.TokenKind.TheVariants.{Quoted, Local, Global, Comdat, Label, Word, Number, Metadata, AttributeGroup, Dots, Bang, Equal, Comma, LeftParen, RightParen, LeftBracket, RightBracket, LeftBrace, RightBrace, Less, Greater}
 use Rattle.forms.specs.Form.{Lexeme, Form, Stops, Spells, is_one_of, exactly, one, one_such, enclosed, ahead, up_to, pair, either, mapped, made, optional, many, by_word}
 use Rattle.forms.specs.Reading.{◌>>=◌, read_whole}
@@ -32,7 +32,7 @@ use Rattle.ir_types.specs.declared.opcode.Extra.TheVariants as extras
 use Rattle.ir_types.specs.declared.opcode.Terminator.{Terminator}
 use Rattle.ir_types.specs.declared.opcode.Terminator.TheVariants as terminators
 pub use Rattle.ir_types.specs.Types.{lane_counts}
-use Rattle.ir_types.specs.Written.{number_of, number_at, name_behind, name_before}
+use Rattle.ir_types.specs.Written.{number_of, number_at, fits_width, at_most_64_bits, name_behind, name_before}
 use Rattle.forms.specs.Nested.{TypeParts, memory, concat, joined}
 pub use Rattle.forms.specs.Kept.{is_unsigned}
 use Rattle.forms.specs.Kept.{kept_one, kept_token, kept_such, perhaps, in_braces, kept_run, attachment, attachments, kept_behind_comma}
@@ -40,7 +40,7 @@ use Rattle.forms.specs.LeftOut.{left_out_words}
 use Rattle.ir_types.specs.Sizes.{value_size}
 use Rattle.ir_types.specs.Offsets.{Definitions, definitions_in, offset_of}
 use Rattle.ir_types.specs.TypeNodes.{TypeNode, scalar, called, array, opening, closing}
-use Rattle.ir_types.specs.Tree.{KeptTexts, OperandTree, local, number, null, poison, lanes, global, InstTree, WrittenParam, WrittenBlock, WrittenFunction, Item, head_line, comdat_line, type_item, variable_item, function_item, attribute_line, metadata_line}
+use Rattle.ir_types.specs.Tree.{KeptTexts, OperandTree, local, number, null, poison, lanes, global, out_of_range, InstTree, WrittenParam, WrittenBlock, WrittenFunction, Item, head_line, comdat_line, type_item, variable_item, function_item, attribute_line, metadata_line}
 
 -- ---- names, types and values
 
@@ -218,8 +218,8 @@ pub data WrittenValue : Type 0 where
   lane_list : List (Ty × WrittenLane) → WrittenValue
   -- a symbol
   symbol : Name → WrittenValue
-  -- a symbol that is stepped through as a memory type, by indexes, each with its width
-  stepped : List TypeNode × (Name × List (ℕ × ℕ)) → WrittenValue
+  -- a symbol that is stepped through as a memory type, by indexes, each a number behind its width
+  stepped : List TypeNode × (Name × List (ℕ × List ℕ)) → WrittenValue
 
 -- a value that is one word
 unfoldable pub constant_word : Form WrittenValue
@@ -233,16 +233,12 @@ constant_word =
 unfoldable pub typed_lane : Form (Ty × WrittenLane)
 typed_lane = pair value_type lane
 
--- an index with its width, modulo 2^w
-abbrev pub index_of : ℕ × List ℕ → ℕ × ℕ
-index_of x = (x.0, number_at x.0 x.1)
-
 -- , iN number
-abbrev pub comma_index : Form (ℕ × ℕ)
-comma_index = after_mark Comma (mapped index_of (pair width (one Number)))
+abbrev pub comma_index : Form (ℕ × List ℕ)
+comma_index = after_mark Comma (pair width (one Number))
 
 -- getelementptr [inbounds] [nuw] [nusw] ( M, ptr @name, iN number, .. ): the flags are left out
-unfoldable pub constant_offset : Form (List TypeNode × (Name × List (ℕ × ℕ)))
+unfoldable pub constant_offset : Form (List TypeNode × (Name × List (ℕ × List ℕ)))
 constant_offset =
     behind (codes "getelementptr") (mapped (λ x. x.1) (pair three_flags (between LeftParen RightParen (pair inst_memory (pair (after_mark Comma (behind (codes "ptr") global_name)) (some comma_index))))))
 
@@ -270,6 +266,25 @@ lane_at w lane_true = Some 1
 lane_at w lane_false = Some 0
 lane_at w lane_poison = None
 
+-- whether a lane of w bits is in range
+abbrev pub lane_fits : ℕ → WrittenLane → Bool
+lane_fits w (lane_digits s) = fits_width w s
+lane_fits w lane_true = true
+lane_fits w lane_false = true
+lane_fits w lane_poison = true
+
+-- an index with its width, modulo 2^w
+abbrev pub index_of : ℕ × List ℕ → ℕ × ℕ
+index_of x = (x.0, number_at x.0 x.1)
+
+-- whether an index is in its width's range
+abbrev pub index_fits : ℕ × List ℕ → Bool
+index_fits x = fits_width x.0 x.1
+
+-- this operand where its numbers are in range, else one that says that they aren't
+abbrev pub if_in_range : Bool → OperandTree → OperandTree
+if_in_range fits operand = if fits then operand else out_of_range None
+
 -- the type is iN for this N
 abbrev pub is_int : ℕ → Ty → Bool
 is_int w (Int v) = v == w
@@ -284,19 +299,22 @@ zeros_at t = None
 
 -- one lane for all at a type: a vector's, whose element type is written
 abbrev pub splat_at : Ty → Ty × WrittenLane → Option OperandTree
-splat_at (Vector n w) x = if is_int w x.0 then Some (lanes (replicate n (lane_at w x.1))) else None
+splat_at (Vector n w) x = if is_int w x.0 then Some (if_in_range (lane_fits w x.1) (lanes (replicate n (lane_at w x.1)))) else None
 splat_at t x = None
 
 -- lanes at a type: a vector's, whose element type is written with each; how many they are is not looked at
 abbrev pub lanes_at : Ty → List (Ty × WrittenLane) → Option OperandTree
-lanes_at (Vector n w) xs = if list_all (λ x. is_int w x.0) xs then Some (lanes (map (λ x. lane_at w x.1) xs)) else None
+lanes_at (Vector n w) xs =
+    if list_all (λ x. is_int w x.0) xs
+    then Some (if_in_range (list_all (λ x. lane_fits w x.1) xs) (lanes (map (λ x. lane_at w x.1) xs)))
+    else None
 lanes_at t xs = None
 
--- a written value at a type, where names of types are defined so: a number is held modulo 2^w; lanes have a reading at vectors of their type
--- alone; a symbol that is stepped through is counted in bytes
+-- a written value at a type, where names of types are defined so: a number in its type's range is held modulo 2^w; lanes have a reading at
+-- vectors of their type alone; a symbol that is stepped through is counted in bytes
 abbrev pub operand_at : Definitions → Ty → WrittenValue → Option OperandTree
 operand_at defs t (named n) = Some (local n)
-operand_at defs t (digits s) = Some (number (number_at (width_of t) s))
+operand_at defs t (digits s) = Some (if_in_range (fits_width (width_of t) s) (number (number_at (width_of t) s)))
 operand_at defs t yes = Some (number 1)
 operand_at defs t no = Some (number 0)
 operand_at defs t null_word = Some null
@@ -305,7 +323,8 @@ operand_at defs t zeros = zeros_at t
 operand_at defs t (splat x) = splat_at t x
 operand_at defs t (lane_list xs) = lanes_at t xs
 operand_at defs t (symbol n) = Some (global n 0)
-operand_at defs t (stepped x) = offset_of defs x.0 x.1.1 >>= λ o. Some (global x.1.0 o)
+operand_at defs t (stepped x) =
+    offset_of defs x.0 (map index_of x.1.1) >>= λ o. Some (if list_all index_fits x.1.1 then global x.1.0 o else out_of_range (Some x.1.0))
 
 -- ---- what is kept
 
@@ -422,10 +441,10 @@ to_type = behind (codes "to") value_type
 unfoldable pub target : Form Name
 target = behind (codes "label") local_name
 
--- the alignment that is written so: digits without a sign, modulo 2^64
+-- the alignment that is written so: digits without a sign, for a number of at most 64 bits
 abbrev pub alignment_of : List ℕ → Option ℕ
 alignment_of [] = None
-alignment_of (c ∷ ds) = if c == 45 then None else Some (number_of (c ∷ ds) % 2 ^ 64)
+alignment_of (c ∷ ds) = if c == 45 then None else Some (at_most_64_bits (number_of (c ∷ ds)))
 
 -- [, align n], where the word stands behind the comma
 unfoldable pub alignment : Form (Option ℕ)
@@ -676,9 +695,15 @@ case_of_switch = pair (pair width (one Number)) (after_mark Comma target)
 abbrev pub cases_at : ℕ → List ((ℕ × List ℕ) × Name) → Option (List ℕ)
 cases_at w cs = if list_all (λ c. c.0.0 == w) cs then Some (map (λ c. number_at w c.0.1) cs) else None
 
+-- an instruction that is wide where this says so
+abbrev pub if_wide : Bool → InstTree → InstTree
+if_wide wide i = record i { wide = wide }
+
 -- a value with its width, the label of the default, and the cases
 abbrev pub switch_tree : (ℕ × OperandTree) × (Name × List ((ℕ × List ℕ) × Name)) → Option InstTree
-switch_tree x = cases_at x.0.0 x.1.1 >>= λ ns. Some (bare_inst (kinds.Switch x.0.0 ns) Void (x.0.1 ∷ []) (x.1.0 ∷ map (λ c. c.1) x.1.1))
+switch_tree x =
+    cases_at x.0.0 x.1.1 >>= λ ns.
+    Some (if_wide (list_any (λ c. not (index_fits c.0)) x.1.1) (bare_inst (kinds.Switch x.0.0 ns) Void (x.0.1 ∷ []) (x.1.0 ∷ map (λ c. c.1) x.1.1)))
 
 -- iN V, label %name [ iN number, label %name .. ]
 unfoldable pub switch : Definitions → Form InstTree
@@ -706,9 +731,14 @@ unreachable_tree = bare_inst kinds.Unreachable Void [] []
 unfoldable pub inst_attachments : Form KeptTexts
 inst_attachments = mapped concat (many (kept_behind_comma attachment))
 
--- an instruction with these attachments
+-- whether an operand has a number out of its type's range
+abbrev pub is_out_of_range : OperandTree → Bool
+is_out_of_range (out_of_range n) = true
+is_out_of_range a = false
+
+-- an instruction with these attachments; an operand that is out of range makes it wide
 abbrev pub with_kept : InstTree → KeptTexts → InstTree
-with_kept i kept = record i { kept = kept }
+with_kept i kept = record i { wide = list_any is_out_of_range i.args || i.wide; kept = kept }
 
 -- an instruction, and its attachments behind it
 abbrev pub attached : Form InstTree → Form InstTree

@@ -6,7 +6,7 @@ use Rattle.ir_types.specs.declared.name.ValueId.{ValueId}
 use Rattle.ir_types.specs.declared.inst.Ty.{Ty}
 use Rattle.ir_types.specs.declared.inst.Ty.TheVariants.{Int as IntTy, Ptr as PtrTy, Vector}
 use Rattle.ir_types.specs.declared.inst.Operand.{Operand}
-use Rattle.ir_types.specs.declared.inst.Operand.TheVariants.{Local, Int as IntOperand, Null, Poison as PoisonOperand, Lanes as LanesOperand, Global}
+use Rattle.ir_types.specs.declared.inst.Operand.TheVariants.{Local, Int as IntOperand, Null, Poison as PoisonOperand, Lanes as LanesOperand, Global, OutOfRange}
 use Rattle.ir_types.specs.declared.inst.InstKind.{InstKind}
 use Rattle.ir_types.specs.declared.inst.InstKind.TheVariants.{Binary, Compare, Select, Freeze, Trunc, Zext, Sext, PtrToInt, Phi, Offset, Load, Store, Call, Extract, Insert, Shuffle, Jump, Branch, Switch, Return, ReturnVoid, Unreachable}
 use Rattle.ir_types.specs.declared.inst.Inst.{Inst}
@@ -59,7 +59,7 @@ abbrev pub lane_width : Ty → ℕ
 lane_width (Vector n w) = w
 lane_width ty = 0
 
--- the value of an operand, where it has one of that type; a symbol has none yet
+-- the value of an operand, where it has one of that type; a symbol has none yet, and a number out of its type's range has none
 abbrev pub operand_value : Module → Memory → Env → Ty → Operand → Option Value
 operand_value m memory env ty (Local name) = env name >>= λ v. typed ty v
 operand_value m memory env ty (IntOperand x) = typed ty (Int (width_of ty) x)
@@ -67,6 +67,7 @@ operand_value m memory env ty Null = typed ty (Ptr null_pointer)
 operand_value m memory env ty PoisonOperand = typed ty (poison_of ty)
 operand_value m memory env ty (LanesOperand xs) = typed ty (Lanes (lane_width ty) xs)
 operand_value m memory env ty (Global i o) = None
+operand_value m memory env ty (OutOfRange i) = None
 
 -- the types of an instruction's operands, in their order; a phi takes its values where its block is entered
 abbrev pub operand_types : InstKind → Ty → List Ty

@@ -21,6 +21,8 @@ pub data OperandTree : Type 0 where
   lanes : List (Option ℕ) → OperandTree
   -- a symbol, and so many bytes behind it, modulo 2^64
   global : Name → ℕ → OperandTree
+  -- a constant with a number out of its type's range, of this symbol where one is stepped from by such a number
+  out_of_range : Option Name → OperandTree
 
 -- an instruction: its result's name, where it has one, whether a number that is written in it is out of its type's range, and its attachments
 pub record InstTree : Type 0 where

@@ -6,7 +6,7 @@ use Rattle.ir_types.specs.declared.name.Name.{Name}
 use Rattle.ir_types.specs.Names.{unknown}
 use Rattle.ir_types.specs.TypeNodes.{names_used}
 use Rattle.ir_types.specs.Kinds.{Kind, Offset}
-use Rattle.ir_types.specs.Tree.{OperandTree, global, InstTree, BlockTree, FunctionTree, NamedTree, defined, opaque, TypeNameTree, SymbolKindTree, variable, function, SymbolTree, ModuleTree}
+use Rattle.ir_types.specs.Tree.{OperandTree, global, out_of_range, InstTree, BlockTree, FunctionTree, NamedTree, defined, opaque, TypeNameTree, SymbolKindTree, variable, function, SymbolTree, ModuleTree}
 
 -- ---- in instructions. The type in a constant that steps from a symbol has a size, so that each of its names is defined.
 
@@ -18,6 +18,7 @@ types_in kind = []
 -- the symbol that an operand uses. What a call calls is no operand.
 abbrev pub symbol_at : OperandTree → Option Name
 symbol_at (global n o) = Some n
+symbol_at (out_of_range n) = n
 symbol_at operand = None
 
 -- the names of types that some instructions use

@@ -1,5 +1,5 @@
 -- What the bytes of names and numbers stand for.
-use Rattle.std.specs.Prelude.{ℕ, ◌-◌, ◌%◌, ◌^◌, ◌==◌, nat_lt, List, [], ◌∷◌, Option, Some, None, if◌then◌else◌}
+use Rattle.std.specs.Prelude.{ℕ, ◌-◌, ◌%◌, ◌^◌, ◌==◌, nat_lt, nat_le, Bool, true, List, [], ◌∷◌, Option, Some, None, if◌then◌else◌}
 use Rattle.ir_types.specs.declared.name.Name.{Name}
 use Rattle.ir_types.specs.declared.name.Name.TheVariants.{Text, Number}
 use Rattle.forms.specs.Lexical.{is_digit}
@@ -16,6 +16,15 @@ negated w n = (2 ^ w - n % 2 ^ w) % 2 ^ w
 abbrev pub number_at : ℕ → List ℕ → ℕ
 number_at w [] = 0
 number_at w (c ∷ ds) = if c == 45 then negated w (number_of ds) else number_of (c ∷ ds) % 2 ^ w
+
+-- whether a token of a number, `-` and digits too, stands for a number of w bits: one from -2^(w-1) to 2^w - 1
+abbrev pub fits_width : ℕ → List ℕ → Bool
+fits_width w [] = true
+fits_width w (c ∷ ds) = if c == 45 then nat_le (number_of ds) (2 ^ (w - 1)) else nat_lt (number_of (c ∷ ds)) (2 ^ w)
+
+-- a number, or 2^64 - 1 where that is less
+abbrev pub at_most_64_bits : ℕ → ℕ
+at_most_64_bits n = if nat_lt n (2 ^ 64) then n else 2 ^ 64 - 1
 
 -- ---- names
 

@@ -16,6 +16,7 @@ impl Copies for Operand {
             Operand::Poison => Ok(Operand::Poison),
             Operand::Lanes(lanes) => Ok(Operand::Lanes(lanes.copy()?)),
             Operand::Global(symbol, bytes) => Ok(Operand::Global(*symbol, *bytes)),
+            Operand::OutOfRange(symbol) => Ok(Operand::OutOfRange(*symbol)),
         }
     }
 }

@@ -100,6 +100,9 @@ pub enum Operand {
     Lanes(Items<Option<u64>>),
     /// A symbol, by its place in the module's list, and so many bytes behind it, modulo 2^64.
     Global(u32, u64),
+    /// A constant in which a number is written that is out of its type's range, so that no value is held: of a symbol that is stepped
+    /// from by such a number, its place in the module's list. The instruction is `wide`, and no well-formed module has it.
+    OutOfRange(Option<u32>),
 }
 
 impl Default for Operand {
@@ -178,7 +181,8 @@ pub struct Inst {
     pub labels: Labels,
     /// The name of its result, where it has one.
     pub result: Option<ValueId>,
-    /// Whether a number that is written in it is out of its type's range. (No reader says so yet.)
+    /// Whether a number that is written in it is out of its type's range: an operand, a lane or an index in an operand, or a case of a
+    /// `switch`. (An alignment of 2^64 or more is held as 2^64 - 1, which is no alignment either.)
     pub wide: bool,
     /// The attachments behind it, each behind its comma.
     pub kept: Kept,
