@@ -4,13 +4,14 @@ use Rattle.std.specs.Prelude.{List, [], ◌∷◌, ◌++◌, map, Option, Some, 
 use Rattle.forms.specs.Nested.{concat}
 use Rattle.ir_types.specs.declared.name.Name.{Name}
 use Rattle.ir_types.specs.Kinds.{Kind, Phi, Offset, Call}
-use Rattle.ir_types.specs.Tree.{OperandTree, local, global, InstTree, BlockTree, ParamTree, FunctionTree, Item, head_line, comdat_line, type_item, variable_item, function_item, attribute_line, metadata_line}
+use Rattle.ir_types.specs.Tree.{OperandTree, local, global, out_of_range, InstTree, BlockTree, ParamTree, FunctionTree, Item, head_line, comdat_line, type_item, variable_item, function_item, attribute_line, metadata_line}
 use Rattle.ir_types.specs.TypeNodes.{TypeNode, names_used}
 
--- in an operand: a local's or a symbol's
+-- in an operand: a local's or a symbol's, also where that is stepped from by a number out of its type's range
 abbrev pub in_operand : OperandTree → List Name
 in_operand (local n) = n ∷ []
 in_operand (global n o) = n ∷ []
+in_operand (out_of_range (Some n)) = n ∷ []
 in_operand a = []
 
 -- in operands behind one another

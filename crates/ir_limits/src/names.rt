@@ -47,8 +47,12 @@ fn long_operand(tables: &LongNames<'_>, names: &Names, operand: &Operand) -> Opt
 {
     match operand {
         Operand::Local(id) => long_at(names, *id),
-        Operand::Global(place, _) => tables.of_symbol(*place),
-        Operand::Int(_) | Operand::Null | Operand::Poison | Operand::Lanes(_) => None,
+        Operand::Global(place, _) | Operand::OutOfRange(Some(place)) => tables.of_symbol(*place),
+        Operand::Int(_)
+        | Operand::Null
+        | Operand::Poison
+        | Operand::Lanes(_)
+        | Operand::OutOfRange(None) => None,
     }
 }
 
