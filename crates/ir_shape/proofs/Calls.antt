@@ -1,5 +1,5 @@
 -- What is known of calls and of `getelementptr` that tokens spell.
-use Rattle.std.proofs.Common.{ℕ, List, [], ◌∷◌, Option, Some, None, refl, subst}
+use Rattle.std.proofs.Common.{ℕ, true, List, [], ◌∷◌, Option, Some, None, refl, subst}
 use Rattle.std.specs.Prelude.{map, codes}
 use Rattle.std.specs.List.{AllByRecursion, AllZip}
 use Rattle.std.proofs.lemmas.List.{length-map}
@@ -15,7 +15,7 @@ use Rattle.ir_types.specs.Kinds.{Offset, Call}
 use Rattle.ir_types.specs.Offsets.{Definitions}
 use Rattle.ir_types.specs.Tree.{OperandTree}
 use Rattle.ir_types.specs.Grammar.{operand_at, getelementptr, argument, signature, callee_of, call, call_behind}
-use Rattle.ir_shape.specs.Shape.{IsKept, IsType, IsTyped, IsSignature}
+use Rattle.ir_shape.specs.Shape.{IsKept, IsType, IsTypedIn, IsSignature}
 use Rattle.ir_types.specs.Grammar.{kept}
 use Rattle.ir_shape.proofs.Sure.{Sure, any_sure, pair_sure, mapped_sure, made_sure, IsThere, optional_sure, behind_sure, after_mark_sure, between_sure, marked_sure, some_sure, list_sure}
 use Rattle.ir_shape.proofs.Values.{global_sure, type_sure, return_type_sure, value_sure, operand_is, pointer_sure, index_sure}
@@ -26,9 +26,9 @@ use Rattle.ir_shape.proofs.Bodies.{IsOperationBody, operation_of}
 -- ---- getelementptr
 
 abbrev IsIndex : ℕ × OperandTree → Type 0
-IsIndex x = IsTyped (Int x.0) x.1
+IsIndex x = IsTypedIn true (Int x.0) x.1
 
-indexes_are : (xs : List (ℕ × OperandTree)) → AllByRecursion IsIndex xs → AllZip IsTyped (map Int (map (λ x. x.0) xs)) (map (λ x. x.1) xs)
+indexes_are : (xs : List (ℕ × OperandTree)) → AllByRecursion IsIndex xs → AllZip (IsTypedIn true) (map Int (map (λ x. x.0) xs)) (map (λ x. x.1) xs)
 indexes_are [] h = tt
 indexes_are (x ∷ xs) h = (h.0, indexes_are xs h.1)
 
@@ -43,7 +43,7 @@ offset_sure defs = mapped_sure (pair_sure any_sure (pair_sure inst_memory_sure (
 
 -- an argument
 abbrev IsArgument : Actual × OperandTree → Type 0
-IsArgument x = IsTyped x.0.ty x.1 × IsKept kept x.0.kept
+IsArgument x = IsTypedIn true x.0.ty x.1 × IsKept kept x.0.kept
 
 argument_sure : (defs : Definitions) → Sure (argument defs) IsArgument
 unfolding argument
@@ -51,7 +51,7 @@ argument_sure defs = made_sure {Q = IsArgument} (pair_sure type_sure (pair_sure 
     let a = bind_some (operand_at defs x.0 x.1.1) _ y e in
     subst IsArgument (some_is _ y a.2) ((h.0, operand_is defs x.0 x.1.1 a.0 h.0 h.1.1 a.1), h.1.0))
 
-arguments_are : (xs : List (Actual × OperandTree)) → AllByRecursion IsArgument xs → AllZip IsTyped (map (λ a. a.ty) (map (λ x. x.0) xs)) (map (λ x. x.1) xs)
+arguments_are : (xs : List (Actual × OperandTree)) → AllByRecursion IsArgument xs → AllZip (IsTypedIn true) (map (λ a. a.ty) (map (λ x. x.0) xs)) (map (λ x. x.1) xs)
 arguments_are [] h = tt
 arguments_are (x ∷ xs) h = (h.0.0, arguments_are xs h.1)
 

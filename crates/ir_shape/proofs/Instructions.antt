@@ -1,7 +1,7 @@
 -- What is known of instructions that tokens spell.
-use Rattle.std.proofs.Common.{◌≡◌, ◌<◌, ◌^◌, ℕ, suc, List, [], ◌∷◌, length, Some, Bool, true, false, refl, sym, ap, ◌∙◌, subst, inl}
-use Rattle.std.specs.Prelude.{map, codes, replicate}
-use Rattle.std.specs.List.{AllByRecursion, AllZip}
+use Rattle.std.proofs.Common.{◌≡◌, ◌||◌, ◌<◌, ◌^◌, ℕ, suc, List, [], ◌∷◌, length, Some, Bool, true, false, refl, sym, ap, ◌∙◌, subst, inl}
+use Rattle.std.specs.Prelude.{not, map, codes, replicate}
+use Rattle.std.specs.List.{AllByRecursion, AllZip, list_any}
 use Rattle.std.proofs.lemmas.List.{length-map}
 use Rattle.std.proofs.lemmas.Option.{cond_some}
 use Rattle.forms.specs.declared.TokenKind.TheVariants.{Comma, LeftBracket, RightBracket}
@@ -26,16 +26,16 @@ use Rattle.ir_types.specs.declared.opcode.Operation.TheVariants as operations
 use Rattle.ir_types.specs.Offsets.{Definitions}
 use Rattle.ir_types.specs.Written.{number_at}
 use Rattle.ir_types.specs.Tree.{KeptTexts, OperandTree, InstTree}
-use Rattle.ir_types.specs.Grammar.{WrittenValue, operand_at, wrap_flags, exact_flag, disjoint_flag, no_flags, value_type, behind, bits_for, element_of, shuffled, align_or, bare_inst, binary_tree, overflowing, possibly_exact, plain_binary, or_operation, compared, compare, select, freeze, trunc, zext, sext, ptrtoint, entry_of_phi, entries_at, phi, load, store, extractelement, insertelement, shufflevector, jump_tree, target, branch, case_of_switch, cases_at, switch, void_tree, unreachable_tree, ret, inst_attachments, with_kept, operation_words, operation_behind, operation, terminator_behind, terminator}
-use Rattle.ir_shape.specs.Shape.{IsKept, IsName, IsType, IsBelow, IsTyped, IsTerminator, HasFlags, IsBody}
+use Rattle.ir_types.specs.Grammar.{WrittenValue, operand_at, wrap_flags, exact_flag, disjoint_flag, no_flags, value_type, behind, bits_for, element_of, shuffled, align_or, bare_inst, binary_tree, overflowing, possibly_exact, plain_binary, or_operation, compared, compare, select, freeze, trunc, zext, sext, ptrtoint, entry_of_phi, entries_at, phi, load, store, extractelement, insertelement, shufflevector, jump_tree, target, branch, case_of_switch, cases_at, if_wide, index_fits, is_out_of_range, switch, void_tree, unreachable_tree, ret, inst_attachments, with_kept, operation_words, operation_behind, operation, terminator_behind, terminator}
+use Rattle.ir_shape.specs.Shape.{IsKept, IsName, IsType, IsBelow, IsTypedIn, IsTerminator, HasFlags, IsBodyOf}
 use Rattle.ir_shape.proofs.Sure.{Sure, any_sure, word_sure, pair_sure, either_sure, mapped_sure, made_sure, by_word_sure, by_test_sure, many_sure, behind_sure, after_mark_sure, between_sure, commas_sure, kept_sure}
-use Rattle.ir_shape.proofs.Bodies.{IsOperationBody, IsTerminatorBody, operation_of, terminator_of}
+use Rattle.ir_shape.proofs.Bodies.{IsBare, IsOperationBody, IsTerminatorBody, operation_of, terminator_of, wide_or_not}
 use Rattle.ir_shape.proofs.Calls.{offset_sure, call_behind_sure}
-use Rattle.ir_shape.proofs.Values.{local_sure, type_sure, number_small, none_below, IsValue, value_sure, operand_is, typed_sure, typed_pair_sure, pointer_sure, index_sure, target_sure, alignment_sure, align_is}
+use Rattle.ir_shape.proofs.Values.{local_sure, type_sure, number_small, none_below, IsValue, value_sure, operand_is, held_in, typed_sure, typed_pair_sure, pointer_sure, index_sure, target_sure, alignment_sure, align_is}
 
 -- ---- operations
 
-binary_body : (op : BinOp) (f : Flags) (x : Ty × (OperandTree × OperandTree)) → HasFlags op f → IsTyped x.0 x.1.0 × IsTyped x.0 x.1.1 → IsOperationBody (binary_tree op f x)
+binary_body : (op : BinOp) (f : Flags) (x : Ty × (OperandTree × OperandTree)) → HasFlags op f → IsTypedIn true x.0 x.1.0 × IsTypedIn true x.0 x.1.1 → IsOperationBody (binary_tree op f x)
 binary_body op f x p h = operation_of (Binary op f) x.0 (x.1.0 ∷ x.1.1 ∷ []) (h.0, (h.1, tt)) refl h.0.0 p (λ b. b)
 
 -- the operators that may have `nuw` and `nsw`, those that may have `exact`, and those that have no flags
@@ -171,7 +171,7 @@ entry_labels (e ∷ es) h = (h.0.1, entry_labels es h.1)
 -- the operands of so many entries
 record Entries (t : Ty) (n : ℕ) (args : List OperandTree) : Type 0 where
   many : length args ≡ n
-  all : AllZip IsTyped (replicate (length args) t) args
+  all : AllZip (IsTypedIn true) (replicate (length args) t) args
 
 entries_are : (defs : Definitions) (t : Ty) (es : List (WrittenValue × Name)) (args : List OperandTree) → IsType t → AllByRecursion IsEntry es → entries_at defs t es ≡ Some args → Entries t (length es) args
 entries_are defs t [] args i h e = subst (Entries t 0) (some_is _ args e) (record { many = refl; all = tt })
@@ -189,7 +189,6 @@ phi_body t args es i h some all = record {
     count = length-map es (λ (e : WrittenValue × Name). e.1) ∙ sym all.many;
     result = i;
     parts = rw (all.many) some;
-    narrow = refl;
   };
   goes_on = λ b. b;
 }
@@ -262,18 +261,20 @@ case_numbers : (w : ℕ) (cs : List ((ℕ × List ℕ) × Name)) → 0 < 2 ^ w �
 case_numbers w [] h = tt
 case_numbers w (c ∷ cs) h = (number_small w c.0.1 h, case_numbers w cs h)
 
-switch_body : (w : ℕ) (a : OperandTree) (l : Name) (cs : List ((ℕ × List ℕ) × Name)) → IsTyped (Int w) a → IsName l → AllByRecursion IsCase cs → IsTerminatorBody (bare_inst (Switch w (map (λ c. number_at w c.0.1) cs)) Void (a ∷ []) (l ∷ map (λ c. c.1) cs))
+switch_body : (w : ℕ) (a : OperandTree) (l : Name) (cs : List ((ℕ × List ℕ) × Name)) → IsTypedIn true (Int w) a → IsName l → AllByRecursion IsCase cs → IsTerminatorBody (bare_inst (Switch w (map (λ c. number_at w c.0.1) cs)) Void (a ∷ []) (l ∷ map (λ c. c.1) cs))
 switch_body w a l cs h n g =
     let numbers = length-map cs (λ (c : (ℕ × List ℕ) × Name). number_at w c.0.1) in
     let labels = length-map cs (λ (c : (ℕ × List ℕ) × Name). c.1) in
     terminator_of (Switch w (map (λ c. number_at w c.0.1) cs)) (a ∷ []) (l ∷ map (λ c. c.1) cs) (h, tt) (n, case_labels cs g) (ap suc (labels ∙ sym numbers)) refl (case_numbers w cs (none_below w h.0)) tt
 
+-- be a case out of range or not
 switch_sure : (defs : Definitions) → Sure (switch defs) IsTerminatorBody
 unfolding switch
 switch_sure defs = made_sure (pair_sure (index_sure defs) (pair_sure (after_mark_sure Comma target_sure) (between_sure LeftBracket RightBracket (many_sure case_sure)))) (λ x y h e.
     let c = bind_some (cases_at x.0.0 x.1.1) _ y e in
+    let wide = list_any (λ (c : (ℕ × List ℕ) × Name). not (index_fits c.0)) x.1.1 in
     let ns = (cond_some _ (map (λ (c : (ℕ × List ℕ) × Name). number_at x.0.0 c.0.1) x.1.1) c.0 c.1).1 in
-    subst IsTerminatorBody (some_is _ y c.2) (subst (λ (ms : List ℕ). IsTerminatorBody (bare_inst (Switch x.0.0 ms) Void (x.0.1 ∷ []) (x.1.0 ∷ map (λ c. c.1) x.1.1))) ns (switch_body x.0.0 x.0.1 x.1.0 x.1.1 h.0 h.1.0 h.1.1)))
+    subst IsTerminatorBody (some_is _ y c.2) (subst (λ (ms : List ℕ). IsTerminatorBody (if_wide wide (bare_inst (Switch x.0.0 ms) Void (x.0.1 ∷ []) (x.1.0 ∷ map (λ c. c.1) x.1.1)))) ns (wide_or_not wide _ (switch_body x.0.0 x.0.1 x.1.0 x.1.1 h.0 h.1.0 h.1.1))))
 
 return_sure : (defs : Definitions) → Sure (ret defs) IsTerminatorBody
 unfolding ret
@@ -288,15 +289,40 @@ by_terminator defs terminators.Ret = return_sure defs
 
 -- an instruction without its result's name
 pub record IsPlain (i : InstTree) : Type 0 where
-  pub body : IsBody i
+  pub body : IsBodyOf (IsTypedIn i.wide) i
   pub attachments : IsKept inst_attachments i.kept
 
 attachments_are : Verbatim inst_attachments
 unfolding inst_attachments
 attachments_are = verbatim_each (kept_behind_comma attachment) (verbatim_behind_comma attachment verbatim_attachment)
 
-attached_body : (i : InstTree) (xs : KeptTexts) → IsBody i → IsKept inst_attachments xs → IsPlain (with_kept i xs)
-attached_body i xs h k = record { body = record { args = h.args; labels = h.labels; count = h.count; result = h.result; parts = h.parts; narrow = h.narrow }; attachments = k }
+first_or : (b c d : Bool) → (b || c ≡ true → d ≡ true) → b ≡ true → d ≡ true
+first_or true c d f e = f refl
+first_or false c d f e = absurd cc
+
+second_or : (b c d : Bool) → (b || c ≡ true → d ≡ true) → c ≡ true → d ≡ true
+second_or true c d f e = f refl
+second_or false c d f e = f e
+
+-- each operand that is out of range makes the instruction wide
+all_held : (wide : Bool) (ts : List Ty) (args : List OperandTree) → (list_any is_out_of_range args ≡ true → wide ≡ true) → AllZip (IsTypedIn true) ts args → AllZip (IsTypedIn wide) ts args
+all_held wide [] [] w h = tt
+all_held wide [] (a ∷ args) w h = absurd h
+all_held wide (t ∷ ts) [] w h = absurd h
+all_held wide (t ∷ ts) (a ∷ args) w h =
+    let here = first_or (is_out_of_range a) (list_any is_out_of_range args) wide w in
+    let behind = second_or (is_out_of_range a) (list_any is_out_of_range args) wide w in
+    ((h.0.0, held_in wide t a here h.0.1), all_held wide ts args behind h.1)
+
+either_wide : (b c : Bool) → b ≡ true → b || c ≡ true
+either_wide true c e = refl
+either_wide false c e = absurd cc
+
+attached_body : (i : InstTree) (xs : KeptTexts) → IsBare i → IsKept inst_attachments xs → IsPlain (with_kept i xs)
+attached_body i xs h k = record {
+  body = record { args = all_held (list_any is_out_of_range i.args || i.wide) _ i.args (either_wide _ i.wide) h.args; labels = h.labels; count = h.count; result = h.result; parts = h.parts };
+  attachments = k;
+}
 
 pub record IsOperation (i : InstTree) : Type 0 where
   pub plain : IsPlain i

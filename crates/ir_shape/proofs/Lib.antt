@@ -11,5 +11,6 @@ pub mod Instructions
 pub mod Written
 pub mod Items
 pub mod Numbering
+pub mod Narrowed
 pub mod Known
 pub mod Placing

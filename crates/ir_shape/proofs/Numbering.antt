@@ -16,7 +16,7 @@ use Rattle.ir_types.specs.declared.inst.Ty.TheVariants.{Int, Ptr, Vector, Void}
 use Rattle.ir_types.specs.Tree.{KeptTexts, InstTree, BlockTree, ParamTree, FunctionTree, WrittenParam, WrittenBlock, WrittenFunction, Item, head_line, comdat_line, type_item, variable_item, function_item, attribute_line, metadata_line}
 use Rattle.ir_types.specs.Grammar.{named_by}
 use Rattle.ir_types.specs.Numbered.{next_after, named, named_result, numbered_inst, numbered_block, numbered_param, numbered_function, numbered_item, numbered_module}
-use Rattle.ir_shape.specs.Shape.{IsName, IsNameThere, IsResult, IsInst, EndsOnce, IsKept, before_form, after_form, IsBlock, IsParam, IsFunction, IsItem}
+use Rattle.ir_shape.specs.Shape.{IsName, IsNameThere, IsResult, IsReadInst, EndsOnce, IsKept, before_form, after_form, IsBlockOf, IsParam, IsFunctionOf, IsItemOf}
 use Rattle.ir_shape.proofs.Written.{IsWrittenInst, IsWrittenBlock, IsWrittenParam, renamed}
 use Rattle.ir_shape.proofs.Items.{before_written, after_written, IsWrittenFunction, IsWrittenItem}
 
@@ -76,26 +76,26 @@ result_known next (Vector m w) None x h e = named_then next (Vector m w) None x 
 result_known next (Vector m w) (Some n) x h e = named_then next (Vector m w) (Some n) x h e
 result_known next Void (Some n) x h e = named_then next Void (Some n) x h e
 
-result_set : (i : InstTree) (o : Option Name) → IsWrittenInst i → IsResult i.ty o → IsInst (named_by i o)
+result_set : (i : InstTree) (o : Option Name) → IsWrittenInst i → IsResult i.ty o → IsReadInst (named_by i o)
 result_set i o h r = record { body = renamed i o h.body; result = r; attachments = h.attachments }
 
-inst_known : (next : ℕ) (i : InstTree) (x : InstTree × ℕ) → IsWrittenInst i → numbered_inst next i ≡ Some x → IsInst x.0
+inst_known : (next : ℕ) (i : InstTree) (x : InstTree × ℕ) → IsWrittenInst i → numbered_inst next i ≡ Some x → IsReadInst x.0
 inst_known next i x h e =
     let p = bind_some (named_result next i.ty i.result) _ x e in
-    subst (λ (y : InstTree × ℕ). IsInst y.0) (some_is _ x p.2) (result_set i p.0.0 h (result_known next i.ty i.result p.0 h.result p.1))
+    subst (λ (y : InstTree × ℕ). IsReadInst y.0) (some_is _ x p.2) (result_set i p.0.0 h (result_known next i.ty i.result p.0 h.result p.1))
 
 inst_kind : (next : ℕ) (i : InstTree) (x : InstTree × ℕ) → numbered_inst next i ≡ Some x → i.kind ≡ x.0.kind
 inst_kind next i x e =
     let p = bind_some (named_result next i.ty i.result) _ x e in
     ap (λ (y : InstTree × ℕ). y.0.kind) (some_is _ x p.2)
 
-block_known : (next : ℕ) (b : WrittenBlock) (x : BlockTree × ℕ) → IsWrittenBlock b → numbered_block next b ≡ Some x → IsBlock x.0
+block_known : (next : ℕ) (b : WrittenBlock) (x : BlockTree × ℕ) → IsWrittenBlock b → numbered_block next b ≡ Some x → IsBlockOf IsReadInst x.0
 block_known next b x h e =
     let p = bind_some (named next b.label) _ x e in
     let q = bind_some (walk numbered_inst p.0.1 b.insts) _ x p.2 in
-    subst (λ (y : BlockTree × ℕ). IsBlock y.0) (some_is _ x q.2) (record {
+    subst (λ (y : BlockTree × ℕ). IsBlockOf IsReadInst y.0) (some_is _ x q.2) (record {
       name = named_known next b.label p.0 h.name p.1;
-      insts = walk_all IsWrittenInst IsInst numbered_inst inst_known p.0.1 b.insts q.0 h.insts q.1;
+      insts = walk_all IsWrittenInst IsReadInst numbered_inst inst_known p.0.1 b.insts q.0 h.insts q.1;
       ending = subst EndsOnce (walk_map (λ i. i.kind) (λ i. i.kind) numbered_inst inst_kind p.0.1 b.insts q.0 q.1) h.ending;
     })
 
@@ -121,33 +121,33 @@ none_again ws [] e h = refl
 none_again [] (b ∷ bs) e h = absurd (omega arith)
 none_again (w ∷ ws) (b ∷ bs) e h = absurd cc
 
-function_known : (f : WrittenFunction) (x : FunctionTree) → IsWrittenFunction f → numbered_function f ≡ Some x → IsFunction x
+function_known : (f : WrittenFunction) (x : FunctionTree) → IsWrittenFunction f → numbered_function f ≡ Some x → IsFunctionOf IsReadInst x
 function_known f x h e =
     let p = bind_some (walk numbered_param 0 f.params) _ x e in
     let q = bind_some (walk numbered_block p.0.1 f.body) _ x p.2 in
     let n = walk_length numbered_block p.0.1 f.body q.0 q.1 in
-    subst IsFunction (some_is _ x q.2) (record {
+    subst (IsFunctionOf IsReadInst) (some_is _ x q.2) (record {
       name = h.name;
       before = before_known f.body q.0.0 f.before n h.before;
       ret = h.ret;
       params = walk_all IsWrittenParam IsParam numbered_param param_known 0 f.params p.0 h.params p.1;
       fixed = λ v. none_again f.body q.0.0 n (h.fixed v);
       after = after_known f.body q.0.0 f.after n h.after;
-      blocks = walk_all IsWrittenBlock IsBlock numbered_block block_known p.0.1 f.body q.0 h.blocks q.1;
+      blocks = walk_all IsWrittenBlock (IsBlockOf IsReadInst) numbered_block block_known p.0.1 f.body q.0 h.blocks q.1;
     })
 
-item_known : (u : Unit {0}) (i : Item WrittenFunction) (x : Item FunctionTree × Unit {0}) → IsWrittenItem i → numbered_item u i ≡ Some x → IsItem x.0
-item_known u (head_line xs) x h e = subst (λ (y : Item FunctionTree × Unit {0}). IsItem y.0) (some_is _ x e) h
-item_known u (comdat_line xs) x h e = subst (λ (y : Item FunctionTree × Unit {0}). IsItem y.0) (some_is _ x e) h
-item_known u (type_item n t) x h e = subst (λ (y : Item FunctionTree × Unit {0}). IsItem y.0) (some_is _ x e) h
-item_known u (variable_item v) x h e = subst (λ (y : Item FunctionTree × Unit {0}). IsItem y.0) (some_is _ x e) h
+item_known : (u : Unit {0}) (i : Item WrittenFunction) (x : Item FunctionTree × Unit {0}) → IsWrittenItem i → numbered_item u i ≡ Some x → IsItemOf IsReadInst x.0
+item_known u (head_line xs) x h e = subst (λ (y : Item FunctionTree × Unit {0}). IsItemOf IsReadInst y.0) (some_is _ x e) h
+item_known u (comdat_line xs) x h e = subst (λ (y : Item FunctionTree × Unit {0}). IsItemOf IsReadInst y.0) (some_is _ x e) h
+item_known u (type_item n t) x h e = subst (λ (y : Item FunctionTree × Unit {0}). IsItemOf IsReadInst y.0) (some_is _ x e) h
+item_known u (variable_item v) x h e = subst (λ (y : Item FunctionTree × Unit {0}). IsItemOf IsReadInst y.0) (some_is _ x e) h
 item_known u (function_item f) x h e =
     let p = bind_some (numbered_function f) _ x e in
-    subst (λ (y : Item FunctionTree × Unit {0}). IsItem y.0) (some_is _ x p.2) (function_known f p.0 h p.1)
-item_known u (attribute_line xs) x h e = subst (λ (y : Item FunctionTree × Unit {0}). IsItem y.0) (some_is _ x e) h
-item_known u (metadata_line xs) x h e = subst (λ (y : Item FunctionTree × Unit {0}). IsItem y.0) (some_is _ x e) h
+    subst (λ (y : Item FunctionTree × Unit {0}). IsItemOf IsReadInst y.0) (some_is _ x p.2) (function_known f p.0 h p.1)
+item_known u (attribute_line xs) x h e = subst (λ (y : Item FunctionTree × Unit {0}). IsItemOf IsReadInst y.0) (some_is _ x e) h
+item_known u (metadata_line xs) x h e = subst (λ (y : Item FunctionTree × Unit {0}). IsItemOf IsReadInst y.0) (some_is _ x e) h
 
-pub items_known : (w : List (Item WrittenFunction)) (items : List (Item FunctionTree)) → AllByRecursion IsWrittenItem w → numbered_module w ≡ Some items → AllByRecursion IsItem items
+pub items_known : (w : List (Item WrittenFunction)) (items : List (Item FunctionTree)) → AllByRecursion IsWrittenItem w → numbered_module w ≡ Some items → AllByRecursion (IsItemOf IsReadInst) items
 items_known w items h e =
     let p = bind_some (walk numbered_item tt w) _ items e in
-    subst (AllByRecursion IsItem) (some_is _ items p.2) (walk_all IsWrittenItem IsItem numbered_item item_known tt w p.0 h p.1)
+    subst (AllByRecursion (IsItemOf IsReadInst)) (some_is _ items p.2) (walk_all IsWrittenItem (IsItemOf IsReadInst) numbered_item item_known tt w p.0 h p.1)

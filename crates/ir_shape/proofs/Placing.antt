@@ -1,5 +1,5 @@
 -- In a module whose tree has the shape, each position is one of its list.
-use Rattle.std.proofs.Common.{◌≡◌, ◌+◌, ◌<◌, ◌≤◌, ℕ, zero, suc, List, [], ◌∷◌, ◌++◌, length, Option, Some, None, ap, ◌∙◌, subst, arith}
+use Rattle.std.proofs.Common.{◌≡◌, ◌+◌, ◌<◌, ◌≤◌, ℕ, zero, suc, Bool, List, [], ◌∷◌, ◌++◌, length, Option, Some, None, ap, ◌∙◌, subst, arith}
 use Rattle.std.specs.Prelude.{map, IfSome}
 use Rattle.std.specs.Option.{option_map}
 use Rattle.std.specs.List.{AllByRecursion, AllZip, filter_map, cons_option}
@@ -10,7 +10,7 @@ use Rattle.ir_types.specs.declared.name.ValueId.{ValueId}
 use Rattle.ir_types.specs.declared.inst.Ty.{Ty}
 use Rattle.ir_types.specs.declared.inst.Ty.TheVariants as types
 use Rattle.ir_types.specs.declared.inst.Operand.{Operand}
-use Rattle.ir_types.specs.declared.inst.Operand.TheVariants.{Local, Int, Null, Poison, Lanes, Global}
+use Rattle.ir_types.specs.declared.inst.Operand.TheVariants.{Local, Int, Null, Poison, Lanes, Global, OutOfRange}
 use Rattle.ir_types.specs.declared.inst.InstKind.{InstKind}
 use Rattle.ir_types.specs.declared.inst.InstKind.TheVariants.{Offset}
 use Rattle.ir_types.specs.declared.inst.Inst.{Inst}
@@ -29,11 +29,12 @@ use Rattle.ir_types.specs.declared.memory_type.NamedType.TheVariants.{Defined, O
 use Rattle.ir_types.specs.declared.memory_type.TypeName.{TypeName}
 use Rattle.ir_types.specs.Denotes.{name_in, Tables, operand_in, kind_in, inst_in, block_in, param_in, function_in, type_names_of, type_name_in, symbol_in, tables_of, tree_of}
 use Rattle.ir_types.specs.Collected.{as_type, as_variable, as_function, of_definition, symbol_of, symbols_from}
+use Rattle.ir_types.specs.Names.{name_at}
 use Rattle.ir_types.specs.Types.{AreTypes}
 use Rattle.ir_types.specs.TypeNodes.{TypeNode, nodes_at, nodes_from, all_nodes, type_nodes}
 use Rattle.ir_types.specs.Tree.{FunctionTree, NamedTree, defined, opaque, SymbolKindTree, variable, function, ModuleTree, Item, head_line, comdat_line, type_item, variable_item, function_item, attribute_line, metadata_line}
 use Rattle.ir_types.specs.Reads.{IsReadable}
-use Rattle.ir_shape.specs.Shape.{IsName, IsOperand, IsTyped, IsResult, HasParts, IsInst, IsBlock, IsParam, IsFunction, IsDefinition, IsItem, IsModule}
+use Rattle.ir_shape.specs.Shape.{IsName, IsNameThere, IsOperandIn, IsTypedIn, IsResult, HasParts, IsReadInst, IsBlockOf, IsParam, IsFunctionOf, IsDefinition, IsItemOf, IsReadModule}
 use Rattle.ir_shape.specs.Placed.{IsPlace, IsOperandPlaced, IsInstPlaced, IsKindPlaced, IsBlockPlaced, IsParamPlaced, IsFunctionPlaced, IsNamedPlaced, IsSymbolPlaced, IsPlaced}
 use Rattle.ir_shape.proofs.Known.{readable_known}
 use Rattle.ir_shape.proofs.Names.{within_names}
@@ -80,18 +81,24 @@ type_placed names types id h =
 placed : (names : List Name) (id : ValueId) → IsName (name_in names id) → IsPlace names id
 placed names id h = within_names names id.0 h
 
-operand_placed : (t : Tables) (names : List Name) (ty : Ty) (a : Operand) → IsOperand ty (operand_in t names a) → IsOperandPlaced t names a
-operand_placed t names ty (Local id) h = placed names id h
-operand_placed t names ty (Int n) h = tt
-operand_placed t names ty Null h = tt
-operand_placed t names ty Poison h = tt
-operand_placed t names ty (Lanes xs) h = tt
-operand_placed t names ty (Global i bytes) h = within_names t.symbols i h.0
+-- a symbol, where there is one
+symbol_there : (names : List Name) (o : Option ℕ) → IsNameThere (option_map (name_at names) o) → IfSome o (λ (i : ℕ). i < length names)
+symbol_there names None h = tt
+symbol_there names (Some i) h = within_names names i h
 
-operands_placed : (t : Tables) (names : List Name) (ts : List Ty) (args : List Operand) → AllZip IsTyped ts (map (operand_in t names) args) → AllByRecursion (IsOperandPlaced t names) args
-operands_placed t names ts [] h = tt
-operands_placed t names [] (a ∷ args) h = absurd h
-operands_placed t names (ty ∷ ts) (a ∷ args) h = (operand_placed t names ty a h.0.1, operands_placed t names ts args h.1)
+operand_placed : (wide : Bool) (t : Tables) (names : List Name) (ty : Ty) (a : Operand) → IsOperandIn wide ty (operand_in t names a) → IsOperandPlaced t names a
+operand_placed wide t names ty (Local id) h = placed names id h
+operand_placed wide t names ty (Int n) h = tt
+operand_placed wide t names ty Null h = tt
+operand_placed wide t names ty Poison h = tt
+operand_placed wide t names ty (Lanes xs) h = tt
+operand_placed wide t names ty (Global i bytes) h = within_names t.symbols i h.0
+operand_placed wide t names ty (OutOfRange i) h = symbol_there t.symbols i h.1
+
+operands_placed : (wide : Bool) (t : Tables) (names : List Name) (ts : List Ty) (args : List Operand) → AllZip (IsTypedIn wide) ts (map (operand_in t names) args) → AllByRecursion (IsOperandPlaced t names) args
+operands_placed wide t names ts [] h = tt
+operands_placed wide t names [] (a ∷ args) h = absurd h
+operands_placed wide t names (ty ∷ ts) (a ∷ args) h = (operand_placed wide t names ty a h.0.1, operands_placed wide t names ts args h.1)
 
 kind_placed : (t : Tables) (k : InstKind) (n : ℕ) → HasParts (kind_in t k) n → IsKindPlaced t k
 kind_placed t (Offset id widths inbounds nuw nusw) n h = type_placed t.type_names t.types id h.0.some
@@ -104,32 +111,32 @@ result_placed names types.Ptr (Some id) h = placed names id h
 result_placed names (types.Vector n w) (Some id) h = placed names id h
 result_placed names types.Void (Some id) h = placed names id h
 
-inst_placed : (t : Tables) (names : List Name) (i : Inst) → IsInst (inst_in t names i) → IsInstPlaced t names i
+inst_placed : (t : Tables) (names : List Name) (i : Inst) → IsReadInst (inst_in t names i) → IsInstPlaced t names i
 inst_placed t names i h = record {
   kind = kind_placed t i.kind _ h.body.parts;
-  args = operands_placed t names _ i.args h.body.args;
+  args = operands_placed i.wide t names _ i.args h.body.args;
   labels = each IsName (IsPlace names) (name_in names) (placed names) i.labels h.body.labels;
   result = result_placed names i.ty i.result h.result;
 }
 
-block_placed : (t : Tables) (names : List Name) (b : Block) → IsBlock (block_in t names b) → IsBlockPlaced t names b
+block_placed : (t : Tables) (names : List Name) (b : Block) → IsBlockOf IsReadInst (block_in t names b) → IsBlockPlaced t names b
 block_placed t names b h = record {
   name = placed names b.name h.name;
-  insts = each IsInst (IsInstPlaced t names) (inst_in t names) (inst_placed t names) b.insts h.insts;
+  insts = each IsReadInst (IsInstPlaced t names) (inst_in t names) (inst_placed t names) b.insts h.insts;
 }
 
 param_placed : (names : List Name) (p : Param) → IsParam (param_in names p) → IsParamPlaced names p
 param_placed names p h = record { name = placed names p.name h.name }
 
-function_placed : (t : Tables) (f : Function) → IsFunction (function_in t f) → IsFunctionPlaced t f
+function_placed : (t : Tables) (f : Function) → IsFunctionOf IsReadInst (function_in t f) → IsFunctionPlaced t f
 function_placed t f h = record {
   params = each IsParam (IsParamPlaced f.names) (param_in f.names) (param_placed f.names) f.params h.params;
-  blocks = each IsBlock (IsBlockPlaced t f.names) (block_in t f.names) (block_placed t f.names) f.body h.blocks;
+  blocks = each (IsBlockOf IsReadInst) (IsBlockPlaced t f.names) (block_in t f.names) (block_placed t f.names) f.body h.blocks;
 }
 
 -- ---- the functions, types and symbols of some items
 
-functions_known : (items : List (Item FunctionTree)) → AllByRecursion IsItem items → AllByRecursion IsFunction (filter_map as_function items)
+functions_known : (items : List (Item FunctionTree)) → AllByRecursion (IsItemOf IsReadInst) items → AllByRecursion (IsFunctionOf IsReadInst) (filter_map as_function items)
 functions_known [] h = tt
 functions_known (head_line xs ∷ items) h = functions_known items h.1
 functions_known (comdat_line xs ∷ items) h = functions_known items h.1
@@ -153,7 +160,7 @@ definition_known : (t : Option (List TypeNode)) → IsDefinition t → HasNode (
 definition_known None h = tt
 definition_known (Some nodes) h = h.some
 
-types_known : (items : List (Item FunctionTree)) → AllByRecursion IsItem items → AllByRecursion (λ t. HasNode t.ty) (filter_map as_type items)
+types_known : (items : List (Item FunctionTree)) → AllByRecursion (IsItemOf IsReadInst) items → AllByRecursion (λ t. HasNode t.ty) (filter_map as_type items)
 types_known [] h = tt
 types_known (head_line xs ∷ items) h = types_known items h.1
 types_known (comdat_line xs ∷ items) h = types_known items h.1
@@ -163,7 +170,7 @@ types_known (function_item f ∷ items) h = types_known items h.1
 types_known (attribute_line xs ∷ items) h = types_known items h.1
 types_known (metadata_line xs ∷ items) h = types_known items h.1
 
-variables_known : (n : ℕ) (items : List (Item FunctionTree)) → AllByRecursion IsItem items → AllByRecursion (λ s. HasPlace n s.kind) (map symbol_of (filter_map as_variable items))
+variables_known : (n : ℕ) (items : List (Item FunctionTree)) → AllByRecursion (IsItemOf IsReadInst) items → AllByRecursion (λ s. HasPlace n s.kind) (map symbol_of (filter_map as_variable items))
 variables_known n [] h = tt
 variables_known n (head_line xs ∷ items) h = variables_known n items h.1
 variables_known n (comdat_line xs ∷ items) h = variables_known n items h.1
@@ -189,14 +196,14 @@ symbol_placed m s (Variable id writable) h = type_placed (type_names_of m) m.typ
 symbol_placed m s (symbols.Function f) h = h
 symbol_placed m s symbols.Missing h = tt
 
-pub module_placed : (m : Module) → IsModule (tree_of m) → AreTypes (type_names_of m) 0 m.types → IsPlaced m
+pub module_placed : (m : Module) → IsReadModule (tree_of m) → AreTypes (type_names_of m) 0 m.types → IsPlaced m
 module_placed m h t =
     let fs = filter_map as_function h.items in
     let n = length m.functions in
     let as_long : length fs ≡ n = ap (λ (t : ModuleTree). length t.functions) h.says ∙ length-map m.functions (function_in (tables_of m)) in
     let places = each_append (λ s. HasPlace n s.kind) (map symbol_of (filter_map as_variable h.items)) _ (variables_known n h.items h.known) (functions_placed n 0 fs (omega arith)) in
     record {
-      functions = each IsFunction (IsFunctionPlaced (tables_of m)) (function_in (tables_of m)) (function_placed (tables_of m)) m.functions (subst (λ (t : ModuleTree). AllByRecursion IsFunction t.functions) h.says (functions_known h.items h.known));
+      functions = each (IsFunctionOf IsReadInst) (IsFunctionPlaced (tables_of m)) (function_in (tables_of m)) (function_placed (tables_of m)) m.functions (subst (λ (t : ModuleTree). AllByRecursion (IsFunctionOf IsReadInst) t.functions) h.says (functions_known h.items h.known));
       types = t;
       named = each_there (λ t. HasNode t.ty) (λ (n : TypeName). IsNamedPlaced m.types n.ty) (type_name_in m) (λ n. named_placed m n.name n.ty) m.type_names (subst (λ (t : ModuleTree). AllByRecursion (λ n. HasNode n.ty) t.type_names) h.says (types_known h.items h.known));
       symbols = each_there (λ s. HasPlace n s.kind) (λ (s : Symbol). IsSymbolPlaced m s.kind) (symbol_in m) (λ s. symbol_placed m s s.kind) m.symbols (subst (λ (t : ModuleTree). AllByRecursion (λ s. HasPlace n s.kind) t.symbols) h.says places);

@@ -1,7 +1,8 @@
 -- What is known of names, types and values that tokens spell.
-use Rattle.std.proofs.Common.{◌≡◌, ◌%◌, ◌*◌, ◌<◌, ◌≤◌, ◌^◌, ℕ, zero, suc, List, [], ◌∷◌, length, Option, Some, None, Bool, true, false, cond, eqb, lit<, lit≤, refl, subst, arith, inl, inr}
-use Rattle.std.specs.Prelude.{map, codes, find, replicate}
-use Rattle.std.specs.List.{AllByRecursion}
+use Rattle.std.proofs.Common.{◌≡◌, ◌%◌, ◌*◌, ◌-◌, ◌<◌, ◌≤◌, ◌^◌, ℕ, zero, suc, List, [], ◌∷◌, length, Option, Some, None, Bool, true, false, cond, eqb, lit<, lit≤, refl, subst, arith, inl, inr}
+use Rattle.std.specs.Prelude.{map, codes, find, nat_lt, replicate}
+use Rattle.std.specs.List.{AllByRecursion, list_all}
+use Rattle.std.proofs.lemmas.Bool.Decides.{nat_tests}
 use Rattle.std.proofs.Math.Nat.{mul-le-mul}
 use Rattle.std.proofs.lemmas.List.{length-map, length-replicate}
 use Rattle.std.proofs.lemmas.Option.{cond_some}
@@ -14,10 +15,10 @@ use Rattle.ir_types.specs.declared.inst.Ty.TheVariants.{Int, Ptr, Vector, Void}
 use Rattle.ir_types.specs.Sizes.{bytes_of, value_size}
 use Rattle.ir_types.specs.Offsets.{Definitions, small_size, path_offset, offset_of}
 use Rattle.ir_types.specs.TypeNodes.{TypeNode}
-use Rattle.ir_types.specs.Written.{number_of, number_at}
-use Rattle.ir_types.specs.Tree.{OperandTree, lanes}
-use Rattle.ir_types.specs.Grammar.{local_name, global_name, label, width, lanes_of, vector_type, value_type, return_type, WrittenLane, lane_digits, lane_true, lane_false, lane_poison, typed_lane, WrittenValue, named, digits, yes, no, null_word, poison_word, zeros, splat, lane_list, symbol, stepped, constant_word, comma_index, constant_offset, value, lane_counts, width_of, lane_at, zeros_at, splat_at, lanes_at, operand_at, typed_value, typed_pair, pointer_value, index_value, target, alignment_of, alignment, align_or, some}
-use Rattle.ir_shape.specs.Shape.{IsName, IsOneOf, widths, IsType, IsReturnType, IsBelow, IsLane, IsOperand, IsTyped}
+use Rattle.ir_types.specs.Written.{number_of, number_at, fits_width, at_most_64_bits}
+use Rattle.ir_types.specs.Tree.{OperandTree, local, number, null, poison, lanes, global, out_of_range}
+use Rattle.ir_types.specs.Grammar.{local_name, global_name, label, width, lanes_of, vector_type, value_type, return_type, WrittenLane, lane_digits, lane_true, lane_false, lane_poison, typed_lane, WrittenValue, named, digits, yes, no, null_word, poison_word, zeros, splat, lane_list, symbol, stepped, constant_word, comma_index, constant_offset, value, lane_counts, width_of, lane_at, lane_fits, index_of, index_fits, if_in_range, is_out_of_range, zeros_at, splat_at, lanes_at, operand_at, typed_value, typed_pair, pointer_value, index_value, target, alignment_of, alignment, align_or, some}
+use Rattle.ir_shape.specs.Shape.{IsName, IsOneOf, widths, IsType, IsReturnType, IsBelow, IsLane, IsOperand, IsOperandIn, IsTypedIn}
 use Rattle.ir_shape.proofs.Among.{of_each}
 use Rattle.ir_shape.proofs.Names.{behind_is, before_is}
 use Rattle.ir_shape.proofs.Sure.{Sure, any_sure, one_sure, mark_sure, word_sure, pair_sure, either_sure, mapped_sure, made_sure, IsThere, optional_sure, behind_sure, after_mark_sure, between_sure, marked_sure, commas_sure}
@@ -158,20 +159,32 @@ each_lane : (w : ℕ) (xs : List (Ty × WrittenLane)) → IsOneOf widths w → A
 each_lane w [] h = tt
 each_lane w (x ∷ xs) h = (lane_is w x.1 h, each_lane w xs h)
 
--- what is made of a value is an operand
-by_some : (t : Ty) (a b : OperandTree) → Some a ≡ Some b → IsOperand t a → IsOperand t b
-by_some t a b e h = subst (IsOperand t) (some_is a b e) h
+-- what a value is read as, be its numbers in range or not
+abbrev IsRead : Ty → OperandTree → Type 0
+IsRead t a = IsOperandIn true t a
 
-zeros_are : (t : Ty) (a : OperandTree) → IsType t → zeros_at t ≡ Some a → IsOperand t a
+-- what is made of a value is an operand
+by_some : (t : Ty) (a b : OperandTree) → Some a ≡ Some b → IsRead t a → IsRead t b
+by_some t a b e h = subst (IsRead t) (some_is a b e) h
+
+-- where its numbers are in range
+in_range : (fits : Bool) (t : Ty) (a : OperandTree) → IsRead t a → IsRead t (if_in_range fits a)
+in_range true t a h = h
+in_range false t a h = (refl, tt)
+
+zeros_are : (t : Ty) (a : OperandTree) → IsType t → zeros_at t ≡ Some a → IsRead t a
 zeros_are (Vector n w) a i e = by_some (Vector n w) _ a e (same_lanes n w (Some 0) i.0 (none_below w i.1))
 zeros_are t a i e = absurd cc
 
-splat_is : (t : Ty) (x : Ty × WrittenLane) (a : OperandTree) → IsType t → splat_at t x ≡ Some a → IsOperand t a
-splat_is (Vector n w) x a i e = subst (IsOperand (Vector n w)) (cond_some _ _ a e).1 (same_lanes n w (lane_at w x.1) i.0 (lane_is w x.1 i.1))
+splat_is : (t : Ty) (x : Ty × WrittenLane) (a : OperandTree) → IsType t → splat_at t x ≡ Some a → IsRead t a
+splat_is (Vector n w) x a i e = subst (IsRead (Vector n w)) (cond_some _ _ a e).1 (in_range (lane_fits w x.1) (Vector n w) (lanes (replicate n (lane_at w x.1))) (same_lanes n w (lane_at w x.1) i.0 (lane_is w x.1 i.1)))
 splat_is t x a i e = absurd cc
 
-lanes_are : (t : Ty) (xs : List (Ty × WrittenLane)) (a : OperandTree) → IsType t → 0 < length xs → lanes_at t xs ≡ Some a → IsOperand t a
-lanes_are (Vector n w) xs a i some e = subst (IsOperand (Vector n w)) (cond_some _ _ a e).1 (rw (length-map xs (λ (x : Ty × WrittenLane). lane_at w x.1)) some, each_lane w xs i.1)
+lanes_are : (t : Ty) (xs : List (Ty × WrittenLane)) (a : OperandTree) → IsType t → 0 < length xs → lanes_at t xs ≡ Some a → IsRead t a
+lanes_are (Vector n w) xs a i some e =
+    let fits = list_all (λ (x : Ty × WrittenLane). lane_fits w x.1) xs in
+    let many = length-map xs (λ (x : Ty × WrittenLane). lane_at w x.1) in
+    subst (IsRead (Vector n w)) (cond_some _ _ a e).1 (in_range fits (Vector n w) (lanes (map (λ (x : Ty × WrittenLane). lane_at w x.1) xs)) (rw (many) some, each_lane w xs i.1))
 lanes_are t xs a i some e = absurd cc
 
 -- steps lead over a number of bytes of 64 bits
@@ -182,14 +195,22 @@ offset_small defs nodes (i ∷ is) o e =
     let p = bind_some (path_offset defs nodes is) _ o s.2 in
     subst (IsBelow 64) (some_is _ o p.2) (below (2 ^ 64) _ (lit< tt))
 
-stepped_is : (defs : Definitions) (t : Ty) (x : List TypeNode × (Name × List (ℕ × ℕ))) (a : OperandTree) → IsName x.1.0 → operand_at defs t (stepped x) ≡ Some a → IsOperand t a
-stepped_is defs t x a h e =
-    let o = bind_some (offset_of defs x.0 x.1.1) _ a e in
-    by_some t _ a o.2 (h, offset_small defs x.0 x.1.1 o.0 o.1)
+-- a symbol that is stepped from by numbers that are in range or not
+stepped_from : (fits : Bool) (t : Ty) (n : Name) (o : ℕ) → IsName n → IsBelow 64 o → IsRead t (cond fits (global n o) (out_of_range (Some n)))
+stepped_from true t n o h lt = (h, lt)
+stepped_from false t n o h lt = (refl, h)
 
-pub operand_is : (defs : Definitions) (t : Ty) (v : WrittenValue) (a : OperandTree) → IsType t → IsValue v → operand_at defs t v ≡ Some a → IsOperand t a
+stepped_is : (defs : Definitions) (t : Ty) (x : List TypeNode × (Name × List (ℕ × List ℕ))) (a : OperandTree) → IsName x.1.0 → operand_at defs t (stepped x) ≡ Some a → IsRead t a
+stepped_is defs t x a h e =
+    let o = bind_some (offset_of defs x.0 (map index_of x.1.1)) _ a e in
+    by_some t _ a o.2 (stepped_from (list_all index_fits x.1.1) t x.1.0 o.0 h (offset_small defs x.0 (map index_of x.1.1) o.0 o.1))
+
+digits_are : (t : Ty) (s : List ℕ) (a : OperandTree) → IsType t → Some (if_in_range (fits_width (width_of t) s) (number (number_at (width_of t) s))) ≡ Some a → IsRead t a
+digits_are t s a i e = by_some t _ a e (in_range (fits_width (width_of t) s) t (number (number_at (width_of t) s)) (number_small (width_of t) s (zero_fits t i)))
+
+pub operand_is : (defs : Definitions) (t : Ty) (v : WrittenValue) (a : OperandTree) → IsType t → IsValue v → operand_at defs t v ≡ Some a → IsOperandIn true t a
 operand_is defs t (named n) a i h e = by_some t _ a e h
-operand_is defs t (digits s) a i h e = by_some t _ a e (number_small (width_of t) s (zero_fits t i))
+operand_is defs t (digits s) a i h e = digits_are t s a i e
 operand_is defs t yes a i h e = by_some t _ a e (one_fits t i)
 operand_is defs t no a i h e = by_some t _ a e (zero_fits t i)
 operand_is defs t null_word a i h e = by_some t _ a e tt
@@ -200,30 +221,40 @@ operand_is defs t (lane_list xs) a i h e = lanes_are t xs a i h e
 operand_is defs t (symbol n) a i h e = by_some t _ a e (h, lit< tt)
 operand_is defs t (stepped x) a i h e = stepped_is defs t x a h e
 
+-- an operand that is out of range makes its instruction wide
+pub held_in : (wide : Bool) (t : Ty) (a : OperandTree) → (is_out_of_range a ≡ true → wide ≡ true) → IsOperandIn true t a → IsOperandIn wide t a
+held_in wide t (local n) w h = h
+held_in wide t (number v) w h = h
+held_in wide t null w h = h
+held_in wide t poison w h = h
+held_in wide t (lanes xs) w h = h
+held_in wide t (global n bytes) w h = h
+held_in wide t (out_of_range n) w h = (w refl, h.1)
+
 -- ---- parts of instructions
 
-pub typed_sure : (defs : Definitions) → Sure (typed_value defs) (λ x. IsTyped x.0 x.1)
+pub typed_sure : (defs : Definitions) → Sure (typed_value defs) (λ x. IsTypedIn true x.0 x.1)
 unfolding typed_value
 typed_sure defs = made_sure (pair_sure type_sure value_sure) (λ x y h e.
     let a = bind_some (operand_at defs x.0 x.1) _ y e in
-    subst (λ (z : Ty × OperandTree). IsTyped z.0 z.1) (some_is _ y a.2) (h.0, operand_is defs x.0 x.1 a.0 h.0 h.1 a.1))
+    subst (λ (z : Ty × OperandTree). IsTypedIn true z.0 z.1) (some_is _ y a.2) (h.0, operand_is defs x.0 x.1 a.0 h.0 h.1 a.1))
 
-pub typed_pair_sure : (defs : Definitions) → Sure (typed_pair defs) (λ x. IsTyped x.0 x.1.0 × IsTyped x.0 x.1.1)
+pub typed_pair_sure : (defs : Definitions) → Sure (typed_pair defs) (λ x. IsTypedIn true x.0 x.1.0 × IsTypedIn true x.0 x.1.1)
 unfolding typed_pair
 typed_pair_sure defs = made_sure (pair_sure type_sure (pair_sure value_sure (after_mark_sure Comma value_sure))) (λ x y h e.
     let a = bind_some (operand_at defs x.0 x.1.0) _ y e in
     let b = bind_some (operand_at defs x.0 x.1.1) _ y a.2 in
-    subst (λ (z : Ty × (OperandTree × OperandTree)). IsTyped z.0 z.1.0 × IsTyped z.0 z.1.1) (some_is _ y b.2) ((h.0, operand_is defs x.0 x.1.0 a.0 h.0 h.1.0 a.1), (h.0, operand_is defs x.0 x.1.1 b.0 h.0 h.1.1 b.1)))
+    subst (λ (z : Ty × (OperandTree × OperandTree)). IsTypedIn true z.0 z.1.0 × IsTypedIn true z.0 z.1.1) (some_is _ y b.2) ((h.0, operand_is defs x.0 x.1.0 a.0 h.0 h.1.0 a.1), (h.0, operand_is defs x.0 x.1.1 b.0 h.0 h.1.1 b.1)))
 
-pub pointer_sure : (defs : Definitions) → Sure (pointer_value defs) (IsTyped Ptr)
+pub pointer_sure : (defs : Definitions) → Sure (pointer_value defs) (IsTypedIn true Ptr)
 unfolding pointer_value
 pointer_sure defs = made_sure (behind_sure (codes "ptr") value_sure) (λ v a h e. (tt, operand_is defs Ptr v a tt h e))
 
-pub index_sure : (defs : Definitions) → Sure (index_value defs) (λ x. IsTyped (Int x.0) x.1)
+pub index_sure : (defs : Definitions) → Sure (index_value defs) (λ x. IsTypedIn true (Int x.0) x.1)
 unfolding index_value
 index_sure defs = made_sure (pair_sure width_sure value_sure) (λ x y h e.
     let a = bind_some (operand_at defs (Int x.0) x.1) _ y e in
-    subst (λ (z : ℕ × OperandTree). IsTyped (Int z.0) z.1) (some_is _ y a.2) (h.0, operand_is defs (Int x.0) x.1 a.0 h.0 h.1 a.1))
+    subst (λ (z : ℕ × OperandTree). IsTypedIn true (Int z.0) z.1) (some_is _ y a.2) (h.0, operand_is defs (Int x.0) x.1 a.0 h.0 h.1 a.1))
 
 pub target_sure : Sure target IsName
 unfolding target
@@ -231,9 +262,13 @@ target_sure = behind_sure (codes "label") local_sure
 
 -- ---- alignments
 
-without_sign_small : (b : Bool) (s : List ℕ) (n : ℕ) → cond b None (Some (number_of s % 2 ^ 64)) ≡ Some n → IsBelow 64 n
+saturated : (lt : Bool) (n : ℕ) → nat_lt n (2 ^ 64) ≡ lt → IsBelow 64 (cond lt n (2 ^ 64 - 1))
+saturated true n e = grind (arith, nat_tests)
+saturated false n e = lit< tt
+
+without_sign_small : (b : Bool) (s : List ℕ) (n : ℕ) → cond b None (Some (at_most_64_bits (number_of s))) ≡ Some n → IsBelow 64 n
 without_sign_small true s n e = absurd cc
-without_sign_small false s n e = subst (IsBelow 64) (some_is _ n e) (below (2 ^ 64) (number_of s) (lit< tt))
+without_sign_small false s n e = subst (IsBelow 64) (some_is _ n e) (saturated (nat_lt (number_of s) (2 ^ 64)) (number_of s) refl)
 
 alignment_small : (s : List ℕ) (n : ℕ) → alignment_of s ≡ Some n → IsBelow 64 n
 alignment_small [] n e = absurd cc

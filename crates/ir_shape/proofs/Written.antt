@@ -10,9 +10,10 @@ use Rattle.ir_types.specs.declared.name.Name.{Name}
 use Rattle.ir_types.specs.Kinds.{Kind}
 use Rattle.ir_types.specs.Offsets.{Definitions}
 use Rattle.ir_types.specs.Written.{name_behind}
-use Rattle.ir_types.specs.Tree.{InstTree, WrittenParam, WrittenBlock}
+use Rattle.ir_types.specs.declared.inst.Ty.{Ty}
+use Rattle.ir_types.specs.Tree.{OperandTree, InstTree, WrittenParam, WrittenBlock}
 use Rattle.ir_types.specs.Grammar.{inst_attachments, operation, terminator, named_by, line, block, kept}
-use Rattle.ir_shape.specs.Shape.{IsKept, IsName, IsType, IsBody, IsNameThere, IsTerminator, EndsOnce}
+use Rattle.ir_shape.specs.Shape.{IsKept, IsName, IsType, IsTypedIn, IsBodyOf, IsNameThere, IsTerminator, EndsOnce}
 use Rattle.ir_shape.proofs.Names.{behind_is}
 use Rattle.ir_shape.proofs.Sure.{Sure, pair_sure, either_sure, mapped_sure, made_sure, ahead_sure, IsThere, optional_sure, many_sure}
 use Rattle.ir_shape.proofs.Values.{label_sure}
@@ -21,7 +22,7 @@ use Rattle.ir_shape.proofs.Instructions.{IsPlain, operation_sure, terminator_sur
 -- ---- lines
 
 pub record IsWrittenInst (i : InstTree) : Type 0 where
-  pub body : IsBody i
+  pub body : IsBodyOf (IsTypedIn i.wide) i
   pub result : IsNameThere i.result
   pub attachments : IsKept inst_attachments i.kept
 
@@ -41,8 +42,8 @@ line_sure {P} {Q} p named_so = either_sure
     subst Q (some_is _ i b.2) (named_so x.1.1 (Some b.0) h (behind_is x.0 b.0 b.1))))
     (mapped_sure {Q = Q} p (λ i h. named_so i None h tt))
 
-pub renamed : (i : InstTree) (o : Option Name) → IsBody i → IsBody (named_by i o)
-renamed i o h = record { args = h.args; labels = h.labels; count = h.count; result = h.result; parts = h.parts; narrow = h.narrow }
+pub renamed : {P : Ty → OperandTree → Type 0} (i : InstTree) (o : Option Name) → IsBodyOf P i → IsBodyOf P (named_by i o)
+renamed i o h = record { args = h.args; labels = h.labels; count = h.count; result = h.result; parts = h.parts }
 
 written : (i : InstTree) (o : Option Name) → IsPlain i → IsNameThere o → IsWrittenInst (named_by i o)
 written i o h g = record { body = renamed i o h.body; result = g; attachments = h.attachments }

@@ -1,11 +1,11 @@
 -- Each position in a module is one of the list that it speaks of: that of a local name in its function's table of names, that of a type, a symbol or
 -- a function in the module's lists.
-use Rattle.std.specs.Prelude.{◌<◌, List, length, IfSome}
+use Rattle.std.specs.Prelude.{ℕ, ◌<◌, List, length, IfSome}
 use Rattle.std.specs.List.{AllByRecursion}
 use Rattle.ir_types.specs.declared.name.Name.{Name}
 use Rattle.ir_types.specs.declared.name.ValueId.{ValueId}
 use Rattle.ir_types.specs.declared.inst.Operand.{Operand}
-use Rattle.ir_types.specs.declared.inst.Operand.TheVariants.{Local, Global}
+use Rattle.ir_types.specs.declared.inst.Operand.TheVariants.{Local, Global, OutOfRange}
 use Rattle.ir_types.specs.declared.inst.InstKind.{InstKind}
 use Rattle.ir_types.specs.declared.inst.InstKind.TheVariants.{Offset}
 use Rattle.ir_types.specs.declared.inst.Inst.{Inst}
@@ -28,10 +28,11 @@ use Rattle.ir_types.specs.declared.memory_type.TypeName.{TypeName}
 abbrev pub IsPlace : List Name → ValueId → Type 0
 IsPlace names id = id.0 < length names
 
--- an operand: only a local and a symbol have a position
+-- an operand: only a local and a symbol have a position, also a symbol that is stepped from by a number out of its type's range
 abbrev pub IsOperandPlaced : Tables → List Name → Operand → Type 0
 IsOperandPlaced t names (Local id) = IsPlace names id
 IsOperandPlaced t names (Global i bytes) = i < length t.symbols
+IsOperandPlaced t names (OutOfRange i) = IfSome i (λ (s : ℕ). s < length t.symbols)
 IsOperandPlaced t names a = Unit {0}
 
 -- what an instruction does: only `getelementptr` has a memory type

@@ -1,5 +1,5 @@
--- What is known of a tree that some text says.
-use Rattle.std.specs.Prelude.{codes, true, false, ◌≡◌, ◌<◌, ◌^◌, ℕ, suc, List, [], ◌∷◌, length, map, replicate, Option, Some, None}
+-- What is known of a tree that some text says, and what more of one that can be printed: no number in that is out of its type's range.
+use Rattle.std.specs.Prelude.{codes, Bool, true, false, ◌≡◌, ◌<◌, ◌^◌, ℕ, suc, List, [], ◌∷◌, length, map, replicate, Option, Some, None}
 use Rattle.std.specs.List.{AllByRecursion, AllZip}
 use Rattle.forms.specs.declared.TokenKind.TheVariants.{Word}
 use Rattle.forms.specs.Form.{Form, Spells, either}
@@ -21,12 +21,17 @@ pub use Rattle.ir_types.specs.Types.{IsOneOf, widths, IsType}
 use Rattle.ir_types.specs.TypeNodes.{TypeNode, scalar, called, array, opening, closing}
 use Rattle.ir_types.specs.Collected.{collected}
 use Rattle.ir_types.specs.Grammar.{width_of, bits_for, element_of, shuffled, no_flags, wrap_flags, exact_flag, disjoint_flag, inst_attachments, kept, equal_string, target_line, attribute_group, comdat, metadata, behind_type}
-use Rattle.ir_types.specs.Tree.{KeptTexts, OperandTree, local, number, null, poison, lanes, global, InstTree, BlockTree, ParamTree, FunctionTree, ModuleTree, VariableTree, Item, head_line, comdat_line, type_item, variable_item, function_item, attribute_line, metadata_line}
+use Rattle.ir_types.specs.Tree.{KeptTexts, OperandTree, local, number, null, poison, lanes, global, out_of_range, InstTree, BlockTree, ParamTree, FunctionTree, ModuleTree, VariableTree, Item, head_line, comdat_line, type_item, variable_item, function_item, attribute_line, metadata_line}
 
 -- a number as a name has 32 bits
 abbrev pub IsName : Name → Type 0
 IsName (Text s) = Unit {0}
 IsName (Number n) = n < 2 ^ 32
+
+-- a name, where there is one
+abbrev pub IsNameThere : Option Name → Type 0
+IsNameThere None = Unit {0}
+IsNameThere (Some n) = IsName n
 
 -- the types of what a function returns: one of a value, or none
 abbrev pub IsReturnType : Ty → Type 0
@@ -69,7 +74,7 @@ abbrev pub AreLanes : Ty → List (Option ℕ) → Type 0
 AreLanes (Vector n w) xs = (0 < length xs) × AllByRecursion (IsLane w) xs
 AreLanes t xs = ⊥
 
--- a name, a number of the type, `null`, `poison`, lanes, or a symbol and a number of bytes of 64 bits
+-- a name, a number of the type, `null`, `poison`, lanes, or a symbol and a number of bytes of 64 bits; no number is out of its type's range
 abbrev pub IsOperand : Ty → OperandTree → Type 0
 IsOperand t (local n) = IsName n
 IsOperand t (number v) = IsBelow (width_of t) v
@@ -77,10 +82,20 @@ IsOperand t null = Unit {0}
 IsOperand t poison = Unit {0}
 IsOperand t (lanes xs) = AreLanes t xs
 IsOperand t (global n bytes) = IsName n × IsBelow 64 bytes
+IsOperand t (out_of_range n) = ⊥
+
+-- the same in an instruction that is wide or not: a wide one's may be out of range
+abbrev pub IsOperandIn : Bool → Ty → OperandTree → Type 0
+IsOperandIn wide t (out_of_range n) = (wide ≡ true) × IsNameThere n
+IsOperandIn wide t a = IsOperand t a
 
 -- a type that is written, and an operand at it
 abbrev pub IsTyped : Ty → OperandTree → Type 0
 IsTyped t a = IsType t × IsOperand t a
+
+-- the same in an instruction that is wide or not
+abbrev pub IsTypedIn : Bool → Ty → OperandTree → Type 0
+IsTypedIn wide t a = IsType t × IsOperandIn wide t a
 
 -- the types of so many operands: those of a phi's entries are the result's
 abbrev pub types_of_operands : Kind → Ty → ℕ → List Ty
@@ -179,19 +194,17 @@ HasParts (Call callee) n = IsCallee callee
 HasParts (Switch w cases) n = AllByRecursion (IsBelow w) cases
 HasParts kind n = Unit {0}
 
--- an instruction but for its result's name and its attachments
-pub record IsBody (i : InstTree) : Type 0 where
-  pub args : AllZip IsTyped (types_of_operands i.kind i.ty (length i.args)) i.args
+-- an instruction but for its result's name and its attachments, each of whose operands is so at its type
+pub record IsBodyOf (P : Ty → OperandTree → Type 0) (i : InstTree) : Type 0 where
+  pub args : AllZip P (types_of_operands i.kind i.ty (length i.args)) i.args
   pub labels : AllByRecursion IsName i.labels
   pub count : length i.labels ≡ label_count i.kind (length i.args)
   pub result : HasResult i.kind i.ty
   pub parts : HasParts i.kind (length i.args)
-  pub narrow : i.wide ≡ false
 
--- a name, where there is one
-abbrev pub IsNameThere : Option Name → Type 0
-IsNameThere None = Unit {0}
-IsNameThere (Some n) = IsName n
+-- the same, where no operand is out of range
+abbrev pub IsBody : InstTree → Type 0
+IsBody i = IsBodyOf IsTyped i
 
 -- what has a type has a name
 abbrev pub IsResult : Ty → Option Name → Type 0
@@ -199,11 +212,18 @@ IsResult Void None = Unit {0}
 IsResult t None = ⊥
 IsResult t (Some n) = IsName n
 
--- an instruction, with its result's name where its type has a value
+-- an instruction that some text says, with its result's name where its type has a value: only a wide one has an operand that is out of range
+pub record IsReadInst (i : InstTree) : Type 0 where
+  pub body : IsBodyOf (IsTypedIn i.wide) i
+  pub result : IsResult i.ty i.result
+  pub attachments : IsKept inst_attachments i.kept
+
+-- an instruction that can be printed: the same, and not wide
 pub record IsInst (i : InstTree) : Type 0 where
   pub body : IsBody i
   pub result : IsResult i.ty i.result
   pub attachments : IsKept inst_attachments i.kept
+  pub narrow : i.wide ≡ false
 
 -- a terminator is the last instruction, and no other is one
 abbrev pub EndsOnce : List Kind → Type 0
@@ -211,11 +231,15 @@ EndsOnce [] = ⊥
 EndsOnce (k ∷ []) = IsTerminator k
 EndsOnce (k ∷ l ∷ ks) = (¬ IsTerminator k) × EndsOnce (l ∷ ks)
 
--- a block: a name, and instructions of which the last and no other is a terminator
-pub record IsBlock (b : BlockTree) : Type 0 where
+-- a block: a name, and instructions that are so, of which the last and no other is a terminator
+pub record IsBlockOf (P : InstTree → Type 0) (b : BlockTree) : Type 0 where
   pub name : IsName b.name
-  pub insts : AllByRecursion IsInst b.insts
+  pub insts : AllByRecursion P b.insts
   pub ending : EndsOnce (map (λ i. i.kind) b.insts)
+
+-- one that can be printed
+abbrev pub IsBlock : BlockTree → Type 0
+IsBlock b = IsBlockOf IsInst b
 
 -- ---- what is kept
 
@@ -245,15 +269,19 @@ pub record IsParam (p : ParamTree) : Type 0 where
   pub kept_texts : IsKept kept p.kept
   pub name : IsName p.name
 
--- a function, declared where it has no block; only a declared one takes further arguments
-pub record IsFunction (f : FunctionTree) : Type 0 where
+-- a function whose instructions are so, declared where it has no block; only a declared one takes further arguments
+pub record IsFunctionOf (P : InstTree → Type 0) (f : FunctionTree) : Type 0 where
   pub name : IsName f.name
   pub before : IsKept (before_form f.body) f.before
   pub ret : IsReturnType f.ret
   pub params : AllByRecursion IsParam f.params
   pub fixed : f.varargs ≡ true → f.body ≡ []
   pub after : IsKept (after_form f.body) f.after
-  pub blocks : AllByRecursion IsBlock f.body
+  pub blocks : AllByRecursion (IsBlockOf P) f.body
+
+-- one that can be printed
+abbrev pub IsFunction : FunctionTree → Type 0
+IsFunction f = IsFunctionOf IsInst f
 
 -- the type of a definition, where it is not opaque
 abbrev pub IsDefinition : Option (List TypeNode) → Type 0
@@ -267,18 +295,30 @@ pub record IsVariable (v : VariableTree) : Type 0 where
   pub ty : IsMemory v.ty
   pub after : IsKept behind_type v.after
 
--- an item
-abbrev pub IsItem : Item FunctionTree → Type 0
-IsItem (head_line xs) = IsKept head_form xs
-IsItem (comdat_line xs) = IsKept comdat xs
-IsItem (type_item n t) = IsName n × IsDefinition t
-IsItem (variable_item v) = IsVariable v
-IsItem (function_item f) = IsFunction f
-IsItem (attribute_line xs) = IsKept attributes_form xs
-IsItem (metadata_line xs) = IsKept metadata xs
+-- an item, where instructions are so
+abbrev pub IsItemOf : (InstTree → Type 0) → Item FunctionTree → Type 0
+IsItemOf P (head_line xs) = IsKept head_form xs
+IsItemOf P (comdat_line xs) = IsKept comdat xs
+IsItemOf P (type_item n t) = IsName n × IsDefinition t
+IsItemOf P (variable_item v) = IsVariable v
+IsItemOf P (function_item f) = IsFunctionOf P f
+IsItemOf P (attribute_line xs) = IsKept attributes_form xs
+IsItemOf P (metadata_line xs) = IsKept metadata xs
 
--- a module: what such items are collected to
-pub record IsModule (m : ModuleTree) : Type 0 where
+-- one that can be printed
+abbrev pub IsItem : Item FunctionTree → Type 0
+IsItem i = IsItemOf IsInst i
+
+-- a module whose instructions are so: what such items are collected to
+pub record IsModuleOf (P : InstTree → Type 0) (m : ModuleTree) : Type 0 where
   pub items : List (Item FunctionTree)
-  pub known : AllByRecursion IsItem items
+  pub known : AllByRecursion (IsItemOf P) items
   pub says : collected items ≡ m
+
+-- a module that some text says
+abbrev pub IsReadModule : ModuleTree → Type 0
+IsReadModule m = IsModuleOf IsReadInst m
+
+-- one that can be printed
+abbrev pub IsModule : ModuleTree → Type 0
+IsModule m = IsModuleOf IsInst m
