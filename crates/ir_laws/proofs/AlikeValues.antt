@@ -22,7 +22,7 @@ use Rattle.ir_types.specs.Memory.{Memory}
 use Rattle.ir_types.specs.State.{Env, same_id, set_value}
 use Rattle.ir_types.specs.Meaning.{operand_value, operand_types, values_of, Effect, Sets, Goes, Leaves, Fails, Waits, gives, branched, is_phi, effect_of, effect_with, effect_in, entry_for, phi_value, set_result, after_phis, arguments_in}
 use Rattle.ir_laws.proofs.Pairs.{Both, both_none, both_some, both-equal, both-same}
-use Rattle.ir_laws.proofs.Positions.{SameId, same-test, SameOperand, same_local, same_int, same_null, same_poison, same_lanes, same_global, but_type, SameInst, SameParam}
+use Rattle.ir_laws.proofs.Positions.{SameId, same-test, SameOperand, same_local, same_int, same_null, same_poison, same_lanes, same_global, same_out_of_range, but_type, SameInst, SameParam}
 
 -- positions that name the same have the same values
 pub record SameValues (ns ns' : List Name) (env env' : Env) : Type 0 where
@@ -84,6 +84,7 @@ module _ (m m' : Module) (memory : Memory) (ns ns' : List Name) where
   operand-same env env' h ty a b same_poison = refl
   operand-same env env' h ty a b same_lanes = refl
   operand-same env env' h ty a b same_global = refl
+  operand-same env env' h ty a b same_out_of_range = refl
 
   values-same : (env env' : Env) → SameValues ns ns' env env' → (types : List Ty) (args args' : List Operand) → AllZip (SameOperand ns ns') args args' → values_of m memory env types args ≡ values_of m' memory env' types args'
   values-same env env' h types [] (b ∷ others) s = absurd s

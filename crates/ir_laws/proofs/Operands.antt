@@ -5,7 +5,7 @@ use Rattle.forms.specs.Bind.{◌>>=◌}
 use Rattle.ir_types.specs.declared.name.ValueId.{ValueId}
 use Rattle.ir_types.specs.declared.inst.Ty.{Ty}
 use Rattle.ir_types.specs.declared.inst.Operand.{Operand}
-use Rattle.ir_types.specs.declared.inst.Operand.TheVariants.{Local, Int as IntOperand, Null, Poison as PoisonOperand, Lanes as LanesOperand, Global}
+use Rattle.ir_types.specs.declared.inst.Operand.TheVariants.{Local, Int as IntOperand, Null, Poison as PoisonOperand, Lanes as LanesOperand, Global, OutOfRange}
 use Rattle.ir_types.specs.declared.inst.Inst.{Inst}
 use Rattle.ir_types.specs.declared.module.Module.{Module}
 use Rattle.ir_types.specs.declared.value.Value.{Value}
@@ -54,6 +54,7 @@ module _ (m : Module) (here other : Memory) (types : ValueId → Ty) (env there 
   operand-respects ty PoisonOperand w mem h is e = constant-given ty (poison_of ty) w e
   operand-respects ty (LanesOperand xs) w mem h is e = constant-given ty (Lanes (lane_width ty) xs) w e
   operand-respects ty (Global i bytes) w mem h is e = absurd (cc)
+  operand-respects ty (OutOfRange i) w mem h is e = absurd (cc)
 
   -- the values of a list of operands
   abbrev GivenAll : List Ty → Option (List Value) → List Value → Type 0

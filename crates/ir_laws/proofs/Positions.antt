@@ -7,7 +7,7 @@ use Rattle.ir_types.specs.declared.name.Name.{Name}
 use Rattle.ir_types.specs.declared.name.Name.TheVariants.{Number}
 use Rattle.ir_types.specs.declared.name.ValueId.{ValueId}
 use Rattle.ir_types.specs.declared.inst.Operand.{Operand}
-use Rattle.ir_types.specs.declared.inst.Operand.TheVariants.{Local, Int, Null, Poison, Lanes, Global}
+use Rattle.ir_types.specs.declared.inst.Operand.TheVariants.{Local, Int, Null, Poison, Lanes, Global, OutOfRange}
 use Rattle.ir_types.specs.declared.inst.InstKind.{InstKind}
 use Rattle.ir_types.specs.declared.inst.InstKind.TheVariants as insts
 use Rattle.ir_types.specs.declared.inst.Inst.{Inst}
@@ -69,6 +69,8 @@ pub data SameOperand (ns ns' : List Name) : Operand → Operand → Type 0 where
   same_lanes : {xs : List (Option ℕ)} → SameOperand ns ns' (Lanes xs) (Lanes xs)
   -- symbols, wherever they stand in the modules' lists
   same_global : {i j bytes : ℕ} → SameOperand ns ns' (Global i bytes) (Global j bytes)
+  -- what has no value, whatever the symbol
+  same_out_of_range : {i j : Option ℕ} → SameOperand ns ns' (OutOfRange i) (OutOfRange j)
 
 -- what an instruction does, whatever the place of its memory type
 abbrev pub but_type : InstKind → InstKind
@@ -147,6 +149,7 @@ module _ (t t' : Tables) (ns ns' : List Name) where
   operand-images Poison Poison p q e = same_poison
   operand-images (Lanes xs) (Lanes ys) p q e = let same : xs ≡ ys = cc in subst (λ x. SameOperand ns ns' (Lanes xs) (Lanes x)) same same_lanes
   operand-images (Global i bytes) (Global j more) p q e = let same : bytes ≡ more = cc in subst (λ x. SameOperand ns ns' (Global i bytes) (Global j x)) same same_global
+  operand-images (OutOfRange i) (OutOfRange j) p q e = same_out_of_range
   operand-images a b p q e = absurd (cc)
 
   result-images : (o p : Option ValueId) → IfSome o (IsPlace ns) → IfSome p (IsPlace ns') → option_map (name_in ns) o ≡ option_map (name_in ns') p → Both (SameId ns ns') o p
