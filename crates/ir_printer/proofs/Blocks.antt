@@ -1,7 +1,7 @@
 -- The pieces that a block is printed as write it.
-use Rattle.std.proofs.Common.{◌≡◌, List, [], ◌∷◌, ◌++◌, Option, Some, None, Bool, false, refl, sym, ap, subst}
+use Rattle.std.proofs.Common.{◌≡◌, ◌||◌, List, [], ◌∷◌, ◌++◌, Option, Some, None, Bool, false, refl, sym, ap, subst}
 use Rattle.std.specs.Prelude.{map, codes}
-use Rattle.std.specs.List.{AllByRecursion}
+use Rattle.std.specs.List.{AllByRecursion, AllZip, list_any}
 use Rattle.std.proofs.lemmas.List.{append-nil}
 use Rattle.forms.specs.declared.TokenKind.TheVariants as kinds
 use Rattle.forms.specs.Form.{Form, pair, many, by_word}
@@ -15,9 +15,9 @@ use Rattle.ir_types.specs.Denotes.{Tables, name_in, kind_in, inst_in, block_in}
 use Rattle.ir_types.specs.Offsets.{Definitions}
 use Rattle.ir_types.specs.Types.{AreTypes}
 use Rattle.text_lex.specs.KeptText.{kept_behind}
-use Rattle.ir_types.specs.Tree.{InstTree}
-use Rattle.ir_types.specs.Grammar.{bare_inst, with_kept, attached, label, operation_words, operation_behind, operation, terminator, named_by, line, block}
-use Rattle.ir_shape.specs.Shape.{IsName, IsBody, IsInst, IsResult, IsTerminator, EndsOnce, IsBlock}
+use Rattle.ir_types.specs.Tree.{OperandTree, local, number, null, poison, lanes, global, out_of_range, InstTree}
+use Rattle.ir_types.specs.Grammar.{bare_inst, is_out_of_range, with_kept, attached, label, operation_words, operation_behind, operation, terminator, named_by, line, block}
+use Rattle.ir_shape.specs.Shape.{IsName, IsOperand, IsTyped, IsBody, IsInst, IsResult, IsTerminator, EndsOnce, IsBlock}
 use Rattle.type_printer.specs.Pieces.{line_feed, indent, label_token, each_behind}
 use Rattle.type_printer.proofs.Laid.{nothing_behind, token_laid}
 use Rattle.type_printer.proofs.Names.{local_again, local_kind, label_kind}
@@ -49,15 +49,33 @@ abbrev stripped : InstTree → InstTree
 stripped i = bare_inst i.kind i.ty i.args i.labels
 
 stripped_body : (i : InstTree) → IsBody i → IsBody (stripped i)
-stripped_body i h = record { args = h.args; labels = h.labels; count = h.count; result = h.result; parts = h.parts; narrow = refl }
+stripped_body i h = record { args = h.args; labels = h.labels; count = h.count; result = h.result; parts = h.parts }
+
+-- no operand is out of range
+in_range : (t : Ty) (a : OperandTree) → IsOperand t a → is_out_of_range a ≡ false
+in_range t (local n) h = refl
+in_range t (number v) h = refl
+in_range t null h = refl
+in_range t poison h = refl
+in_range t (lanes xs) h = refl
+in_range t (global n bytes) h = refl
+in_range t (out_of_range n) h = absurd h
+
+all_in_range : (ts : List Ty) (args : List OperandTree) → AllZip IsTyped ts args → list_any is_out_of_range args ≡ false
+all_in_range ts [] h = refl
+all_in_range [] (a ∷ args) h = absurd h
+all_in_range (t ∷ ts) (a ∷ args) h = rw (in_range t a h.0.1, all_in_range ts args h.1) refl
+
+none_wide : (args : List OperandTree) (wide : Bool) → list_any is_out_of_range args ≡ false → wide ≡ false → (list_any is_out_of_range args || false) ≡ wide
+none_wide args wide e f = rw e (sym f)
 
 -- with them again
-same_again : (i : InstTree) → i.wide ≡ false → named_by (with_kept (stripped i) i.kept) i.result ≡ i
-same_again i e = ap (λ (b : Bool). record i { wide = b }) (sym e)
+same_again : (i : InstTree) → IsInst i → named_by (with_kept (stripped i) i.kept) i.result ≡ i
+same_again i h = ap (λ (b : Bool). record i { wide = b }) (none_wide i.args i.wide (all_in_range _ i.args h.body.args) h.narrow)
 
 line_writes : (f : Form InstTree) (i : InstTree) (ps : List Piece) → IsInst i → Writes closed f (stripped i) ps → Writes closed (line (attached f)) i (result_pieces i.result ++ (ps ++ (kept_behind [] i.kept ++ (line_feed ∷ []))))
 line_writes f i ps h w =
-    subst (λ (j : InstTree). Writes closed (line (attached f)) j (result_pieces i.result ++ (ps ++ (kept_behind [] i.kept ++ (line_feed ∷ []))))) (same_again i h.body.narrow)
+    subst (λ (j : InstTree). Writes closed (line (attached f)) j (result_pieces i.result ++ (ps ++ (kept_behind [] i.kept ++ (line_feed ∷ []))))) (same_again i h)
     (with_result (attached f) (with_kept (stripped i) i.kept) i.ty i.result _ h.result (mapped_writes (stripped i, i.kept) _ refl (both w (with_feed (behind_kept h.attachments)))))
 
 -- the form of an instruction that goes on, or that ends a block

@@ -1,7 +1,7 @@
 -- The pieces that an instruction is printed as, behind its result and before its attachments, write it.
-use Rattle.std.proofs.Common.{◌≡◌, ◌<◌, ℕ, true, Bool, List, [], ◌∷◌, ◌++◌, length, Some, refl, sym, ap, subst, arith, eqb}
-use Rattle.std.specs.Prelude.{map, codes, replicate}
-use Rattle.std.specs.List.{AllByRecursion, AllZip, list_all, zip}
+use Rattle.std.proofs.Common.{◌≡◌, ◌<◌, ℕ, true, false, Bool, List, [], ◌∷◌, ◌++◌, length, Some, refl, sym, ap, subst, arith, eqb}
+use Rattle.std.specs.Prelude.{not, map, codes, replicate}
+use Rattle.std.specs.List.{AllByRecursion, AllZip, list_all, list_any, zip}
 use Rattle.std.proofs.lemmas.Bool.{eq-eqb}
 use Rattle.std.proofs.lemmas.List.{append-nil}
 use Rattle.forms.specs.declared.TokenKind.TheVariants as kinds
@@ -30,7 +30,7 @@ use Rattle.ir_types.specs.declared.opcode.Operation.TheVariants as operations
 use Rattle.ir_types.specs.declared.opcode.Terminator.TheVariants as terminators
 use Rattle.ir_types.specs.Written.{number_at}
 use Rattle.ir_types.specs.Tree.{OperandTree, InstTree}
-use Rattle.ir_types.specs.Grammar.{WrittenValue, wrap_flags, exact_flag, disjoint_flag, no_flags, bits_for, element_of, shuffled, bare_inst, overflowing, possibly_exact, plain_binary, or_operation, predicates, call, compared, compare, select, freeze, trunc, zext, sext, ptrtoint, entry_of_phi, entries_at, phi, load, store, extractelement, insertelement, shufflevector, branch, case_of_switch, switch, void_tree, unreachable_tree, ret, operation_words, operation_behind, terminator_words, terminator_behind}
+use Rattle.ir_types.specs.Grammar.{WrittenValue, wrap_flags, exact_flag, disjoint_flag, no_flags, bits_for, element_of, shuffled, bare_inst, overflowing, possibly_exact, plain_binary, or_operation, predicates, call, compared, compare, select, freeze, trunc, zext, sext, ptrtoint, entry_of_phi, entries_at, phi, load, store, extractelement, insertelement, shufflevector, branch, case_of_switch, index_fits, switch, void_tree, unreachable_tree, ret, operation_words, operation_behind, terminator_words, terminator_behind}
 use Rattle.ir_shape.specs.Shape.{IsName, IsOneOf, widths, IsType, IsBelow, IsTyped, IsTerminator, HasFlags, IsBody}
 use Rattle.type_printer.specs.Texts.{signed_text}
 use Rattle.type_printer.specs.MemoryPieces.{memory_pieces}
@@ -41,7 +41,7 @@ use Rattle.type_printer.proofs.Laid.{Separates, loose, mark_laid, nothing_behind
 use Rattle.type_printer.proofs.LaidOut.{bracket_kinds}
 use Rattle.type_printer.proofs.Writes.{Writes, both, spaced, ended, regrouped, left_writes, right_writes, mapped_writes, made_writes, word_writes, behind_writes, by_word_writes, after_comma, between_writes, bracketed, EachWrites, commas_write, many_behind}
 use Rattle.ir_printer.specs.Print.{operator_word, predicate_word, flags_pieces, call_words, typed_operand, typed_pieces, listed_pieces, entry_pieces, entries_of, before_case, case_pieces, cases_of, switch_pieces, align_pieces, kind_pieces}
-use Rattle.ir_printer.proofs.Numbers.{signed_again}
+use Rattle.ir_printer.proofs.Numbers.{signed_again, signed_fits}
 use Rattle.type_printer.proofs.InstMemory.{memory_writes}
 use Rattle.ir_printer.proofs.Words.{local_writes, width_writes, type_writes, signed_writes}
 use Rattle.ir_printer.proofs.Calls.{offset_writes, call_writes}
@@ -243,6 +243,11 @@ numbers_again w i [] labels e h = refl
 numbers_again w i (n ∷ ns) [] e h = absurd (omega arith)
 numbers_again w i (n ∷ ns) (l ∷ labels) e h = let b = width_within w i in rw (signed_again w n b.0 b.1 h.0, numbers_again w i ns labels (omega arith) h.1) refl
 
+cases_fit : (w : ℕ) → IsOneOf widths w → (ns : List ℕ) (labels : List Name) → AllByRecursion (IsBelow w) ns → list_any (λ (c : (ℕ × List ℕ) × Name). not (index_fits c.0)) (map (written_case w) (zip ns labels)) ≡ false
+cases_fit w i [] labels h = refl
+cases_fit w i (n ∷ ns) [] h = refl
+cases_fit w i (n ∷ ns) (l ∷ labels) h = let b = width_within w i in rw (signed_fits w n b.0 b.1 h.0, cases_fit w i ns labels h.1) refl
+
 labels_again : (w : ℕ) (ns : List ℕ) (labels : List Name) → length labels ≡ length ns → map (λ (c : (ℕ × List ℕ) × Name). c.1) (map (written_case w) (zip ns labels)) ≡ labels
 labels_again w [] [] e = refl
 labels_again w [] (l ∷ labels) e = absurd (omega arith)
@@ -256,7 +261,7 @@ switch_writes : (defs : Definitions) (w : ℕ) (ns : List ℕ) (a : OperandTree)
     → Writes open_ (switch defs) (bare_inst (kinds_of.Switch w ns) Void (a ∷ []) (l ∷ labels)) ((blank ∷ (typed_operand (Int w) a ++ [])) ++ switch_pieces w ns (l ∷ labels))
 unfolding switch
 switch_writes defs w ns a l labels x i h g e =
-    made_writes ((w, a), (l, map (written_case w) (zip ns labels))) _ (rw (same_widths w (zip ns labels), numbers_again w x.typed ns labels e h, labels_again w ns labels e) refl)
+    made_writes ((w, a), (l, map (written_case w) (zip ns labels))) _ (rw (same_widths w (zip ns labels), numbers_again w x.typed ns labels e h, cases_fit w x.typed ns labels h, labels_again w ns labels e) refl)
     (spaced (both (ended (index_writes x)) (both (after_comma (target_writes l i)) (spaced (between_writes kinds.LeftBracket kinds.RightBracket (codes "[") (codes "]") (each_behind (before_case ∷ []) (cases_of w ns labels)) _ bracket_kinds.2 refl
     (gap_laid 10 _ refl (loose (mark_laid kinds.RightBracket (codes "]") refl bracket_kinds.3 (loose nothing_behind)))) refl (many_behind _ cases_part (case_writes w x.typed) (zip ns labels) (cases_known w ns labels h g)))))))
 

@@ -1,6 +1,6 @@
 -- What is printed of a number is that number.
-use Rattle.std.proofs.Common.{◌≡◌, ◌≤◌, ◌<◌, ◌+◌, ◌-◌, ◌%◌, ◌^◌, ℕ, zero, suc, true, List, [], ◌∷◌, Some, refl, ◌∙◌, arith, inl, inr}
-use Rattle.std.specs.Prelude.{nat_lt, decimal}
+use Rattle.std.proofs.Common.{◌≡◌, ◌≤◌, ◌<◌, ◌+◌, ◌-◌, ◌%◌, ◌^◌, ℕ, zero, suc, Bool, true, false, List, [], ◌∷◌, Some, refl, ◌∙◌, arith, inl, inr}
+use Rattle.std.specs.Prelude.{nat_lt, nat_le, decimal}
 use Rattle.std.proofs.Math.Nat.{mod-eq_of_lt, two-pow-succ}
 use Rattle.std.proofs.Math.Pow.{pow_mono}
 use Rattle.std.proofs.lemmas.Nat.{pow_pos}
@@ -11,7 +11,7 @@ use Rattle.text_lex.specs.Names.{is_digits}
 use Rattle.forms.proofs.Begins.{test}
 use Rattle.text_lex.proofs.Decimals.{decimal_digits}
 use Rattle.text_lex.proofs.Printed.{number_digits, number_negative}
-use Rattle.ir_types.specs.Written.{number_of, number_at}
+use Rattle.ir_types.specs.Written.{number_of, number_at, fits_width}
 use Rattle.type_printer.specs.Texts.{signed_text}
 use Rattle.text_lex.proofs.Decimals.{number_of-decimal}
 use Rattle.type_printer.proofs.Numbers.{no_sign}
@@ -48,6 +48,40 @@ signed_again w v p h lt = elim (test (nat_lt v (2 ^ (w - 1)))) [
       let d = number_of-decimal (2 ^ w - v) (few_digits w (2 ^ w - v) h (omega arith)) in
       rw (n, d) (negative_again (2 ^ w) v (omega arith) lt)
 ]
+
+-- ---- and they are in range
+
+pub is_less : (m n : ℕ) → m < n → nat_lt m n ≡ true
+is_less m n lt = by (nat_lt m n) refl
+  where
+    by : (b : Bool) → nat_lt m n ≡ b → nat_lt m n ≡ true
+    by true e = e
+    by false e = let ge : n ≤ m = grind (arith, nat_tests) in absurd (omega arith)
+
+is_at_most : (m n : ℕ) → m ≤ n → nat_le m n ≡ true
+is_at_most m n le = by (nat_le m n) refl
+  where
+    by : (b : Bool) → nat_le m n ≡ b → nat_le m n ≡ true
+    by true e = e
+    by false e = let gt : n < m = grind (arith, nat_tests) in absurd (omega arith)
+
+digits_fit : (w : ℕ) (ds : List ℕ) → is_digits ds ≡ true → fits_width w ds ≡ nat_lt (number_of ds) (2 ^ w)
+digits_fit w [] h = absurd cc
+digits_fit w (d ∷ ds) h = rw (no_sign d ds h) refl
+
+pub signed_fits : (w v : ℕ) → 0 < w → w ≤ 64 → v < 2 ^ w → fits_width w (signed_text w v) ≡ true
+unfolding signed_text
+signed_fits w v p h lt = elim (test (nat_lt v (2 ^ (w - 1)))) [
+  | inl y ↦ rw y (digits_fit w (decimal v) (decimal_digits v (few_digits w v h (omega arith))) ∙ rw (number_of-decimal v (few_digits w v h (omega arith))) (is_less v (2 ^ w) lt))
+  | inr n ↦
+      let ge : 2 ^ (w - 1) ≤ v = grind (arith, nat_tests) in
+      let both = two_halves w p in
+      let most : 2 ^ w - v ≤ 2 ^ (w - 1) = omega (arith, both) in
+      let d = number_of-decimal (2 ^ w - v) (few_digits w (2 ^ w - v) h (omega arith)) in
+      rw (n, d) (is_at_most (2 ^ w - v) (2 ^ (w - 1)) most)
+]
+
+-- ---- their tokens
 
 pub signed_kind : (w v : ℕ) → w ≤ 64 → v < 2 ^ w → kind_of (signed_text w v) ≡ Some Number
 unfolding signed_text

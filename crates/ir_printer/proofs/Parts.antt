@@ -2,7 +2,6 @@
 use Rattle.std.proofs.Common.{◌≡◌, ◌<◌, ◌%◌, ◌^◌, ℕ, suc, Bool, true, false, List, [], ◌∷◌, ◌++◌, length, Some, None, refl, ◌∙◌, arith}
 use Rattle.std.specs.Prelude.{codes, decimal}
 use Rattle.std.specs.List.{AllByRecursion}
-use Rattle.std.proofs.Math.Nat.{mod-eq_of_lt}
 use Rattle.forms.specs.declared.TokenKind.TheVariants as kinds
 use Rattle.forms.specs.Lexical.{kind_of, table}
 use Rattle.forms.specs.Form.{Form}
@@ -14,13 +13,14 @@ use Rattle.text_lex.proofs.Printed.{number_digits}
 use Rattle.ir_types.specs.declared.name.Name.{Name}
 use Rattle.ir_types.specs.declared.inst.Ty.{Ty}
 use Rattle.ir_types.specs.Offsets.{Definitions}
-use Rattle.ir_types.specs.Written.{number_of}
+use Rattle.ir_types.specs.Written.{number_of, at_most_64_bits}
 use Rattle.ir_types.specs.Tree.{OperandTree}
 use Rattle.ir_types.specs.Grammar.{typed_pair, to_type, target, alignment_of, alignment, one_flag, two_flags, three_flags, flag_then}
 use Rattle.ir_shape.specs.Shape.{IsName, IsType, IsBelow}
 use Rattle.type_printer.proofs.Numbers.{no_sign}
 use Rattle.type_printer.proofs.Writes.{Writes, both, spaced, ended, mapped_writes, made_writes, exactly_writes, one_writes, behind_writes, left_writes, right_writes, none_writes, there_writes, after_comma, marked_comma}
 use Rattle.ir_printer.specs.Print.{flag_pieces, wrap_pieces, offset_flags, typed_pieces, to_pieces, align_pieces, target_pieces}
+use Rattle.ir_printer.proofs.Numbers.{is_less}
 use Rattle.ir_printer.proofs.Words.{local_writes, type_writes}
 use Rattle.ir_printer.proofs.Values.{IsWritten}
 
@@ -79,14 +79,14 @@ pub target_writes : (l : Name) → IsName l → Writes closed target l (target_p
 unfolding target
 target_writes l h = behind_writes (codes "label") part_kinds.3 (spaced (local_writes l h))
 
-digits_aligned : (ds : List ℕ) → is_digits ds ≡ true → alignment_of ds ≡ Some (number_of ds % 2 ^ 64)
+digits_aligned : (ds : List ℕ) → is_digits ds ≡ true → alignment_of ds ≡ Some (at_most_64_bits (number_of ds))
 digits_aligned [] h = absurd cc
 digits_aligned (d ∷ ds) h = rw (no_sign d ds h) refl
 
 align_again : (n : ℕ) → IsBelow 64 n → alignment_of (decimal n) ≡ Some n
 align_again n h =
     let few : n < 10 ^ 64 = omega arith in
-    digits_aligned (decimal n) (decimal_digits n few) ∙ rw (number_of-decimal n few, mod-eq_of_lt h) refl
+    digits_aligned (decimal n) (decimal_digits n few) ∙ rw (number_of-decimal n few, is_less n (2 ^ 64) h) refl
 
 pub align_writes : (n : ℕ) → IsBelow 64 n → Writes open_ alignment (Some n) (align_pieces n)
 unfolding alignment

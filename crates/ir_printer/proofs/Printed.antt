@@ -1,4 +1,4 @@
--- What is printed of a module that some text reads as reads as that module.
+-- What is printed of a module that some text reads as, and in which no instruction is wide, reads as that module.
 use Rattle.std.proofs.Common.{◌≡◌, List, sym, ap, ◌∙◌}
 use Rattle.std.specs.Prelude.{map}
 use Rattle.std.specs.List.{AllByRecursion}
@@ -14,7 +14,8 @@ use Rattle.ir_types.specs.Tree.{WrittenFunction, Item}
 use Rattle.ir_types.specs.Grammar.{SpellsModule, module_form}
 use Rattle.ir_types.specs.Reads.{Reads, IsReadable}
 use Rattle.ir_shape.specs.Shape.{IsFunction, IsModule}
-use Rattle.ir_shape.proofs.Known.{readable_known}
+use Rattle.ir_shape.specs.Narrow.{IsNarrow}
+use Rattle.ir_shape.proofs.Known.{narrow_known}
 use Rattle.ir_printer.specs.Print.{module_pieces}
 use Rattle.ir_printer.proofs.Grouped.{printed_items, printed_known, printed_collected, functions_known}
 use Rattle.ir_printer.proofs.Numbering.{written_item, numbered_again}
@@ -28,9 +29,9 @@ spells_module : (m : Module) → IsPrinted (definitions_in (items_of m)) m → S
 unfolding module_form
 spells_module m p = p.says.spells
 
-pub printed_reads : (m : Module) → IsReadable m → Reads (text_of (module_pieces m)) m
-printed_reads m (text, r) =
-    let shape : IsModule (tree_of m) = readable_known m (text, r) in
+pub printed_reads : (m : Module) → IsReadable m → IsNarrow m → Reads (text_of (module_pieces m)) m
+printed_reads m (text, r) n =
+    let shape : IsModule (tree_of m) = narrow_known m (text, r) n in
     let known = printed_known (tree_of m) shape in
     let lines = module_printed (definitions_in (items_of m)) m r.denotes.types known in
     let d = r.denotes in
@@ -54,8 +55,8 @@ printed_reads m (text, r) =
     }
 
 -- Each of its functions has the shape of one.
-pub readable_functions : (m : Module) → IsReadable m → AllByRecursion IsFunction (map (function_in (tables_of m)) m.functions)
-readable_functions m r = functions_known (tree_of m) (readable_known m r)
+pub readable_functions : (m : Module) → IsReadable m → IsNarrow m → AllByRecursion IsFunction (map (function_in (tables_of m)) m.functions)
+readable_functions m r n = functions_known (tree_of m) (narrow_known m r n)
 
 -- Each of its types stands behind its parts.
 pub readable_types : (m : Module) → IsReadable m → AreTypes (type_names_of m) 0 m.types

@@ -11,8 +11,8 @@ use Rattle.ir_types.specs.declared.name.Name.{Name}
 use Rattle.ir_types.specs.declared.inst.Ty.{Ty}
 use Rattle.ir_types.specs.declared.inst.Ty.TheVariants.{Int, Ptr, Vector}
 use Rattle.ir_types.specs.Offsets.{Definitions}
-use Rattle.ir_types.specs.Tree.{OperandTree, local, number, null, poison, lanes, global}
-use Rattle.ir_types.specs.Grammar.{WrittenLane, lane_digits, lane_true, lane_false, lane_poison, lane, typed_lane, WrittenValue, named, digits, yes, no, null_word, poison_word, lane_list, symbol, stepped, constant_word, value, width_of, lane_at, is_int, operand_at, typed_value, pointer_value, index_value}
+use Rattle.ir_types.specs.Tree.{OperandTree, local, number, null, poison, lanes, global, out_of_range}
+use Rattle.ir_types.specs.Grammar.{WrittenLane, lane_digits, lane_true, lane_false, lane_poison, lane, typed_lane, WrittenValue, named, digits, yes, no, null_word, poison_word, lane_list, symbol, stepped, constant_word, value, width_of, lane_at, lane_fits, is_int, operand_at, typed_value, pointer_value, index_value}
 use Rattle.ir_shape.specs.Shape.{IsName, IsOneOf, widths, IsType, IsBelow, IsLane, IsOperand, IsTyped}
 use Rattle.type_printer.specs.Texts.{signed_text}
 use Rattle.type_printer.specs.Pieces.{word, greater, type_pieces}
@@ -21,9 +21,9 @@ use Rattle.type_printer.proofs.LaidOut.{angle_kinds}
 use Rattle.type_printer.proofs.Widths.{width_within, type_within}
 use Rattle.type_printer.proofs.Writes.{Writes, both, spaced, left_writes, right_writes, mapped_writes, made_writes, word_writes, behind_writes, between_writes, EachWrites, commas_write}
 use Rattle.ir_printer.specs.Print.{number_token, lane_value, lane_pieces, global_pieces, operand_pieces, typed_operand}
-use Rattle.ir_printer.proofs.Numbers.{signed_again}
+use Rattle.ir_printer.proofs.Numbers.{signed_again, signed_fits}
 use Rattle.ir_printer.proofs.Words.{value_kinds, local_writes, global_writes, width_writes, type_writes, signed_writes}
-use Rattle.ir_printer.proofs.Symbols.{bytes_behind, written_steps, steps_write}
+use Rattle.ir_printer.proofs.Symbols.{steps_again, written_steps, steps_write}
 
 -- how a value is written at a type
 pub record IsWritten (defs : Definitions) (t : Ty) (a : OperandTree) : Type 0 where
@@ -43,7 +43,7 @@ unfolding value number_token
 signed_written defs t v e h lt = let w = type_within t h in record {
   typed = h;
   as_value = digits (signed_text (width_of t) v);
-  is = ap (λ (n : ℕ). Some (number n)) (signed_again (width_of t) v w.0 w.1 lt);
+  is = rw (signed_fits (width_of t) v w.0 w.1 lt, signed_again (width_of t) v w.0 w.1 lt) refl;
   writes = rw e (right_writes (left_writes (mapped_writes _ _ refl (signed_writes (width_of t) v w.1 lt))));
 }
 
@@ -58,6 +58,7 @@ number_written defs t v i h = elim (test (eqb (width_of t) 1)) [
 -- how a lane of so many bits is written
 record IsLaneWritten (w : ℕ) (x : Option ℕ) (written : WrittenLane) : Type 0 where
   is : lane_at w written ≡ x
+  fits : lane_fits w written ≡ true
   writes : Writes closed lane written (lane_value (Int w) x ∷ [])
 
 written_lane : ℕ → Option ℕ → WrittenLane
@@ -66,20 +67,21 @@ written_lane w (Some v) = cond (eqb w 1) (cond (eqb v 1) lane_true lane_false) (
 
 bit_lane : (w v : ℕ) → v < 2 → eqb w 1 ≡ true → IsLaneWritten w (Some v) (cond (eqb v 1) lane_true lane_false)
 unfolding lane number_token
-bit_lane w zero lt e = record { is = refl; writes = rw e (right_writes (right_writes (left_writes (word_writes _ lane_false value_kinds.1)))) }
-bit_lane w (suc zero) lt e = record { is = refl; writes = rw e (right_writes (left_writes (word_writes _ lane_true value_kinds.0))) }
+bit_lane w zero lt e = record { is = refl; fits = refl; writes = rw e (right_writes (right_writes (left_writes (word_writes _ lane_false value_kinds.1)))) }
+bit_lane w (suc zero) lt e = record { is = refl; fits = refl; writes = rw e (right_writes (left_writes (word_writes _ lane_true value_kinds.0))) }
 bit_lane w (suc (suc v)) lt e = absurd (omega arith)
 
 signed_lane : (w v : ℕ) → IsOneOf widths w → IsBelow w v → eqb w 1 ≡ false → IsLaneWritten w (Some v) (lane_digits (signed_text w v))
 unfolding lane number_token
 signed_lane w v h lt e = let b = width_within w h in record {
   is = ap (λ (n : ℕ). Some n) (signed_again w v b.0 b.1 lt);
+  fits = signed_fits w v b.0 b.1 lt;
   writes = rw e (left_writes (mapped_writes _ _ refl (signed_writes w v b.1 lt)));
 }
 
 lane_written : (w : ℕ) → IsOneOf widths w → (x : Option ℕ) → IsLane w x → IsLaneWritten w x (written_lane w x)
 unfolding lane written_lane
-lane_written w h None g = record { is = refl; writes = right_writes (right_writes (right_writes (word_writes _ lane_poison value_kinds.3))) }
+lane_written w h None g = record { is = refl; fits = refl; writes = right_writes (right_writes (right_writes (word_writes _ lane_poison value_kinds.3))) }
 lane_written w h (Some v) g = elim (test (eqb w 1)) [
   | inl y ↦ let l : v < 2 = rw (eqb-true w 1 y) at g in rw y (bit_lane w v l y)
   | inr n ↦ rw n (signed_lane w v h g n)
@@ -97,6 +99,11 @@ unfolding typed_written
 lanes_typed w [] = refl
 lanes_typed w (x ∷ xs) = let e : eqb w w ≡ true = eq-eqb w w refl in rw e (lanes_typed w xs)
 
+lanes_fit : (w : ℕ) → IsOneOf widths w → (xs : List (Option ℕ)) → AllByRecursion (IsLane w) xs → list_all (λ (x : Ty × WrittenLane). lane_fits w x.1) (map (typed_written w) xs) ≡ true
+unfolding typed_written
+lanes_fit w h [] g = refl
+lanes_fit w h (x ∷ xs) g = rw ((lane_written w h x g.0).fits, lanes_fit w h xs g.1) refl
+
 lanes_again : (w : ℕ) → IsOneOf widths w → (xs : List (Option ℕ)) → AllByRecursion (IsLane w) xs → map (λ (x : Ty × WrittenLane). lane_at w x.1) (map (typed_written w) xs) ≡ xs
 unfolding typed_written
 lanes_again w h [] g = refl
@@ -107,7 +114,7 @@ unfolding value
 lanes_written defs n w xs i h = record {
   typed = i;
   as_value = lane_list (map (typed_written w) xs);
-  is = rw (lanes_typed w xs, lanes_again w i.1 xs h.1) refl;
+  is = rw (lanes_typed w xs, lanes_fit w i.1 xs h.1, lanes_again w i.1 xs h.1) refl;
   writes = right_writes (right_writes (right_writes (right_writes (left_writes (mapped_writes _ _ refl (between_writes kinds.Less kinds.Greater (codes "<") (codes ">") _ (greater ∷ []) angle_kinds.0 refl (mark_laid kinds.Greater (codes ">") refl angle_kinds.1 (loose nothing_behind)) refl (commas_write (lane_writes w i.1) xs h.0 h.1)))))));
 }
 
@@ -120,7 +127,7 @@ symbol_written defs t n bytes i h lt = elim (test (eqb bytes 0)) [
   | inr other ↦ record {
     typed = i;
     as_value = stepped (written_steps n bytes);
-    is = ap (λ (o : Option ℕ). o >>= λ k. Some (global n k)) (bytes_behind defs bytes lt);
+    is = steps_again defs t n bytes lt;
     writes = rw other (right_writes (right_writes (right_writes (right_writes (right_writes (right_writes (mapped_writes _ _ refl (steps_write n bytes h lt))))))));
   }
 ]
@@ -140,6 +147,7 @@ operand_written defs t poison h = word_written defs t poison poison_word _ h.0 r
 operand_written defs (Vector n w) (lanes xs) h = lanes_written defs n w xs h.0 h.1
 operand_written defs t (lanes xs) h = absurd h.1
 operand_written defs t (global n bytes) h = symbol_written defs t n bytes h.0 h.1.0 h.1.1
+operand_written defs t (out_of_range n) h = absurd h.1
 
 -- ---- operands with their types
 

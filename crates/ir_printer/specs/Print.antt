@@ -36,7 +36,7 @@ use Rattle.ir_types.specs.declared.module.Module.{Module}
 use Rattle.ir_types.specs.Denotes.{Tables, name_in, operand_in, param_in, type_names_of, tables_of}
 use Rattle.ir_types.specs.Grammar.{width_of, element_of}
 use Rattle.ir_types.specs.Meaning.{operand_types}
-use Rattle.ir_types.specs.Tree.{KeptTexts, OperandTree, local, number, null, poison, lanes, global, ParamTree}
+use Rattle.ir_types.specs.Tree.{KeptTexts, OperandTree, local, number, null, poison, lanes, global, out_of_range, ParamTree}
 use Rattle.type_printer.specs.Texts.{signed_text}
 use Rattle.type_printer.specs.MemoryPieces.{memory_pieces}
 use Rattle.type_printer.specs.Pieces.{token, word, comma, equal, left_paren, right_paren, left_bracket, right_bracket, left_brace, right_brace, less, greater, blank, line_feed, indent, each_behind, separated, with_commas, local_token, global_token, label_token, width_word, type_pieces}
@@ -79,7 +79,7 @@ global_pieces n bytes =
     then lexeme (global_token n) ∷ []
     else word (codes "getelementptr") ∷ blank ∷ left_paren ∷ word (codes "i8") ∷ comma ∷ blank ∷ word (codes "ptr") ∷ blank ∷ lexeme (global_token n) ∷ comma ∷ blank ∷ word (codes "i64") ∷ blank ∷ lexeme (token kinds.Number (signed_text 64 bytes)) ∷ right_paren ∷ []
 
--- an operand at its type
+-- an operand at its type; one with a number out of its range isn't printed
 abbrev pub operand_pieces : Ty → OperandTree → List Piece
 operand_pieces t (local n) = lexeme (local_token n) ∷ []
 operand_pieces t (number v) = lexeme (number_token t v) ∷ []
@@ -87,6 +87,7 @@ operand_pieces t null = word (codes "null") ∷ []
 operand_pieces t poison = word (codes "poison") ∷ []
 operand_pieces t (lanes xs) = lanes_pieces (element_of t) xs
 operand_pieces t (global n bytes) = global_pieces n bytes
+operand_pieces t (out_of_range n) = []
 
 -- T V
 abbrev pub typed_operand : Ty → OperandTree → List Piece

@@ -4,6 +4,7 @@
 ghost use Rattle.std.specs.Prelude.{◌≡◌, ◌++◌, OnOk, OnErr};
 ghost use Rattle.text_lex.specs.Layout.{text_of};
 ghost use Rattle.ir_types.specs.Reads.{Reads, IsReadable};
+ghost use Rattle.ir_shape.specs.Narrow.{IsNarrow};
 ghost use Rattle.ir_printer.specs.Print.{front_pieces, module_pieces};
 
 mod branching;
@@ -35,14 +36,15 @@ fn put_front(alloc: Global, m: &Module, out: &mut Vec<u8>) -> Result<(), AllocEr
     put_variables(alloc, out, m)
 }
 
-/// Appends the text of a module, which is first made in memory of its own.
+/// Appends the text of a module in which no number is out of its type's range, which is first made in memory of its own.
 ///
 /// # Errors
 ///
 /// Where there is no room for the text; then nothing is appended.
 #[tactic(auto, unfolding(crate::specs::Print::module_pieces), using(crate::proofs::Printed::readable_functions, crate::proofs::Printed::readable_types, crate::proofs::Printed::printed_reads, type_printer::proofs::Appended::text_of_both, std::proofs::lemmas::Grind::common_steps))]
 pub fn print_module(alloc: Global, m: &Module, out: &mut Vec<u8>) -> Result<(), AllocError>
-    requires { IsReadable m.now }
+    requires readable { IsReadable m.now }
+    requires narrow { IsNarrow m.now }
     ensures text { OnOk result (out.new.items ≡ out.old.items
         ++ text_of (module_pieces m.now)) }
     ensures reads { OnOk result (Reads (text_of (module_pieces m.now)) m.now) }

@@ -121,6 +121,7 @@ pub(crate) fn put_operand(
             Ty::Int(_) | Ty::Ptr | Ty::Void => unreachable!(),
         },
         Operand::Global(symbol, bytes) => put_global(out, m, *symbol, *bytes),
+        Operand::OutOfRange(_) => unreachable!(),
     }
 }
 
