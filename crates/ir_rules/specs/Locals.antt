@@ -42,4 +42,3 @@ names_of ds = map (λ (d : Definition). d.name) ds
 abbrev pub is_text : Name → Bool
 is_text (Text s) = true
 is_text (Number n) = false
-
