@@ -1,0 +1,121 @@
+-- The functions that this project gives a meaning by their names, and their signatures. (LLVM's Language Reference, "Intrinsic Functions".)
+use Rattle.std.specs.List.{list_any}
+use Rattle.std.specs.Prelude.{ℕ, bytes_eq, List, [], ◌∷◌, ◌++◌, map, drop, length, find, filter_map, codes, Option, Some, None, if◌then◌else◌}
+use Rattle.forms.specs.Bind.{◌>>=◌}
+use Rattle.forms.specs.LeftOut.{begins_with}
+use Rattle.ir_types.specs.declared.name.Name.{Name}
+use Rattle.ir_types.specs.declared.name.Name.TheVariants.{Text, Number}
+use Rattle.ir_types.specs.declared.inst.Ty.{Ty}
+use Rattle.ir_types.specs.declared.inst.Ty.TheVariants.{Int, Ptr, Vector, Void}
+use Rattle.ir_rules.specs.Breaches.{first}
+
+-- the functions with a meaning
+pub data Intrinsic : Type 0 where
+  -- the least or the greatest of two numbers, signed or unsigned
+  minimum_maximum : Intrinsic
+  -- one number from all lanes of a vector
+  reduction : Intrinsic
+  masked_load : Intrinsic
+  masked_store : Intrinsic
+  -- where a variable's life begins or ends
+  lifetime : Intrinsic
+
+-- how their names begin, which ends with a dot; types stand behind it
+unfoldable pub families : List (List ℕ × Intrinsic)
+families =
+    (codes "llvm.smin.", minimum_maximum) ∷
+    (codes "llvm.smax.", minimum_maximum) ∷
+    (codes "llvm.umin.", minimum_maximum) ∷
+    (codes "llvm.umax.", minimum_maximum) ∷
+    (codes "llvm.vector.reduce.add.", reduction) ∷
+    (codes "llvm.vector.reduce.mul.", reduction) ∷
+    (codes "llvm.vector.reduce.and.", reduction) ∷
+    (codes "llvm.vector.reduce.or.", reduction) ∷
+    (codes "llvm.vector.reduce.xor.", reduction) ∷
+    (codes "llvm.vector.reduce.smin.", reduction) ∷
+    (codes "llvm.vector.reduce.smax.", reduction) ∷
+    (codes "llvm.vector.reduce.umin.", reduction) ∷
+    (codes "llvm.vector.reduce.umax.", reduction) ∷
+    (codes "llvm.masked.load.", masked_load) ∷
+    (codes "llvm.masked.store.", masked_store) ∷
+    (codes "llvm.lifetime.start.", lifetime) ∷
+    (codes "llvm.lifetime.end.", lifetime) ∷
+    []
+
+-- widths and numbers of lanes as they are written in names
+unfoldable pub width_texts : List (List ℕ × ℕ)
+width_texts = (codes "i1", 1) ∷ (codes "i8", 8) ∷ (codes "i16", 16) ∷ (codes "i32", 32) ∷ (codes "i64", 64) ∷ []
+
+unfoldable pub lane_texts : List (List ℕ × ℕ)
+lane_texts =
+    (codes "v2", 2) ∷
+    (codes "v4", 4) ∷
+    (codes "v8", 8) ∷
+    (codes "v16", 16) ∷
+    (codes "v32", 32) ∷
+    (codes "v64", 64) ∷
+    (codes "v128", 128) ∷
+    (codes "v256", 256) ∷
+    (codes "v512", 512) ∷
+    []
+
+-- what stands behind a front
+abbrev pub behind_front : List ℕ → List ℕ → Option (List ℕ)
+behind_front front text = if begins_with front text then Some (drop (length front) text) else None
+
+-- the width that is written so, before an end
+abbrev pub width_before : (end text : List ℕ) → Option ℕ
+width_before end text = find (λ e. bytes_eq (e.0 ++ end) text) width_texts >>= λ e. Some e.1
+
+-- the vector that is written so, before an end: its number of lanes, and the width of each
+abbrev pub vector_before : (end text : List ℕ) → Option Ty
+vector_before end text = first (filter_map (λ e. behind_front e.0 text >>= width_before end >>= λ w. Some (Vector e.1 w)) lane_texts)
+
+-- the integer or the vector that is written so
+abbrev pub type_written : List ℕ → Option Ty
+type_written text = elim (width_before [] text) [ Some w ↦ Some (Int w) | None ↦ vector_before [] text ]
+
+-- what a function gives and takes
+pub record Signed : Type 0 where
+  pub ret : Ty
+  pub params : List Ty
+
+-- the bits for the lanes of a vector
+abbrev pub bits_of : Ty → Ty
+bits_of (Vector n w) = Vector n 1
+bits_of t = t
+
+-- an element of a vector
+abbrev pub element : Ty → Ty
+element (Vector n w) = Int w
+element t = t
+
+-- an intrinsic, with the signature that its name asks for, where it asks for one
+pub record Meant : Type 0 where
+  pub intrinsic : Intrinsic
+  pub signature : Option Signed
+
+abbrev pub meant : Intrinsic → Ty → List Ty → Meant
+meant intrinsic ret params = record { intrinsic = intrinsic; signature = Some (record { ret = ret; params = params }) }
+
+-- the lifetimes have any signature
+abbrev pub any_lifetime : Meant
+any_lifetime = record { intrinsic = lifetime; signature = None }
+
+-- the intrinsic of a family whose name goes on so
+abbrev pub in_family : Intrinsic → List ℕ → Option Meant
+in_family minimum_maximum text = type_written text >>= λ t. Some (meant minimum_maximum t (t ∷ t ∷ []))
+in_family reduction text = vector_before [] text >>= λ t. Some (meant reduction (element t) (t ∷ []))
+in_family masked_load text = vector_before (codes ".p0") text >>= λ t. Some (meant masked_load t (Ptr ∷ Int 32 ∷ bits_of t ∷ t ∷ []))
+in_family masked_store text = vector_before (codes ".p0") text >>= λ t. Some (meant masked_store Void (t ∷ Ptr ∷ Int 32 ∷ bits_of t ∷ []))
+in_family lifetime text = Some any_lifetime
+
+-- the names of the lifetimes without anything behind them
+unfoldable pub lifetimes : List (List ℕ)
+lifetimes = codes "llvm.lifetime.start" ∷ codes "llvm.lifetime.end" ∷ []
+
+-- the intrinsic that a name is
+abbrev pub meant_by : Name → Option Meant
+meant_by (Text s) =
+    if list_any (bytes_eq s) lifetimes then Some any_lifetime else first (filter_map (λ e. behind_front e.0 s >>= in_family e.1) families)
+meant_by (Number n) = None

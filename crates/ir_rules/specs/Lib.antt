@@ -1,0 +1,13 @@
+pub mod Breaches
+pub mod Locals
+pub mod Duplicates
+pub mod Unknown
+pub mod Steps
+pub mod Operands
+pub mod Mismatch
+pub mod Intrinsics
+pub mod Callees
+pub mod Numbering
+pub mod Edges
+pub mod Available
+pub mod WellFormed
