@@ -49,10 +49,14 @@ pub record IsWellFormed (m : Module) : Type 0 where
   pub readable : IsReadable m
   pub keeps : KeepsRules (tree_of m)
 
+-- a breach is the first of a list of all breaches
+abbrev pub FirstCause : List (Rule × Breach) → CheckFault → Type 0
+FirstCause breaches (Broken rule breach) = first breaches ≡ Some (rule, breach)
+FirstCause breaches Memory = Unit {0}
+
 -- why a module is refused by the rules about names and types
 abbrev pub TypeCause : ModuleTree → CheckFault → Type 0
-TypeCause m (Broken rule breach) = first (type_breaches m) ≡ Some (rule, breach)
-TypeCause m Memory = Unit {0}
+TypeCause m fault = FirstCause (type_breaches m) fault
 
 -- no earlier rule is broken, and the last one is broken here first
 pub record IsLastBroken (m : ModuleTree) (b : Breach) : Type 0 where

@@ -1,0 +1,38 @@
+//! Stub.
+#![tactic(auto)]
+
+ghost use Rattle.std.specs.Prelude.{◌≡◌, [], IfOk, MatchOption};
+ghost use Rattle.ir_types.specs.Denotes.{tree_of};
+ghost use Rattle.ir_types.specs.Reads.{IsReadable};
+ghost use Rattle.ir_rules.specs.Breaches.{first};
+ghost use Rattle.ir_rules.specs.WellFormed.{early_breaches};
+ghost use Rattle.ir_rules.specs.Duplicates.{duplicate_names};
+ghost use Rattle.ir_rules.specs.Unknown.{unknown_names};
+ghost use Rattle.ir_rules.specs.Numbering.{misnumbered_names};
+use ir_rules::Breach;
+use ir_types::Module;
+use std::alloc::{AllocError, Global};
+
+/// Stub.
+pub fn duplicate_name(alloc: Global, m: &Module) -> Result<Option<Breach>, AllocError>
+    requires readable { IsReadable m.now }
+    ensures { IfOk result (λ found. found ≡ first (duplicate_names (tree_of m.now))) }
+{
+    Err(AllocError)
+}
+
+/// Stub.
+pub fn unknown_name(alloc: Global, m: &Module) -> Result<Option<Breach>, AllocError>
+    requires readable { IsReadable m.now }
+    ensures { IfOk result (λ found. found ≡ first (unknown_names (tree_of m.now))) }
+{
+    Err(AllocError)
+}
+
+/// Stub.
+pub fn misnumbered(alloc: Global, m: &Module) -> Result<Option<Breach>, AllocError>
+    requires readable { IsReadable m.now }
+    ensures { IfOk result (λ found. found ≡ first (misnumbered_names (tree_of m.now))) }
+{
+    Err(AllocError)
+}
