@@ -6,10 +6,13 @@ ghost use Rattle.ir_types.specs.Denotes.{tree_of};
 ghost use Rattle.ir_types.specs.Reads.{IsReadable};
 ghost use Rattle.ir_rules.specs.WellFormed.{KeepsRules, IsWellFormed, Cause};
 
+mod laws;
+
 use ir_check_paths::{entry_entered, unavailable, wrong_phi};
 use ir_check_types::{check_types, kept};
 use ir_rules::{CheckFault, Rule};
 use ir_types::Module;
+pub use laws::{one_cause, one_verdict, same_module_is_well_formed, well_formed_is_narrow};
 use std::alloc::Global;
 use std::marker::Model;
 
