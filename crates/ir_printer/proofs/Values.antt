@@ -4,7 +4,6 @@ use Rattle.std.specs.Prelude.{codes}
 use Rattle.std.specs.List.{AllByRecursion, AllZip, list_all}
 use Rattle.std.proofs.lemmas.Bool.{eqb-true, eq-eqb}
 use Rattle.forms.specs.declared.TokenKind.TheVariants as kinds
-use Rattle.forms.specs.Bind.{◌>>=◌}
 use Rattle.forms.proofs.Begins.{test}
 use Rattle.text_lex.specs.Layout.{closed}
 use Rattle.ir_types.specs.declared.name.Name.{Name}

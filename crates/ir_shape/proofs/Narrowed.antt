@@ -1,8 +1,7 @@
 -- What some text says can be printed where no instruction is wide.
-use Rattle.std.proofs.Common.{◌≡◌, Bool, true, false, List, [], ◌∷◌, map, sym, ap, ◌∙◌, subst}
+use Rattle.std.proofs.Common.{◌≡◌, Bool, true, false, List, [], ◌∷◌, map, sym, subst}
 use Rattle.std.specs.List.{AllByRecursion, AllZip, filter_map}
 use Rattle.ir_types.specs.declared.inst.Ty.{Ty}
-use Rattle.ir_types.specs.declared.inst.Inst.{Inst}
 use Rattle.ir_types.specs.declared.module.Block.{Block}
 use Rattle.ir_types.specs.declared.module.Function.{Function}
 use Rattle.ir_types.specs.declared.module.Module.{Module}
@@ -10,7 +9,7 @@ use Rattle.ir_types.specs.declared.name.Name.{Name}
 use Rattle.ir_types.specs.Collected.{as_function}
 use Rattle.ir_types.specs.Denotes.{Tables, tables_of, inst_in, block_in, function_in, tree_of}
 use Rattle.ir_types.specs.Tree.{OperandTree, local, number, null, poison, lanes, global, out_of_range, InstTree, BlockTree, FunctionTree, ModuleTree, Item, head_line, comdat_line, type_item, variable_item, function_item, attribute_line, metadata_line}
-use Rattle.ir_shape.specs.Shape.{IsOperand, IsOperandIn, IsTyped, IsTypedIn, IsBody, IsBodyOf, IsReadInst, IsInst, IsBlockOf, IsBlock, IsFunctionOf, IsFunction, IsItemOf, IsItem, IsReadModule, IsModule}
+use Rattle.ir_shape.specs.Shape.{IsOperand, IsOperandIn, IsTyped, IsTypedIn, IsReadInst, IsInst, IsBlockOf, IsBlock, IsFunctionOf, IsFunction, IsItemOf, IsItem, IsReadModule, IsModule}
 use Rattle.ir_shape.specs.Narrow.{IsNarrowInst, IsNarrowBlock, IsNarrowFunction, IsNarrow}
 
 -- ---- instructions
