@@ -127,12 +127,19 @@ fn bare_terminator<'t>(
     Ok((applied(alloc, InstKind::Unreachable, Ty::Void, args), rest))
 }
 
-/// Whether a number in one of these operands is out of its type's range.
+/// Whether a number in an operand is out of its type's range.
+fn is_outside(operand: &Operand) -> bool
+    ensures { result ≡ is_outside operand.now }
+{
+    matches!(operand, Operand::OutOfRange(_))
+}
+
+/// Whether a number in one of these operands is.
 fn any_outside(operands: &[Operand]) -> bool
     ensures { result ≡ list_any is_outside operands.now }
 {
     for operand in operands {
-        if matches!(operand, Operand::OutOfRange(_)) {
+        if is_outside(operand) {
             return true;
         }
     }
@@ -156,7 +163,7 @@ fn with_attachments<'t>(
 }
 
 /// An instruction that doesn't end a block.
-#[tactic(auto, unfolding(ir_types::specs::Grammar::operation))]
+#[tactic(auto, unfolding(ir_types::specs::Grammar::operation), using(crate::proofs::Attached::outside_seen))]
 fn operation<'t>(
     alloc: Global,
     tokens: Cursor<'t>,
@@ -173,7 +180,7 @@ fn operation<'t>(
 }
 
 /// A terminator.
-#[tactic(auto, unfolding(ir_types::specs::Grammar::terminator))]
+#[tactic(auto, unfolding(ir_types::specs::Grammar::terminator), using(crate::proofs::Attached::outside_seen))]
 fn terminator<'t>(
     alloc: Global,
     tokens: Cursor<'t>,

@@ -75,7 +75,7 @@ fn cases<'t>(
     'more: while begins_case(rest) {
         let (((number, outside), label), after) = case(alloc, bits, rest, scope)?;
         numbers.push(number)?;
-        wide = wide || outside;
+        wide |= outside;
         labels.push(label)?;
         rest = after;
     }
