@@ -1,7 +1,9 @@
 //! Texts that are read and texts that are refused. (That the module is the text's is proved.)
 
 use crate::read_module;
-use ir_types::{Extent, FuncId, Kept, Module, Name, NamedType, Operand, SymbolKind, TypeId};
+use ir_types::{
+    Extent, FuncId, Inst, InstKind, Kept, Module, Name, NamedType, Operand, SymbolKind, TypeId,
+};
 use std::alloc::Global;
 use std::process::Abort;
 use std::test::Fail;
@@ -153,6 +155,60 @@ fn gathers_items_by_their_kinds(rt: HostRuntime) -> Result<(), Fail> {
             check_symbols(&rt, &module);
             check_function(&rt, &module);
         }
+        Err(_) => rt.abort(),
+    }
+    Ok(())
+}
+
+const WIDE: &[u8] = b"define void @f(i8 %x, ptr %p) {
+  %a = add i8 1, 256
+  %b = add i8 -128, 255
+  store i8 %a, ptr %p, align 18446744073709551616
+  switch i8 %x, label %c [ i8 1, label %c i8 -129, label %c ]
+c:
+  store ptr getelementptr (i8, ptr @v, i8 256), ptr %p
+  ret void
+}
+";
+
+fn check_first_block(rt: &impl Abort, insts: &[Inst]) {
+    if let [great, small, store, switch] = insts {
+        assert!(rt; great.wide && !small.wide && !store.wide && switch.wide);
+        assert!(rt; matches!(great.args.as_slice(), [Operand::Int(1), Operand::OutOfRange(None)]));
+        assert!(rt; matches!(small.args.as_slice(), [Operand::Int(128), Operand::Int(255)]));
+        assert!(rt; matches!(store.kind, InstKind::Store(_, 18446744073709551615)));
+        if let InstKind::Switch(_, cases) = &switch.kind {
+            assert!(rt; matches!(cases.as_slice(), [1, 127]));
+        } else {
+            rt.abort();
+        }
+    } else {
+        rt.abort();
+    }
+}
+
+fn check_second_block(rt: &impl Abort, insts: &[Inst]) {
+    if let [store, ret] = insts {
+        assert!(rt; store.wide && !ret.wide);
+        assert!(rt; matches!(store.args.as_slice(), [Operand::OutOfRange(Some(1)), _]));
+    } else {
+        rt.abort();
+    }
+}
+
+#[test]
+fn reads_numbers_out_of_range(rt: HostRuntime) -> Result<(), Fail> {
+    match read_module(rt.alloc(), WIDE) {
+        Ok(module) => match module.functions.as_slice() {
+            [function] => match function.body.as_slice() {
+                [first, second] => {
+                    check_first_block(&rt, first.insts.as_slice());
+                    check_second_block(&rt, second.insts.as_slice());
+                }
+                _ => rt.abort(),
+            },
+            _ => rt.abort(),
+        },
         Err(_) => rt.abort(),
     }
     Ok(())

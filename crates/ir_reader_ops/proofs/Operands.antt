@@ -1,5 +1,6 @@
 -- Reading operands part after part is reading them whole.
 use Rattle.std.proofs.Common.{◌≡◌, ◌<◌, ℕ, Bool, false, cond, List, length, get_or, map, codes, Option, Some, None, refl, sym, ap, ◌∙◌}
+use Rattle.std.specs.List.{list_all}
 use Rattle.std.proofs.lemmas.List.Folds.{list_all-map, list_all_at}
 use Rattle.forms.specs.declared.TokenKind.TheVariants.{Word, Comma}
 use Rattle.forms.specs.Form.{Lexeme, Form, exactly, mapped, pair}
@@ -20,6 +21,10 @@ use Rattle.ir_reader_ops.proofs.Chains.{alike, first_apart, chained, then_made, 
 pub other_width : (w : ℕ) (xs : List (Ty × Lane)) (i : ℕ) (d : Ty × Lane) → i < length xs → is_int w (get_or xs i d).0 ≡ false → lanes_of_width w (lanes_in xs) ≡ None
 other_width w xs i d lt e =
     ap (λ (b : Bool). cond b (Some (map (λ x. lane_at w x.1) (lanes_in xs))) None) (list_all-map (λ x. is_int w x.0) typed_lane_in xs ∙ list_all_at (λ x. is_int w x.0) xs i d lt e)
+
+-- one of those that are made does not hold
+pub one_fails : {A B : Type 0} (p : B → Bool) (f : A → B) (xs : List A) (i : ℕ) (d : A) → i < length xs → p (f (get_or xs i d)) ≡ false → list_all p (map f xs) ≡ false
+one_fails p f xs i d lt e = list_all-map p f xs ∙ list_all_at (λ x. p (f x)) xs i d lt e
 
 -- what stands behind something that is not kept
 pub behind_apart : {A B C : Type 0} (f : B → Option C) (g : Form A) (h : Form B) (ts : List Lexeme) → completed f (read (mapped (λ x. x.1) (pair g h)) ts) ≡ (read g ts >>= λ u. completed f (read h u.1))

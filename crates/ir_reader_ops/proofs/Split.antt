@@ -1,6 +1,6 @@
 -- Entries of a phi and cases of a switch, read into two lists.
-use Rattle.std.proofs.Common.{◌≡◌, ℕ, Bool, true, false, cond, ◌&&◌, eqb, List, [], ◌∷◌, ◌++◌, map, Option, Some, None, refl, sym, ap, ◌∙◌, append_assoc}
-use Rattle.std.specs.List.{list_all}
+use Rattle.std.proofs.Common.{◌≡◌, ℕ, Bool, true, false, cond, not, ◌&&◌, ◌||◌, eqb, List, [], ◌∷◌, ◌++◌, map, Option, Some, None, refl, sym, ap, ◌∙◌, append_assoc}
+use Rattle.std.specs.List.{list_all, list_any}
 use Rattle.std.proofs.lemmas.List.{append-nil}
 use Rattle.forms.specs.declared.TokenKind.TheVariants.{Comma, LeftBracket, RightBracket}
 use Rattle.forms.specs.Form.{Lexeme, Form, mapped, pair, many}
@@ -16,9 +16,9 @@ use Rattle.ir_types.specs.Kinds as kinds
 use Rattle.ir_types.specs.Offsets.{Definitions}
 use Rattle.ir_types.specs.Tree.{OperandTree, InstTree}
 use Rattle.ir_types.specs.Written.{number_at}
-use Rattle.ir_types.specs.Grammar.{WrittenValue, operand_at, entries_at, cases_at, bare_inst, width, value_type, value, index_value, after_mark, between, target, commas, local_name, entry_of_phi, phi_tree, phi, case_of_switch, switch_tree, switch}
+use Rattle.ir_types.specs.Grammar.{WrittenValue, operand_at, entries_at, cases_at, index_fits, if_wide, bare_inst, width, value_type, value, index_value, after_mark, between, target, commas, local_name, entry_of_phi, phi_tree, phi, case_of_switch, switch_tree, switch}
 use Rattle.ir_reader_ops.specs.Offsets.{as_two}
-use Rattle.ir_reader_ops.specs.Split.{split_each, behind_both, entry_at, entry_read, phi_read, case_at, cases_read, switch_read}
+use Rattle.ir_reader_ops.specs.Split.{split_each, gathered, put_behind, behind_both, entry_at, entry_read, phi_read, case_at, cases_behind, cases_read, switch_read}
 use Rattle.ir_reader_ops.proofs.Chains.{alike, first_apart, chained, then_made, completed_alike, between_is}
 
 -- ---- what a loop keeps
@@ -32,34 +32,50 @@ first_before a r = r >>= λ y. Some (a ∷ y.0, y.1)
 abbrev then_more : {A : Type 0} → Form A → Option (A × List Lexeme) → Option (List A × List Lexeme)
 then_more f r = r >>= λ x. first_before x.0 (read (many f) x.1)
 
-regroup : {A B C : Type 0} (step : A → Option (B × C)) (bs : List B) (cs : List C) (a : A) (b : B) (c : C) (r : Option (List A × List Lexeme)) → step a ≡ Some (b, c)
-    → behind_both bs cs (completed (split_each step) (first_before a r)) ≡ behind_both (bs ++ b ∷ []) (cs ++ c ∷ []) (completed (split_each step) r)
-regroup step bs cs a b c None e = refl
-regroup {A} {B} {C} step bs cs a b c (Some x) e = rw e (by (split_each step x.0))
+-- what is made of all is made of one and those behind it
+abbrev Goes : {B C D : Type 0} → (List B × List C → D) → (List B × List C → D) → B → C → Type 0
+Goes {B} {C} f g b c = (q : List B × List C) → f (b ∷ q.0, c ∷ q.1) ≡ g q
+
+regroup : {A B C D : Type 0} (step : A → Option (B × C)) (f g : List B × List C → D) (a : A) (b : B) (c : C) (r : Option (List A × List Lexeme)) → step a ≡ Some (b, c) → Goes f g b c
+    → gathered f (completed (split_each step) (first_before a r)) ≡ gathered g (completed (split_each step) r)
+regroup step f g a b c None e h = refl
+regroup {A} {B} {C} {D} step f g a b c (Some x) e h = rw e (by (split_each step x.0))
   where
-    by : (o : Option (List B × List C)) → behind_both bs cs ((o >>= λ q. Some (b ∷ q.0, c ∷ q.1)) >>= λ v. Some (v, x.1)) ≡ behind_both (bs ++ b ∷ []) (cs ++ c ∷ []) (o >>= λ v. Some (v, x.1))
+    by : (o : Option (List B × List C)) → gathered f ((o >>= λ q. Some (b ∷ q.0, c ∷ q.1)) >>= λ v. Some (v, x.1)) ≡ gathered g (o >>= λ v. Some (v, x.1))
     by None = refl
-    by (Some q) = ap (λ (l : List B). Some ((l, cs ++ (c ∷ q.1)), x.1)) (sym (append_assoc bs (b ∷ []) q.0)) ∙ ap (λ (l : List C). Some (((bs ++ b ∷ []) ++ q.0, l), x.1)) (sym (append_assoc cs (c ∷ []) q.1))
+    by (Some q) = ap (λ (d : D). Some (d, x.1)) (h q)
+
+-- one element more
+pub goes_gathered : {A B C D : Type 0} (k : Form A) (step : A → Option (B × C)) (f g : List B × List C → D) (b : B) (c : C) (ts us : List Lexeme) (whole : Option (D × List Lexeme)) → nullable k ≡ false → opens k ts ≡ true → completed step (read k ts) ≡ Some ((b, c), us) → Goes f g b c
+    → gathered f (completed (split_each step) (read (many k) ts)) ≡ whole → gathered g (completed (split_each step) (read (many k) us)) ≡ whole
+goes_gathered k step f g b c ts us whole n o e h before =
+    let x = completed_some step (read k ts) ((b, c), us) e in
+    sym (ap (λ (r : Option _). gathered f (completed (split_each step) r)) (many_step k ts n o ∙ ap (then_more k) x.1) ∙ regroup step f g x.0 b c (read (many k) us) x.2 h) ∙ before
+
+-- no element stands there
+pub gathered_ends : {A B C D : Type 0} (k : Form A) (step : A → Option (B × C)) (f : List B × List C → D) (ts : List Lexeme) (whole : Option (D × List Lexeme)) → opens k ts ≡ false
+    → gathered f (completed (split_each step) (read (many k) ts)) ≡ whole → whole ≡ Some (f ([], []), ts)
+gathered_ends k step f ts whole o before = sym before ∙ ap (λ (r : Option _). gathered f (completed (split_each step) r)) (many_done k ts o)
+
+behind_pair : {B C : Type 0} (bs : List B) (cs : List C) (b : B) (c : C) → Goes (put_behind bs cs) (put_behind (bs ++ b ∷ []) (cs ++ c ∷ [])) b c
+behind_pair {B} {C} bs cs b c = λ q. ap (λ (l : List B). (l, cs ++ (c ∷ q.1))) (sym (append_assoc bs (b ∷ []) q.0)) ∙ ap (λ (l : List C). ((bs ++ b ∷ []) ++ q.0, l)) (sym (append_assoc cs (c ∷ []) q.1))
 
 -- one element more
 pub goes_split : {A B C : Type 0} (f : Form A) (step : A → Option (B × C)) (bs : List B) (cs : List C) (b : B) (c : C) (ts us : List Lexeme) (whole : Both B C) → nullable f ≡ false → opens f ts ≡ true → completed step (read f ts) ≡ Some ((b, c), us)
     → behind_both bs cs (completed (split_each step) (read (many f) ts)) ≡ whole → behind_both (bs ++ b ∷ []) (cs ++ c ∷ []) (completed (split_each step) (read (many f) us)) ≡ whole
-goes_split f step bs cs b c ts us whole n o e before =
-    let x = completed_some step (read f ts) ((b, c), us) e in
-    sym (ap (λ (r : Option _). behind_both bs cs (completed (split_each step) r)) (many_step f ts n o ∙ ap (then_more f) x.1) ∙ regroup step bs cs x.0 b c (read (many f) us) x.2) ∙ before
+goes_split f step bs cs b c ts us whole n o e before = goes_gathered f step (put_behind bs cs) (put_behind (bs ++ b ∷ []) (cs ++ c ∷ [])) b c ts us whole n o e (behind_pair bs cs b c) before
 
 -- no element stands there
 pub split_ends : {A B C : Type 0} (f : Form A) (step : A → Option (B × C)) (bs : List B) (cs : List C) (ts : List Lexeme) (whole : Both B C) → opens f ts ≡ false
     → behind_both bs cs (completed (split_each step) (read (many f) ts)) ≡ whole → whole ≡ Some ((bs, cs), ts)
 split_ends {A} {B} {C} f step bs cs ts whole o before =
-    sym before
-    ∙ ap (λ (r : Option _). behind_both bs cs (completed (split_each step) r)) (many_done f ts o)
+    gathered_ends f step (put_behind bs cs) ts whole o before
     ∙ ap (λ (l : List B). Some ((l, cs ++ []), ts)) (append-nil bs)
     ∙ ap (λ (l : List C). Some ((bs, l), ts)) (append-nil cs)
 
-refused : {A B C : Type 0} (step : A → Option (B × C)) (bs : List B) (cs : List C) (a : A) (r : Option (List A × List Lexeme)) → step a ≡ None → behind_both bs cs (completed (split_each step) (first_before a r)) ≡ None
-refused step bs cs a None e = refl
-refused step bs cs a (Some x) e = ap (λ (o : Option _). behind_both bs cs ((o >>= λ p. split_each step x.0 >>= λ q. Some (p.0 ∷ q.0, p.1 ∷ q.1)) >>= λ v. Some (v, x.1))) e
+refused : {A B C D : Type 0} (step : A → Option (B × C)) (f : List B × List C → D) (a : A) (r : Option (List A × List Lexeme)) → step a ≡ None → gathered f (completed (split_each step) (first_before a r)) ≡ None
+refused step f a None e = refl
+refused step f a (Some x) e = ap (λ (o : Option _). gathered f ((o >>= λ p. split_each step x.0 >>= λ q. Some (p.0 ∷ q.0, p.1 ∷ q.1)) >>= λ v. Some (v, x.1))) e
 
 abbrev made_before : {B : Type 0} → List Lexeme → Option B → Option (B × List Lexeme)
 made_before us o = o >>= λ b. Some (b, us)
@@ -69,13 +85,17 @@ nothing_made None us e = refl
 nothing_made (Some b) us e = absurd cc
 
 -- an element is not read
+pub gathered_fails : {A B C D : Type 0} (k : Form A) (step : A → Option (B × C)) (f : List B × List C → D) (ts : List Lexeme) (whole : Option (D × List Lexeme)) → nullable k ≡ false → opens k ts ≡ true → completed step (read k ts) ≡ None
+    → gathered f (completed (split_each step) (read (many k) ts)) ≡ whole → whole ≡ None
+gathered_fails {A} {B} {C} k step f ts whole n o e before = by (read k ts) refl e
+  where
+    by : (r : Option (A × List Lexeme)) → read k ts ≡ r → completed step r ≡ None → whole ≡ None
+    by None d e = sym before ∙ ap (λ (r : Option _). gathered f (completed (split_each step) r)) (many_step k ts n o ∙ ap (then_more k) d)
+    by (Some x) d e = sym before ∙ ap (λ (r : Option _). gathered f (completed (split_each step) r)) (many_step k ts n o ∙ ap (then_more k) d) ∙ refused step f x.0 (read (many k) x.1) (nothing_made (step x.0) x.1 e)
+
 pub split_fails : {A B C : Type 0} (f : Form A) (step : A → Option (B × C)) (bs : List B) (cs : List C) (ts : List Lexeme) (whole : Both B C) → nullable f ≡ false → opens f ts ≡ true → completed step (read f ts) ≡ None
     → behind_both bs cs (completed (split_each step) (read (many f) ts)) ≡ whole → whole ≡ None
-split_fails {A} {B} {C} f step bs cs ts whole n o e before = by (read f ts) refl e
-  where
-    by : (r : Option (A × List Lexeme)) → read f ts ≡ r → completed step r ≡ None → whole ≡ None
-    by None d e = sym before ∙ ap (λ (r : Option _). behind_both bs cs (completed (split_each step) r)) (many_step f ts n o ∙ ap (then_more f) d)
-    by (Some x) d e = sym before ∙ ap (λ (r : Option _). behind_both bs cs (completed (split_each step) r)) (many_step f ts n o ∙ ap (then_more f) d) ∙ refused step bs cs x.0 (read (many f) x.1) (nothing_made (step x.0) x.1 e)
+split_fails f step bs cs ts whole n o e before = gathered_fails f step (put_behind bs cs) ts whole n o e before
 
 -- ---- pairs
 
@@ -108,7 +128,7 @@ pub first_two : {B C : Type 0} (f g : Form (B × C)) (bs : List B) (cs : List C)
 first_two {B} {C} f g bs cs b c ts us e =
     sym (ap (λ (r : Option ((B × C) × List Lexeme)). behind_both bs cs (completed (split_each as_two) (both_read r (λ x. with_first x.0 (read (many g) x.1))))) e
     ∙ ap (λ (r : Option _). behind_both bs cs (completed (split_each as_two) r)) (consed_is (b, c) (read (many g) us))
-    ∙ regroup as_two bs cs (b, c) b c (read (many g) us) refl)
+    ∙ regroup as_two (put_behind bs cs) (put_behind (bs ++ b ∷ []) (cs ++ c ∷ [])) (b, c) b c (read (many g) us) refl (behind_pair bs cs b c))
 
 -- one element, and what the others become
 abbrev more_split : {B C : Type 0} → Option (B × C) → Option (List B × List C) → Option (List B × List C)
@@ -189,38 +209,63 @@ Cases = List ((ℕ × List ℕ) × Name)
 abbrev numbers_if : ℕ → Cases → Bool → Option (List ℕ)
 numbers_if w cs b = cond b (Some (map (λ c. number_at w c.0.1) cs)) None
 
-abbrev case_labels : Cases → Option (List ℕ) → Option (List ℕ × List Name)
-case_labels cs o = o >>= λ ns. Some (ns, map (λ c. c.1) cs)
+-- whether a case is out of range
+abbrev is_wide : (ℕ × List ℕ) × Name → Bool
+is_wide c = not (index_fits c.0)
 
-cases_split : (w : ℕ) (cs : Cases) → case_labels cs (cases_at w cs) ≡ split_each (case_at w) cs
+abbrev Gathered : Type 0
+Gathered = (List ℕ × Bool) × List Name
+
+abbrev of_cases : Cases → Option (List ℕ) → Option Gathered
+of_cases cs o = o >>= λ ns. Some ((ns, list_any is_wide cs), map (λ c. c.1) cs)
+
+-- what is made of them
+abbrev all_cases : Option (List (ℕ × Bool) × List Name) → Option Gathered
+all_cases o = o >>= λ q. Some (cases_behind [] false [] q)
+
+cases_split : (w : ℕ) (cs : Cases) → of_cases cs (cases_at w cs) ≡ all_cases (split_each (case_at w) cs)
 cases_split w [] = refl
 cases_split w (c ∷ cs) = by (eqb c.0.0 w) (cases_split w cs)
   where
-    more : (b : Bool) → case_labels (c ∷ cs) (numbers_if w (c ∷ cs) b) ≡ (case_labels cs (numbers_if w cs b) >>= λ q. Some (number_at w c.0.1 ∷ q.0, c.1 ∷ q.1))
+    consed_case : Option Gathered → Option Gathered
+    consed_case o = o >>= λ y. Some ((number_at w c.0.1 ∷ y.0.0, is_wide c || y.0.1), c.1 ∷ y.1)
+
+    more : (b : Bool) → of_cases (c ∷ cs) (numbers_if w (c ∷ cs) b) ≡ consed_case (of_cases cs (numbers_if w cs b))
     more true = refl
     more false = refl
 
-    by : (b : Bool) → case_labels cs (cases_at w cs) ≡ split_each (case_at w) cs
-        → case_labels (c ∷ cs) (numbers_if w (c ∷ cs) (b && list_all (λ d. eqb d.0.0 w) cs)) ≡ more_split (cond b (Some (number_at w c.0.1, c.1)) None) (split_each (case_at w) cs)
-    by true h = more (list_all (λ d. eqb d.0.0 w) cs) ∙ ap (λ (o : Option (List ℕ × List Name)). o >>= λ q. Some (number_at w c.0.1 ∷ q.0, c.1 ∷ q.1)) h
+    others : (o : Option (List (ℕ × Bool) × List Name)) → consed_case (all_cases o) ≡ all_cases (more_split (Some ((number_at w c.0.1, is_wide c), c.1)) o)
+    others None = refl
+    others (Some q) = refl
+
+    by : (b : Bool) → of_cases cs (cases_at w cs) ≡ all_cases (split_each (case_at w) cs)
+        → of_cases (c ∷ cs) (numbers_if w (c ∷ cs) (b && list_all (λ d. eqb d.0.0 w) cs)) ≡ all_cases (more_split (cond b (Some ((number_at w c.0.1, is_wide c), c.1)) None) (split_each (case_at w) cs))
+    by true h = more (list_all (λ d. eqb d.0.0 w) cs) ∙ ap consed_case h ∙ others (split_each (case_at w) cs)
     by false h = refl
 
-abbrev switch_of : ℕ × OperandTree → List ℕ × List Name → InstTree
-switch_of v q = bare_inst (kinds.Switch v.0 q.0) Void (v.1 ∷ []) q.1
+abbrev switch_of : ℕ × OperandTree → Gathered → InstTree
+switch_of v q = if_wide q.0.1 (bare_inst (kinds.Switch v.0 q.0.0) Void (v.1 ∷ []) q.1)
 
 -- with the label of the default before the others
-abbrev with_default : ℕ × OperandTree → Name → List ℕ × List Name → InstTree
-with_default v l q = switch_of v (q.0, l ∷ q.1)
+abbrev with_default : ℕ × OperandTree → Name → List (ℕ × Bool) × List Name → InstTree
+with_default v l q = switch_of v (cases_behind [] false (l ∷ []) q)
 
 cases_made : (v : ℕ × OperandTree) (l : Name) (cs : Cases) → switch_tree (v, (l, cs)) ≡ (split_each (case_at v.0) cs >>= λ q. Some (with_default v l q))
-cases_made v l cs = by (cases_at v.0 cs) ∙ ap (λ (o : Option (List ℕ × List Name)). o >>= λ q. Some (with_default v l q)) (cases_split v.0 cs)
+cases_made v l cs = by (cases_at v.0 cs) ∙ ap behind_default (cases_split v.0 cs) ∙ each (split_each (case_at v.0) cs)
   where
-    by : (o : Option (List ℕ)) → (o >>= λ ns. Some (bare_inst (kinds.Switch v.0 ns) Void (v.1 ∷ []) (l ∷ map (λ c. c.1) cs))) ≡ (case_labels cs o >>= λ q. Some (with_default v l q))
+    behind_default : Option Gathered → Option InstTree
+    behind_default o = o >>= λ y. Some (switch_of v (y.0, l ∷ y.1))
+
+    by : (o : Option (List ℕ)) → (o >>= λ ns. Some (if_wide (list_any is_wide cs) (bare_inst (kinds.Switch v.0 ns) Void (v.1 ∷ []) (l ∷ map (λ c. c.1) cs)))) ≡ behind_default (of_cases cs o)
     by None = refl
     by (Some ns) = refl
 
+    each : (o : Option (List (ℕ × Bool) × List Name)) → behind_default (all_cases o) ≡ (o >>= λ q. Some (with_default v l q))
+    each None = refl
+    each (Some q) = refl
+
 abbrev Numbers : Type 0
-Numbers = Option ((List ℕ × List Name) × List Lexeme)
+Numbers = Option ((List (ℕ × Bool) × List Name) × List Lexeme)
 
 abbrev made_of : ℕ × OperandTree → Name → Numbers → Option (InstTree × List Lexeme)
 made_of v l r = r >>= λ x. Some (with_default v l x.0, x.1)
@@ -236,11 +281,11 @@ cases_in_brackets v l ts =
     ∙ ap (made_of v l) (sym (between_is LeftBracket RightBracket (split_each (case_at v.0)) (many case_of_switch) ts))
     ∙ by (read (mark LeftBracket) ts)
   where
-    close : (q : List ℕ × List Name) (o : Option (Unit {0} × List Lexeme)) → made_of v l (o >>= λ e. Some (q, e.1)) ≡ (o >>= λ e. Some (with_default v l q, e.1))
+    close : (q : List (ℕ × Bool) × List Name) (o : Option (Unit {0} × List Lexeme)) → made_of v l (o >>= λ e. Some (q, e.1)) ≡ (o >>= λ e. Some (with_default v l q, e.1))
     close q None = refl
     close q (Some e) = refl
 
-    each : (r : Numbers) → made_of v l (r >>= λ x. read (mark RightBracket) x.1 >>= λ e. Some (x.0, e.1)) ≡ (behind_both [] (l ∷ []) r >>= λ c. read (mark RightBracket) c.1 >>= λ e. Some (switch_of v c.0, e.1))
+    each : (r : Numbers) → made_of v l (r >>= λ x. read (mark RightBracket) x.1 >>= λ e. Some (x.0, e.1)) ≡ (gathered (cases_behind [] false (l ∷ [])) r >>= λ c. read (mark RightBracket) c.1 >>= λ e. Some (switch_of v c.0, e.1))
     each None = refl
     each (Some x) = close x.0 (read (mark RightBracket) x.1)
 
@@ -276,3 +321,25 @@ switch_is defs ts =
 pub case_takes : nullable case_of_switch ≡ false
 unfolding case_of_switch width
 case_takes = refl
+
+-- one case more behind others
+pub one_behind : (ns : List ℕ) (wide : Bool) (ls : List Name) (n : ℕ) (b : Bool) (l : Name) (q : List (ℕ × Bool) × List Name) → cases_behind ns wide ls ((n, b) ∷ q.0, l ∷ q.1) ≡ cases_behind (ns ++ n ∷ []) (wide || b) (ls ++ l ∷ []) q
+one_behind ns wide ls n b l q =
+    ap (λ (x : List ℕ). ((x, wide || (b || list_any (λ n. n.1) q.0)), ls ++ (l ∷ q.1))) (sym (append_assoc ns (n ∷ []) (map (λ n. n.0) q.0)))
+    ∙ ap (λ (x : Bool). (((ns ++ n ∷ []) ++ map (λ n. n.0) q.0, x), ls ++ (l ∷ q.1))) (or_assoc wide b (list_any (λ n. n.1) q.0))
+    ∙ ap (λ (x : List Name). (((ns ++ n ∷ []) ++ map (λ n. n.0) q.0, (wide || b) || list_any (λ n. n.1) q.0), x)) (sym (append_assoc ls (l ∷ []) q.1))
+  where
+    or_assoc : (x y z : Bool) → (x || (y || z)) ≡ ((x || y) || z)
+    or_assoc true y z = refl
+    or_assoc false y z = refl
+
+-- no case behind them
+pub none_behind : (ns : List ℕ) (wide : Bool) (ls : List Name) → cases_behind ns wide ls ([], []) ≡ ((ns, wide), ls)
+none_behind ns wide ls =
+    ap (λ (x : List ℕ). ((x, wide || false), ls ++ [])) (append-nil ns)
+    ∙ ap (λ (x : Bool). ((ns, x), ls ++ [])) (or_false wide)
+    ∙ ap (λ (x : List Name). ((ns, wide), x)) (append-nil ls)
+  where
+    or_false : (x : Bool) → (x || false) ≡ x
+    or_false true = refl
+    or_false false = refl

@@ -1,5 +1,6 @@
 -- Elements that become two things each, in two lists: the entries of a phi and the cases of a switch.
-use Rattle.std.specs.Prelude.{ℕ, ◌==◌, List, [], ◌∷◌, ◌++◌, map, Option, Some, None, if◌then◌else◌}
+use Rattle.std.specs.Prelude.{ℕ, ◌==◌, Bool, false, not, ◌||◌, List, [], ◌∷◌, ◌++◌, map, Option, Some, None, if◌then◌else◌}
+use Rattle.std.specs.List.{list_any}
 use Rattle.forms.specs.declared.TokenKind.TheVariants.{Comma, LeftBracket, RightBracket}
 use Rattle.forms.specs.Form.{Lexeme, Form, pair, many}
 use Rattle.forms.specs.Reading.{◌>>=◌, read}
@@ -14,7 +15,7 @@ use Rattle.ir_types.specs.declared.inst.Operand.{Operand}
 use Rattle.ir_types.specs.Offsets.{Definitions}
 use Rattle.ir_types.specs.Tree.{OperandTree, InstTree}
 use Rattle.ir_types.specs.Written.{number_at}
-use Rattle.ir_types.specs.Grammar.{WrittenValue, operand_at, bare_inst, value_type, index_value, after_mark, target, commas, local_name, entry_of_phi, case_of_switch}
+use Rattle.ir_types.specs.Grammar.{WrittenValue, operand_at, index_fits, if_wide, bare_inst, value_type, index_value, after_mark, target, commas, local_name, entry_of_phi, case_of_switch}
 use Rattle.ir_reader_ops.specs.declared.scope.Scope.{Scope}
 use Rattle.ir_reader_ops.specs.Seen.{name_seen, operand_seen}
 use Rattle.ir_reader_ops.specs.View.{typed_in}
@@ -25,9 +26,17 @@ abbrev pub split_each : {A B C : Type 0} → (A → Option (B × C)) → List A 
 split_each f [] = Some ([], [])
 split_each f (a ∷ more) = f a >>= λ p. split_each f more >>= λ q. Some (p.0 ∷ q.0, p.1 ∷ q.1)
 
+-- what is made of what is read
+abbrev pub gathered : {B D : Type 0} → (B → D) → Option (B × List Lexeme) → Option (D × List Lexeme)
+gathered f r = r >>= λ x. Some (f x.0, x.1)
+
+-- two lists, behind two others
+abbrev pub put_behind : {B C : Type 0} → List B → List C → List B × List C → List B × List C
+put_behind bs cs x = (bs ++ x.0, cs ++ x.1)
+
 -- what is read, behind two lists
 abbrev pub behind_both : {B C : Type 0} → List B → List C → Option ((List B × List C) × List Lexeme) → Option ((List B × List C) × List Lexeme)
-behind_both bs cs r = r >>= λ x. Some ((bs ++ x.0.0, cs ++ x.0.1), x.1)
+behind_both bs cs r = gathered (put_behind bs cs) r
 
 -- labels, by their names
 abbrev pub labels_in : Scope → List ValueId → List Name
@@ -61,21 +70,25 @@ phi_read defs ts =
     completed (split_each (entry_at defs t.0)) (read (commas entry_of_phi) t.1) >>= λ q.
     Some (bare_inst kinds.Phi t.0 q.0.0 q.0.1, q.1)
 
--- a case of a switch: its number, where its width is this, and its label
-abbrev pub case_at : ℕ → (ℕ × List ℕ) × Name → Option (ℕ × Name)
-case_at w c = if c.0.0 == w then Some (number_at w c.0.1, c.1) else None
+-- a case of a switch, where its width is this: its number, and whether that is out of range, and its label
+abbrev pub case_at : ℕ → (ℕ × List ℕ) × Name → Option ((ℕ × Bool) × Name)
+case_at w c = if c.0.0 == w then Some ((number_at w c.0.1, not (index_fits c.0)), c.1) else None
 
--- a number and a label
-abbrev pub case_in : Scope → ℕ × ValueId → ℕ × Name
+-- a number, whether it is out of range, and a label
+abbrev pub case_in : Scope → (ℕ × Bool) × ValueId → (ℕ × Bool) × Name
 case_in s c = (c.0, name_seen s c.1)
 
--- numbers and labels
-abbrev pub cases_in : Scope → List ℕ × List ValueId → List ℕ × List Name
+-- numbers, whether one of them is out of range, and labels
+abbrev pub cases_in : Scope → (List ℕ × Bool) × List ValueId → (List ℕ × Bool) × List Name
 cases_in s cs = (cs.0, labels_in s cs.1)
 
+-- the same of cases, behind those of others
+abbrev pub cases_behind : List ℕ → Bool → List Name → List (ℕ × Bool) × List Name → (List ℕ × Bool) × List Name
+cases_behind numbers wide labels cs = ((numbers ++ map (λ n. n.0) cs.0, wide || list_any (λ n. n.1) cs.0), labels ++ cs.1)
+
 -- the cases, behind the labels before them
-abbrev pub cases_read : ℕ → List Name → List Lexeme → Option ((List ℕ × List Name) × List Lexeme)
-cases_read w labels ts = behind_both [] labels (completed (split_each (case_at w)) (read (many case_of_switch) ts))
+abbrev pub cases_read : ℕ → List Name → List Lexeme → Option (((List ℕ × Bool) × List Name) × List Lexeme)
+cases_read w labels ts = gathered (cases_behind [] false labels) (completed (split_each (case_at w)) (read (many case_of_switch) ts))
 
 -- iN V, label %name
 abbrev pub switch_head : Definitions → Form ((ℕ × OperandTree) × Name)
@@ -92,4 +105,4 @@ switch_read defs ts =
     read (mark LeftBracket) h.1 >>= λ o.
     cases_read h.0.0.0 (h.0.1 ∷ []) o.1 >>= λ c.
     read (mark RightBracket) c.1 >>= λ e.
-    Some (bare_inst (kinds.Switch h.0.0.0 c.0.0) Void (h.0.0.1 ∷ []) c.0.1, e.1)
+    Some (if_wide c.0.0.1 (bare_inst (kinds.Switch h.0.0.0 c.0.0.0) Void (h.0.0.1 ∷ []) c.0.1), e.1)

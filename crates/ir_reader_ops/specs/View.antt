@@ -1,13 +1,13 @@
 -- What the code keeps of what it has read, as values of the grammar.
-use Rattle.std.specs.Prelude.{List, [], ◌∷◌, map, All}
+use Rattle.std.specs.Prelude.{◌≤◌, ℕ, List, [], ◌∷◌, map, Option, Some, None, All}
 use Rattle.ir_types.specs.declared.name.Name.{Name}
 use Rattle.ir_types.specs.declared.inst.Ty.{Ty}
 use Rattle.ir_types.specs.declared.inst.Operand.{Operand}
 use Rattle.ir_types.specs.TypeNodes.{names_used}
-use Rattle.ir_types.specs.Tree.{OperandTree, global}
+use Rattle.ir_types.specs.Tree.{OperandTree, lanes, global, out_of_range}
 use Rattle.ir_types.specs.Grammar.{WrittenLane, lane_digits, lane_true, lane_false, lane_poison, WrittenValue, named, digits, yes, no, null_word, poison_word, zeros, splat, lane_list, symbol, stepped}
 use Rattle.type_reader.specs.Uses.{Uses}
-use Rattle.ir_sizes.specs.Stepping.{index_pair, IsIndex}
+use Rattle.ir_reader_ops.specs.declared.constant.WrittenIndex.{WrittenIndex}
 use Rattle.ir_reader_ops.specs.declared.lanes.Lane.{Lane}
 use Rattle.ir_reader_ops.specs.declared.lanes.Lane.TheVariants as lane
 use Rattle.ir_reader_ops.specs.declared.scope.Scope.{Scope}
@@ -30,6 +30,10 @@ typed_lane_in x = (x.0, lane_in x.1)
 abbrev pub lanes_in : List (Ty × Lane) → List (Ty × WrittenLane)
 lanes_in xs = map typed_lane_in xs
 
+-- an index as it is written
+abbrev pub index_in : WrittenIndex → ℕ × List ℕ
+index_in i = (i.width, i.digits.now)
+
 -- a value as it is written
 abbrev pub written_in : Scope → Written → WrittenValue
 written_in s (written.Named i) = named (name_seen s i)
@@ -42,12 +46,21 @@ written_in s written.Zeros = zeros
 written_in s (written.Splat t l) = splat (t, lane_in l)
 written_in s (written.Lanes xs) = lane_list (lanes_in xs)
 written_in s (written.Symbol i) = symbol (symbol_seen s i)
-written_in s (written.Stepped id i xs) = stepped (nodes_seen s id, (symbol_seen s i, map index_pair xs))
+written_in s (written.Stepped id i xs) = stepped (nodes_seen s id, (symbol_seen s i, map index_in xs))
 
--- indexes are below 2 to their widths
+-- the width of an index is from 1 to 64
+abbrev pub HasWidth : WrittenIndex → Type 0
+HasWidth i = (1 ≤ i.width) × (i.width ≤ 64)
+
+-- the widths of indexes are
 abbrev pub AreIndexed : Written → Type 0
-AreIndexed (written.Stepped id i xs) = All IsIndex xs
+AreIndexed (written.Stepped id i xs) = All HasWidth xs
 AreIndexed w = Unit {0}
+
+-- lanes as an operand, none where one is out of range
+abbrev pub lanes_held : Option (List (Option ℕ)) → OperandTree
+lanes_held (Some xs) = lanes xs
+lanes_held None = out_of_range None
 
 -- an operand behind its type or its width
 abbrev pub typed_in : {T : Type 0} → Scope → T × Operand → T × OperandTree

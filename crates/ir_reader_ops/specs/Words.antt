@@ -1,7 +1,10 @@
 -- Instructions behind their words, and with their attachments.
-use Rattle.std.specs.Prelude.{codes, List, Option, Some}
+use Rattle.std.specs.Prelude.{Bool, true, false, ◌||◌, codes, List, Option, Some}
+use Rattle.std.specs.List.{list_any}
 use Rattle.forms.specs.Form.{Lexeme, Form, either, by_word}
 use Rattle.forms.specs.Reading.{◌>>=◌, read}
+use Rattle.ir_types.specs.declared.inst.Operand.{Operand}
+use Rattle.ir_types.specs.declared.inst.Operand.TheVariants.{OutOfRange}
 use Rattle.ir_types.specs.declared.inst.Inst.{Inst}
 use Rattle.ir_types.specs.Offsets.{Definitions}
 use Rattle.ir_types.specs.Tree.{InstTree}
@@ -13,9 +16,14 @@ use Rattle.ir_reader_ops.specs.declared.inst.Place.TheVariants.{Inside, Last}
 abbrev pub bare_terminator : Definitions → Form InstTree
 bare_terminator defs = either (by_word terminator_words (terminator_behind defs)) (word (codes "unreachable") unreachable_tree)
 
--- an instruction with the attachments that are read behind it
+-- whether an operand has a number out of its type's range
+abbrev pub is_outside : Operand → Bool
+is_outside (OutOfRange i) = true
+is_outside a = false
+
+-- an instruction with the attachments that are read behind it, wide where an operand is out of range
 abbrev pub attached_to : Inst → List Lexeme → Option (Inst × List Lexeme)
-attached_to i ts = read inst_attachments ts >>= λ k. Some (record i { kept = k.0 }, k.1)
+attached_to i ts = read inst_attachments ts >>= λ k. Some (record i { wide = list_any is_outside i.args || i.wide; kept = k.0 }, k.1)
 
 -- the instructions that may stand at a place of a block
 abbrev pub form_at : Definitions → Place → Form InstTree

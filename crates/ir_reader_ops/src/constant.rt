@@ -5,24 +5,30 @@ ghost use Rattle.forms.specs.declared.TokenKind.TheVariants.{Comma};
 ghost use Rattle.forms.specs.Form.{mapped};
 ghost use Rattle.forms.specs.Reading.{read};
 ghost use Rattle.forms.specs.Gives.{Gives, left};
-ghost use Rattle.ir_sizes.specs.Stepping.{index_pair, IsIndex};
 ghost use Rattle.ir_types.specs.TypeNodes.{names_used};
 ghost use Rattle.ir_types.specs.Tree.{global};
 ghost use Rattle.type_reader.specs.Uses.{Uses};
 ghost use Rattle.ir_types.specs.Grammar.{global_name, inst_memory, after_mark, behind, some, comma_index, stepped, constant_offset};
 ghost use Rattle.ir_reader_ops.specs.Seen.{nodes_seen, symbol_seen, Widens, Stays, OperandsUse};
-ghost use Rattle.ir_reader_ops.specs.View.{written_in, AreIndexed, WrittenUses};
+ghost use Rattle.ir_reader_ops.specs.View.{index_in, HasWidth, written_in, AreIndexed, WrittenUses};
 
 use crate::flags::three_flags;
-use crate::numbers::number_at;
 use crate::scope::Scope;
 use crate::value::Written;
 use forms::{Cursor, SyntaxFault, TokenKind};
-use ir_sizes::Index;
 use ir_types::TypeId;
 use lists::Items;
 use std::alloc::Global;
 use type_reader::{global, width};
+
+/// An index as it is written.
+#[derive(Clone, Copy, Debug)]
+pub struct WrittenIndex<'t> {
+    /// The width in bits, from 1 to 64.
+    pub width: u32,
+    /// The token of a number.
+    pub digits: &'t [u8],
+}
 
 /// A memory type, which is added to the module's.
 #[tactic(auto, using(crate::proofs::Widening::tables_widen))]
@@ -74,22 +80,23 @@ fn comma_symbol<'t>(
 }
 
 /// iN number behind a comma.
-#[tactic(auto, using(crate::proofs::Modulo::number_below))]
-fn comma_index<'t>(tokens: Cursor<'t>) -> Result<(Index, Cursor<'t>), SyntaxFault>
-    ensures reads { Gives (λ x. (index_pair x.0, left x.1)) result (read comma_index (left tokens.entry)) }
-    ensures within { IfOk result (λ x. IsIndex x.0) }
+fn comma_index<'t>(tokens: Cursor<'t>) -> Result<(WrittenIndex<'t>, Cursor<'t>), SyntaxFault>
+    ensures reads { Gives (λ x. (index_in x.0, left x.1)) result (read comma_index (left tokens.entry)) }
+    ensures within { IfOk result (λ x. HasWidth x.0) }
 {
     let rest = tokens.mark(TokenKind::Comma)?;
     let (width, rest) = width(rest)?;
     let (digits, rest) = rest.one(TokenKind::Number)?;
-    let number = number_at(width, digits);
-    Ok((Index { width, number }, rest))
+    Ok((WrittenIndex { width, digits }, rest))
 }
 
 /// Indexes, at least one.
-fn indexes<'t>(alloc: Global, tokens: Cursor<'t>) -> Result<(Vec<Index>, Cursor<'t>), SyntaxFault>
-    ensures reads { Gives (λ x. (map index_pair x.0.items, left x.1)) result (read (some comma_index) (left tokens.entry)) }
-    ensures within { IfOk result (λ x. All IsIndex x.0.items) }
+fn indexes<'t>(
+    alloc: Global,
+    tokens: Cursor<'t>,
+) -> Result<(Vec<WrittenIndex<'t>>, Cursor<'t>), SyntaxFault>
+    ensures reads { Gives (λ x. (map index_in x.0.items, left x.1)) result (read (some comma_index) (left tokens.entry)) }
+    ensures within { IfOk result (λ x. All HasWidth x.0.items) }
 {
     let (first, mut rest) = comma_index(tokens)?;
     let mut indexes = Vec::new(alloc);

@@ -7,7 +7,8 @@ ghost use Rattle.forms.specs.Gives.{Gives, left};
 ghost use Rattle.ir_types.specs.Offsets.{Definitions};
 ghost use Rattle.ir_types.specs.Grammar.{operation_words, operation_behind, terminator_words, terminator_behind, operation, terminator};
 ghost use Rattle.ir_reader_ops.specs.Seen.{inst_seen, definitions, Widens, Stays, InstUses};
-ghost use Rattle.ir_reader_ops.specs.Words.{attached_to, bare_terminator, form_at, instruction};
+ghost use Rattle.std.specs.List.{list_any};
+ghost use Rattle.ir_reader_ops.specs.Words.{is_outside, attached_to, bare_terminator, form_at, instruction};
 
 use crate::arithmetic::{
     comparison, freeze, or_operation, overflowing, plain_binary, possibly_exact, selection,
@@ -24,7 +25,7 @@ use crate::switch::switch;
 use crate::vectors::{extract, insert, shuffle};
 use crate::words::{operation_of, terminator_of};
 use forms::{Cursor, SyntaxFault, TokenKind};
-use ir_types::{Inst, InstKind, Operation, Terminator, Ty};
+use ir_types::{Inst, InstKind, Operand, Operation, Terminator, Ty};
 use kept_runs::keep_comma_attachments;
 use lists::{Few, Texts};
 use std::alloc::Global;
@@ -126,7 +127,26 @@ fn bare_terminator<'t>(
     Ok((applied(alloc, InstKind::Unreachable, Ty::Void, args), rest))
 }
 
-/// An instruction with the attachments that stand behind it.
+/// Whether a number in an operand is out of its type's range.
+fn is_outside(operand: &Operand) -> bool
+    ensures { result ≡ is_outside operand.now }
+{
+    matches!(operand, Operand::OutOfRange(_))
+}
+
+/// Whether a number in one of these operands is.
+fn any_outside(operands: &[Operand]) -> bool
+    ensures { result ≡ list_any is_outside operands.now }
+{
+    for operand in operands {
+        if is_outside(operand) {
+            return true;
+        }
+    }
+    false
+}
+
+/// An instruction with the attachments that stand behind it, wide where an operand is out of range.
 #[tactic(auto, unfolding(ir_types::specs::Grammar::inst_attachments))]
 fn with_attachments<'t>(
     alloc: Global,
@@ -138,11 +158,12 @@ fn with_attachments<'t>(
 {
     let mut kept = Texts::new(alloc);
     let rest = keep_comma_attachments(alloc, tokens, &mut kept)?;
-    Ok((Inst { kept, ..inst }, rest))
+    let wide = any_outside(inst.args.as_slice()) || inst.wide;
+    Ok((Inst { wide, kept, ..inst }, rest))
 }
 
 /// An instruction that doesn't end a block.
-#[tactic(auto, unfolding(ir_types::specs::Grammar::operation))]
+#[tactic(auto, unfolding(ir_types::specs::Grammar::operation), using(crate::proofs::Attached::outside_seen))]
 fn operation<'t>(
     alloc: Global,
     tokens: Cursor<'t>,
@@ -159,7 +180,7 @@ fn operation<'t>(
 }
 
 /// A terminator.
-#[tactic(auto, unfolding(ir_types::specs::Grammar::terminator))]
+#[tactic(auto, unfolding(ir_types::specs::Grammar::terminator), using(crate::proofs::Attached::outside_seen))]
 fn terminator<'t>(
     alloc: Global,
     tokens: Cursor<'t>,

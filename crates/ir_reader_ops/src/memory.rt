@@ -11,7 +11,7 @@ ghost use Rattle.ir_reader_ops.specs.Operands.{written_alignment};
 ghost use Rattle.ir_reader_ops.specs.Seen.{inst_seen, definitions, Widens, Stays, InstUses};
 
 use crate::making::{applied, one_operand, two_operands};
-use crate::numbers::number_of;
+use crate::numbers::saturated_number_of;
 use crate::scope::Scope;
 use crate::typed::{comma_pointer, typed_value};
 use forms::{Cursor, SyntaxFault, TokenKind};
@@ -19,7 +19,7 @@ use ir_types::{Inst, InstKind, Ty};
 use std::alloc::Global;
 use type_reader::value_type;
 
-/// The alignment that is written so: digits without a sign, modulo 2^64.
+/// The alignment that is written so: digits without a sign, for a number of at most 64 bits.
 fn alignment_of(digits: &[u8]) -> Option<u64>
     ensures { result ≡ alignment_of digits.now }
 {
@@ -27,7 +27,7 @@ fn alignment_of(digits: &[u8]) -> Option<u64>
     if *first == b'-' {
         return None;
     }
-    Some(number_of(digits))
+    Some(saturated_number_of(digits))
 }
 
 /// align n behind a comma.

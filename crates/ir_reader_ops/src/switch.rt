@@ -11,7 +11,7 @@ ghost use Rattle.ir_reader_ops.specs.Seen.{name_seen, inst_seen, definitions, Wi
 
 use crate::branches::comma_target;
 use crate::making::{bare, one_label, one_operand};
-use crate::numbers::number_at;
+use crate::numbers::{fits_width, number_at};
 use crate::scope::Scope;
 use crate::typed::index_value;
 use forms::{Cursor, SyntaxFault, TokenKind};
@@ -20,14 +20,14 @@ use lists::Items;
 use std::alloc::Global;
 use type_reader::{begins_width, width};
 
-/// iN number, label %name, where the width is this.
+/// iN number, label %name, where the width is this: the number, whether it is out of range, and the label.
 #[tactic(auto, unfolding(ir_types::specs::Grammar::case_of_switch))]
 fn case<'t>(
     alloc: Global,
     bits: u32,
     tokens: Cursor<'t>,
     scope: &mut Scope,
-) -> Result<((u64, ValueId), Cursor<'t>), SyntaxFault>
+) -> Result<(((u64, bool), ValueId), Cursor<'t>), SyntaxFault>
     requires { bits ≤ 64 }
     ensures grows { Widens scope.old scope.new }
     ensures reads { Gives (λ x. (case_in scope.new x.0, left x.1)) result (completed (case_at bits) (read case_of_switch (left tokens.entry))) }
@@ -40,7 +40,9 @@ fn case<'t>(
     if written != bits {
         return Err(tokens.refusal());
     }
-    Ok(((number_at(bits, digits), label), rest))
+    let number = number_at(bits, digits);
+    let outside = !fits_width(written, digits);
+    Ok((((number, outside), label), rest))
 }
 
 /// Whether a case stands next.
@@ -51,31 +53,33 @@ fn begins_case(tokens: Cursor<'_>) -> bool
     begins_width(tokens)
 }
 
-/// The numbers of the cases, and their labels behind those before them.
+/// The numbers of the cases, whether one of them is out of range, and the labels behind those before them.
 fn cases<'t>(
     alloc: Global,
     bits: u32,
     labels: Labels,
     tokens: Cursor<'t>,
     scope: &mut Scope,
-) -> Result<((Vec<u64>, Labels), Cursor<'t>), SyntaxFault>
+) -> Result<(((Vec<u64>, bool), Labels), Cursor<'t>), SyntaxFault>
     requires narrow { bits ≤ 64 }
     requires labels { AreSteady name_seen scope.old labels }
     ensures grows { Widens scope.old scope.new }
-    ensures reads { Gives (λ x. (cases_in scope.new (x.0.0.items, x.0.1), left x.1)) result (cases_read bits (labels_in scope.old labels) (left tokens.entry)) }
-    ensures stays { Stays (λ ns x. cases_in ns (x.0.items, x.1)) scope.new result }
+    ensures reads { Gives (λ x. (cases_in scope.new ((x.0.0.0.items, x.0.0.1), x.0.1), left x.1)) result (cases_read bits (labels_in scope.old labels) (left tokens.entry)) }
+    ensures stays { Stays (λ ns x. cases_in ns ((x.0.0.items, x.0.1), x.1)) scope.new result }
     ensures tables { scope.new.tables ≡ scope.old.tables }
 {
     let mut numbers = Vec::new(alloc);
+    let mut wide = false;
     let mut labels = labels;
     let mut rest = tokens;
     'more: while begins_case(rest) {
-        let ((number, label), after) = case(alloc, bits, rest, scope)?;
+        let (((number, outside), label), after) = case(alloc, bits, rest, scope)?;
         numbers.push(number)?;
+        wide |= outside;
         labels.push(label)?;
         rest = after;
     }
-    Ok(((numbers, labels), rest))
+    Ok((((numbers, wide), labels), rest))
 }
 
 /// iN V, label %name.
@@ -110,9 +114,10 @@ pub fn switch<'t>(
     let (((bits, value), default), rest) = head(alloc, tokens, scope)?;
     let rest = rest.mark(TokenKind::LeftBracket)?;
     let labels = one_label(alloc, default)?;
-    let ((numbers, labels), rest) = cases(alloc, bits, labels, rest, scope)?;
+    let (((numbers, wide), labels), rest) = cases(alloc, bits, labels, rest, scope)?;
     let rest = rest.mark(TokenKind::RightBracket)?;
     let args = one_operand(alloc, value)?;
     let kind = InstKind::Switch(bits, Items::from_vec(numbers));
-    Ok((bare(alloc, kind, Ty::Void, args, labels), rest))
+    let inst = bare(alloc, kind, Ty::Void, args, labels);
+    Ok((Inst { wide, ..inst }, rest))
 }

@@ -9,11 +9,10 @@ ghost use Rattle.ir_reader_ops.specs.declared.scope.Scope.{Scope};
 ghost use Rattle.ir_reader_ops.specs.Seen.{name_seen, Widens, Stays};
 ghost use Rattle.ir_reader_ops.specs.View.{written_in, AreIndexed, WrittenUses};
 
-use crate::constant::{constant_offset, symbol};
+use crate::constant::{WrittenIndex, constant_offset, symbol};
 use crate::lanes::{Lane, lane_in_parens, lane_list};
 use crate::scope::Scope;
 use forms::{Cursor, SyntaxFault, TokenKind};
-use ir_sizes::Index;
 use ir_types::{Ty, TypeId, ValueId};
 use lists::Items;
 use std::alloc::Global;
@@ -37,7 +36,7 @@ pub enum Written<'t> {
     /// A symbol, by its place.
     Symbol(u32),
     /// A symbol that is stepped through as a memory type, by indexes.
-    Stepped(TypeId, u32, Items<Index>),
+    Stepped(TypeId, u32, Items<WrittenIndex<'t>>),
 }
 
 /// The place of a local name, which is added to the names where it is new.

@@ -4,7 +4,7 @@ use Rattle.forms.specs.Form.{many}
 use Rattle.forms.specs.Reading.{read}
 use Rattle.forms.specs.Gives.{left}
 use Rattle.forms.proofs.Many.{behind_front}
-use Rattle.ir_sizes.specs.Stepping.{index_pair, IsIndex}
+use Rattle.ir_reader_ops.specs.View.{index_in, HasWidth}
 use Rattle.ir_types.specs.Grammar.{some, comma_index}
 use Rattle.ir_reader_ops.proofs.constant.indexes.Given as goal
 
@@ -13,6 +13,6 @@ decreases-more l = length l.rest.rest.now
 
 abbrev pub invariant-more : goal.invariant-more
 invariant-more l = record {
-  reads : behind_front (map index_pair l.indexes.items) (read (many comma_index) (left l.rest)) ≡ read (some comma_index) (left l.fn.tokens);
-  within : All IsIndex l.indexes.items;
+  reads : behind_front (map index_in l.indexes.items) (read (many comma_index) (left l.rest)) ≡ read (some comma_index) (left l.fn.tokens);
+  within : All HasWidth l.indexes.items;
 }
