@@ -174,8 +174,18 @@ c:
 fn check_first_block(rt: &impl Abort, insts: &[Inst]) {
     if let [great, small, store, switch] = insts {
         assert!(rt; great.wide && !small.wide && !store.wide && switch.wide);
-        assert!(rt; matches!(great.args.as_slice(), [Operand::Int(1), Operand::OutOfRange(None)]));
-        assert!(rt; matches!(small.args.as_slice(), [Operand::Int(128), Operand::Int(255)]));
+        assert!(rt;
+            matches!(
+                great.args.as_slice(),
+                [Operand::Int(1), Operand::OutOfRange(None)]
+            )
+        );
+        assert!(rt;
+            matches!(
+                small.args.as_slice(),
+                [Operand::Int(128), Operand::Int(255)]
+            )
+        );
         assert!(rt; matches!(store.kind, InstKind::Store(_, 18446744073709551615)));
         if let InstKind::Switch(_, cases) = &switch.kind {
             assert!(rt; matches!(cases.as_slice(), [1, 127]));
