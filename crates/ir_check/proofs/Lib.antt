@@ -1,2 +1,2 @@
 mod Narrowed
-mod Causes
+pub mod Causes

@@ -36,12 +36,15 @@ impl Model for Checked {
 
 impl Checked {
     ghost use Rattle.std.specs.Prelude.{◌≡◌};
+    ghost use Rattle.ir_shape.specs.Narrow.{IsNarrow};
     ghost use Rattle.ir_rules.specs.WellFormed.{IsWellFormed};
 
     /// The module. It takes no memory.
+    #[tactic(auto, using(crate::proofs::Narrowed::narrow))]
     pub fn module(&self) -> &Module
         ensures is { result.now ≡ self.now }
         ensures well_formed { IsWellFormed self.now }
+        ensures narrow { IsNarrow self.now }
     {
         &self.module
     }
