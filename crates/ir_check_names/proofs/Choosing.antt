@@ -1,9 +1,8 @@
 -- The first that is found, in lists behind one another and in what is made of them.
-use Rattle.std.proofs.Common.{Result, Ok, Err, ◌≡◌, ◌<◌, ◌≤◌, ℕ, suc, ◌+◌, List, [], ◌∷◌, ◌++◌, map, length, get_or, drop, Option, Some, None, refl, sym, ap, ◌∙◌}
+use Rattle.std.proofs.Common.{Result, Ok, Err, ◌≡◌, List, [], ◌∷◌, ◌++◌, map, Option, Some, None, refl, sym, ap, ◌∙◌}
 use Rattle.std.specs.Prelude.{IfOk}
 use Rattle.std.specs.Option.{option_map}
 use Rattle.std.specs.List.{AllByRecursion, filter_map, cons_option}
-use Rattle.std.proofs.lemmas.List.{at_drop_more, at_drop_all}
 use Rattle.forms.specs.Nested.{concat}
 use Rattle.ir_rules.specs.Breaches.{first}
 use Rattle.ir_check_names.specs.Choice.{or_else, first_of}
@@ -68,15 +67,6 @@ first_of_some h f (x ∷ xs) = by (h x) (first_of_some h f xs)
 pub same_firsts : {A B : Type 0} (P : A → Type 0) (f g : A → Option B) → ((x : A) → P x → f x ≡ g x) → (xs : List A) → AllByRecursion P xs → first_of f xs ≡ first_of g xs
 same_firsts P f g same [] h = refl
 same_firsts P f g same (x ∷ xs) h = let e = same x h.0 in let es = same_firsts P f g same xs h.1 in cc
-
--- ---- as loops need them
-
--- none is found in front of this one, and here it is
-pub found_item : {A B : Type 0} (f : A → Option B) (xs : List A) (i : ℕ) (x : A) (b : B) → i < length xs → x ≡ get_or xs i x → first_of f (drop i xs) ≡ first_of f xs → f x ≡ Some b → Some b ≡ first_of f xs
-found_item f xs i x b lt is h here =
-    let step : first_of f (drop i xs) ≡ or_else (f (get_or xs i x)) (first_of f (drop (i + 1) xs)) = at_drop_more (first_of f) xs i x lt in
-    let there : or_else (f (get_or xs i x)) (first_of f (drop (i + 1) xs)) ≡ Some b = ap (λ y. or_else (f y) (first_of f (drop (i + 1) xs))) (sym is) ∙ ap (λ o. or_else o (first_of f (drop (i + 1) xs))) here in
-    sym there ∙ sym step ∙ h
 
 -- an answer is this one where it is an equal one
 pub same_answer : {A E : Type 0} (r : Result A E) (a b : A) → a ≡ b → IfOk r (λ found. found ≡ a) → IfOk r (λ found. found ≡ b)

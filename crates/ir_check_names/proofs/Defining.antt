@@ -1,22 +1,19 @@
 -- The locals of a function where they are defined, by their places and by their names.
 use Rattle.std.proofs.Common.{◌≡◌, ◌<◌, ℕ, suc, ◌+◌, List, [], ◌∷◌, ◌++◌, map, length, Option, Some, None, refl, sym, ap, ◌∙◌}
-use Rattle.std.specs.Prelude.{slice_get, IfSome}
+use Rattle.std.specs.Prelude.{IfSome}
 use Rattle.std.specs.Option.{option_map}
 use Rattle.std.specs.List.{AllByRecursion, AllZip}
 use Rattle.std.proofs.lemmas.List.{length-map}
 use Rattle.text_lex.proofs.Lexed.{each_append}
 use Rattle.ir_types.specs.declared.name.Name.{Name}
 use Rattle.ir_types.specs.declared.name.ValueId.{ValueId}
-use Rattle.ir_types.specs.declared.inst.Ty.{Ty}
 use Rattle.ir_types.specs.declared.inst.Inst.{Inst}
 use Rattle.ir_types.specs.declared.module.Block.{Block}
 use Rattle.ir_types.specs.declared.module.Param.{Param}
 use Rattle.ir_types.specs.declared.module.Function.{Function}
 use Rattle.ir_types.specs.Denotes.{Tables, name_in, inst_in, block_in, param_in, function_in}
 use Rattle.ir_shape.specs.Placed.{IsPlace, IsInstPlaced, IsBlockPlaced, IsParamPlaced, IsFunctionPlaced}
-use Rattle.ir_rules.specs.declared.fault.Subject.{Subject}
-use Rattle.ir_rules.specs.declared.fault.Subject.TheVariants.{Nothing, Local}
-use Rattle.ir_rules.specs.declared.fault.Breach.{Breach}
+use Rattle.ir_rules.specs.declared.fault.Subject.TheVariants.{Local}
 use Rattle.ir_rules.specs.Breaches.{inside}
 use Rattle.ir_rules.specs.Locals.{value, definitions_of}
 use Rattle.ir_rules.specs.Locals as rules

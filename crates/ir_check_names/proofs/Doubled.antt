@@ -1,6 +1,6 @@
 -- The first name at whose place there is a mark is the first that stands before, too.
-use Rattle.std.proofs.Common.{◌≡◌, ◌<◌, ℕ, Bool, true, false, not, cond, ◌&&◌, List, [], ◌∷◌, ◌++◌, map, length, get_or, set, replicate, Option, Some, None, refl, sym, ap, ◌∙◌}
-use Rattle.std.specs.Prelude.{slice_get, filter}
+use Rattle.std.proofs.Common.{◌≡◌, ◌<◌, Bool, true, false, cond, ◌&&◌, List, [], ◌∷◌, ◌++◌, map, length, get_or, set, Option, Some, refl, sym, ap, ◌∙◌}
+use Rattle.std.specs.Prelude.{filter}
 use Rattle.std.specs.Option.{option_map}
 use Rattle.std.specs.List.{AllByRecursion, AllZip, filter_map, cons_option}
 use Rattle.std.proofs.lemmas.List.{map-append}
@@ -14,10 +14,10 @@ use Rattle.ir_types.specs.declared.module.SymbolKind.{SymbolKind}
 use Rattle.ir_types.specs.declared.module.SymbolKind.TheVariants as symbols
 use Rattle.ir_types.specs.declared.module.Function.{Function}
 use Rattle.ir_types.specs.declared.module.Module.{Module}
-use Rattle.ir_types.specs.Denotes.{Tables, name_in, type_name_in, symbol_in, nodes_in, function_in, tables_of, tree_of}
-use Rattle.ir_types.specs.Names.{IsTable, has_name, name_at}
+use Rattle.ir_types.specs.Denotes.{Tables, name_in, type_name_in, symbol_in, function_in, tables_of, tree_of}
+use Rattle.ir_types.specs.Names.{IsTable, has_name}
 use Rattle.ir_types.specs.Reads.{IsReadable}
-use Rattle.ir_types.specs.Tree.{FunctionTree, TypeNameTree, SymbolTree, defined, opaque, variable, function}
+use Rattle.ir_types.specs.Tree.{FunctionTree, TypeNameTree, SymbolTree}
 use Rattle.ir_shape.specs.Placed.{IsFunctionPlaced}
 use Rattle.ir_shape.proofs.Placing.{readable_placed}
 use Rattle.ir_rules.specs.declared.fault.Subject.{Subject}

@@ -1,8 +1,8 @@
 -- The first name of a memory type that isn't known is the first that is missing, and what is missing isn't known.
 use Rattle.std.proofs.Common.{◌≡◌, ◌≢◌, ◌<◌, ◌≤◌, ◌-◌, ◌+◌, ℕ, zero, suc, Bool, true, false, not, cond, ◌||◌, List, [], ◌∷◌, ◌++◌, map, length, get_or, Option, Some, None, refl, sym, ap, ◌∙◌, ◌⊎◌, inl, inr, arith}
-use Rattle.std.specs.Prelude.{slice_get, filter}
+use Rattle.std.specs.Prelude.{slice_get}
 use Rattle.std.specs.Option.{option_map}
-use Rattle.std.specs.List.{AllByRecursion, filter_map, list_any}
+use Rattle.std.specs.List.{list_any}
 use Rattle.std.proofs.lemmas.Bool.{cases_lt}
 use Rattle.std.proofs.lemmas.List.{map-append, length-map, length-append}
 use Rattle.std.proofs.lemmas.List.Elements.{filter-append, filter_map-append}
@@ -20,10 +20,10 @@ use Rattle.ir_types.specs.declared.module.SymbolKind.TheVariants as symbols
 use Rattle.ir_types.specs.declared.module.Module.{Module}
 use Rattle.std.proofs.lemmas.Option.{slice_get-map}
 use Rattle.ir_types.proofs.NameAt.{name_got}
-use Rattle.ir_types.specs.Denotes.{type_names_of, tree_of, Denotes}
+use Rattle.ir_types.specs.Denotes.{type_names_of, Denotes}
 use Rattle.ir_types.specs.Names.{same_name, has_name, name_at, unknown}
 use Rattle.ir_types.specs.Tree.{ModuleTree, TypeNameTree, SymbolTree}
-use Rattle.ir_types.specs.TypeNodes.{TypeNode, called, opening, closing, nodes_at, nodes_from, all_nodes, type_nodes, as_called, names_used}
+use Rattle.ir_types.specs.TypeNodes.{TypeNode, called, closing, nodes_at, nodes_from, all_nodes, type_nodes, as_called, names_used}
 use Rattle.ir_types.specs.Types.{IsTypeAt, AreTypes}
 use Rattle.ir_types.specs.Used.{with_unknown, types_used, symbols_used}
 use Rattle.ir_laws.proofs.Behind.{missing_types, missing_symbols}
@@ -35,7 +35,7 @@ use Rattle.ir_check_names.specs.Choice.{or_else, first_of}
 use Rattle.ir_check_names.specs.Definitions.{is_symbol_known}
 use Rattle.ir_check_names.specs.Repeated.{is_type_known}
 use Rattle.ir_check_names.specs.Missing.{missing_at, if_missing, missing_called, missing_from, missing_names}
-use Rattle.ir_check_names.specs.FirstUnknown.{type_subject, symbol_subject}
+use Rattle.ir_check_names.specs.FirstUnknown.{type_subject}
 use Rattle.ir_check_names.proofs.Choosing.{first_both, mapped_both, or_none}
 use Rattle.ir_check_names.proofs.Marked.{has_itself, got_at, marks_of}
 

@@ -1,6 +1,6 @@
 -- The first number that isn't above the highest one before it is the first that isn't above all before it.
 use Rattle.std.proofs.Common.{◌≡◌, ◌<◌, ℕ, Bool, true, false, not, cond, ◌&&◌, List, [], ◌∷◌, ◌++◌, map, length, Option, Some, None, refl, sym, ap, ◌∙◌, arith}
-use Rattle.std.specs.Prelude.{slice_get, nat_lt, filter}
+use Rattle.std.specs.Prelude.{nat_lt, filter}
 use Rattle.std.specs.Option.{option_map}
 use Rattle.std.specs.List.{AllByRecursion, AllZip, list_all}
 use Rattle.std.proofs.lemmas.Bool.Decides.{nat_tests}
@@ -11,14 +11,13 @@ use Rattle.ir_types.specs.declared.name.ValueId.{ValueId}
 use Rattle.ir_types.specs.declared.module.Function.{Function}
 use Rattle.ir_types.specs.declared.module.Module.{Module}
 use Rattle.ir_types.specs.Denotes.{Tables, name_in, function_in, tables_of, tree_of}
-use Rattle.ir_types.specs.Names.{name_at}
 use Rattle.ir_types.specs.Reads.{IsReadable}
 use Rattle.ir_types.specs.Tree.{FunctionTree}
 use Rattle.ir_shape.specs.Placed.{IsFunctionPlaced}
 use Rattle.ir_shape.proofs.Placing.{readable_placed}
 use Rattle.ir_rules.specs.declared.fault.Subject.TheVariants.{Local}
 use Rattle.ir_rules.specs.declared.fault.Breach.{Breach}
-use Rattle.ir_rules.specs.Breaches.{first, Found, behind_those, inside, in_functions}
+use Rattle.ir_rules.specs.Breaches.{first, Found, behind_those, inside}
 use Rattle.ir_rules.specs.Locals.{definitions_of}
 use Rattle.ir_rules.specs.Locals as rules
 use Rattle.ir_rules.specs.Numbering.{is_above, misnumbered, misnumbered_names}

@@ -1,8 +1,6 @@
 -- The first use in a module of what isn't known, by places and by names.
-use Rattle.std.proofs.Common.{◌≡◌, ℕ, Bool, List, [], ◌∷◌, ◌++◌, map, Option, Some, None, refl, sym, ap, subst, ◌∙◌}
-use Rattle.std.specs.Prelude.{slice_get}
+use Rattle.std.proofs.Common.{◌≡◌, ℕ, Bool, List, [], ◌++◌, map, Option, refl, sym, ap, subst, ◌∙◌}
 use Rattle.std.specs.Option.{option_map}
-use Rattle.std.specs.List.{AllByRecursion, filter_map}
 use Rattle.forms.specs.Nested.{concat}
 use Rattle.ir_types.specs.declared.memory_type.TypeId.{TypeId}
 use Rattle.ir_types.specs.declared.memory_type.TypeName.{TypeName}
@@ -13,24 +11,21 @@ use Rattle.ir_types.specs.declared.module.SymbolKind.{SymbolKind}
 use Rattle.ir_types.specs.declared.module.SymbolKind.TheVariants as symbols
 use Rattle.ir_types.specs.declared.module.Function.{Function}
 use Rattle.ir_types.specs.declared.module.Module.{Module}
-use Rattle.ir_types.specs.Denotes.{Tables, type_names_of, nodes_in, type_name_in, symbol_in, function_in, tables_of, tree_of, Denotes}
+use Rattle.ir_types.specs.Denotes.{nodes_in, type_name_in, symbol_in, function_in, tables_of, tree_of, Denotes}
 use Rattle.ir_types.specs.Names.{has_name}
 use Rattle.ir_types.specs.Reads.{IsReadable}
 use Rattle.ir_types.specs.Tree.{FunctionTree, TypeNameTree, SymbolTree, ModuleTree}
 use Rattle.ir_types.specs.TypeNodes.{names_used}
 use Rattle.ir_types.specs.Used.{types_of_definition, types_of_symbol}
-use Rattle.ir_shape.specs.Placed.{IsFunctionPlaced}
 use Rattle.ir_shape.proofs.Placing.{readable_placed}
-use Rattle.ir_rules.specs.declared.fault.Subject.{Subject}
 use Rattle.ir_rules.specs.declared.fault.Subject.TheVariants as subjects
 use Rattle.ir_rules.specs.declared.fault.Breach.{Breach}
 use Rattle.ir_rules.specs.Breaches.{first, outside, inside, in_functions}
 use Rattle.ir_rules.specs.Unknown.{Known, known_in, known_within, unknown_of, unknown_types, unknown_uses, unknown_names}
 use Rattle.ir_check_names.specs.Choice.{or_else, first_of}
 use Rattle.ir_check_names.specs.Definitions.{is_symbol_known}
-use Rattle.ir_check_names.specs.Repeated.{is_type_known}
 use Rattle.ir_check_names.specs.Missing.{missing_at, missing_names, missing_in_definition, missing_in_symbol}
-use Rattle.ir_check_names.specs.FirstUnknown.{type_subject, local_marks, unknown_in, unknown_in_heads, first_unknown}
+use Rattle.ir_check_names.specs.FirstUnknown.{type_subject, local_marks, unknown_in, first_unknown}
 use Rattle.ir_check_names.proofs.Choosing.{first_both, mapped_both, mapped_twice, mapped_first, first_map, first_concat, first_of_mapped, in_some, first_of_some, in_turn, same_firsts}
 use Rattle.ir_check_names.proofs.Marked.{marks_of}
 use Rattle.ir_check_names.proofs.Doubled.{IsSound, all_sound}

@@ -1,10 +1,8 @@
 -- The first use in a function of what isn't known, by places and by names.
-use Rattle.std.proofs.Common.{◌≡◌, ◌<◌, ◌+◌, ℕ, zero, suc, Bool, true, false, cond, List, [], ◌∷◌, ◌++◌, map, length, get_or, set, replicate, Option, Some, None, refl, sym, ap, ◌∙◌, arith, append_assoc}
-use Rattle.std.specs.Prelude.{slice_get}
+use Rattle.std.proofs.Common.{◌≡◌, ◌<◌, ◌+◌, ℕ, zero, suc, Bool, true, false, cond, List, [], ◌∷◌, ◌++◌, map, length, get_or, set, Option, Some, None, refl, sym, ap, ◌∙◌, arith, append_assoc}
 use Rattle.std.specs.Option.{option_map}
 use Rattle.std.specs.List.{AllByRecursion, AllZip}
 use Rattle.std.proofs.lemmas.List.{append-nil, length-map}
-use Rattle.std.proofs.lemmas.Option.{slice_get-map}
 use Rattle.forms.specs.Nested.{concat}
 use Rattle.ir_types.specs.declared.name.Name.{Name}
 use Rattle.ir_types.specs.declared.name.ValueId.{ValueId}
@@ -18,15 +16,14 @@ use Rattle.ir_types.specs.declared.module.Block.{Block}
 use Rattle.ir_types.specs.declared.module.Function.{Function}
 use Rattle.ir_types.specs.declared.module.Symbol.{Symbol}
 use Rattle.ir_types.specs.declared.module.Module.{Module}
-use Rattle.ir_types.specs.Denotes.{Tables, name_in, operand_in, kind_in, inst_in, block_in, function_in, tables_of, tree_of, nodes_in}
+use Rattle.ir_types.specs.Denotes.{Tables, name_in, operand_in, kind_in, inst_in, block_in, function_in, tables_of, nodes_in}
 use Rattle.ir_types.specs.Names.{IsTable, has_name, name_at}
-use Rattle.ir_types.specs.Tree.{InstTree, BlockTree, OperandTree}
+use Rattle.ir_types.specs.Tree.{InstTree, BlockTree}
 use Rattle.ir_types.specs.TypeNodes.{names_used}
 use Rattle.ir_types.specs.Used.{types_in, insts_of}
 use Rattle.ir_shape.specs.Placed.{IsPlace, IsOperandPlaced, IsInstPlaced, IsBlockPlaced, IsFunctionPlaced}
 use Rattle.ir_rules.specs.declared.fault.Subject.{Subject}
 use Rattle.ir_rules.specs.declared.fault.Subject.TheVariants as subjects
-use Rattle.ir_rules.specs.declared.fault.Breach.{Breach}
 use Rattle.ir_rules.specs.Breaches.{first, Found, numbered_from, inside, all_at, in_insts}
 use Rattle.ir_rules.specs.Locals.{names_of, definitions_of}
 use Rattle.ir_rules.specs.Locals as rules
@@ -38,9 +35,9 @@ use Rattle.ir_check_names.specs.Choice.{or_else, first_of}
 use Rattle.ir_check_names.specs.Definitions.{of_function, all_marked}
 use Rattle.ir_check_names.specs.Missing.{missing_at}
 use Rattle.ir_check_names.specs.Uses.{unknown_local, unknown_symbol, unknown_operand, unknown_entries, unknown_kind, unknown_parts, unknown_inst, unknown_insts, unknown_blocks}
-use Rattle.ir_check_names.specs.FirstUnknown.{type_subject, symbol_subject, used_subject, breach_of, local_marks, unknown_in}
+use Rattle.ir_check_names.specs.FirstUnknown.{type_subject, symbol_subject, used_subject, breach_of, local_marks}
 use Rattle.ir_check_names.proofs.Choosing.{mapped_both, mapped_twice, in_turn, first_map, first_concat, first_of_both}
-use Rattle.ir_check_names.proofs.Marked.{got_at, marks_of, mark_at, none_marked, marked_more}
+use Rattle.ir_check_names.proofs.Marked.{marks_of, mark_at, none_marked, marked_more}
 use Rattle.ir_check_names.proofs.Defining.{Says, IsNamed, function_says, function_named, local_named}
 use Rattle.ir_check_names.proofs.Lacking.{first_unmet, unmet_both, unmet_one}
 
@@ -168,27 +165,7 @@ module _ (m : Module) (f : Function) (k : Known) (locals symbols : List Bool) (m
   parts_right : (kind : InstKind) (args : List Operand) (labels : List ValueId) → AllByRecursion (IsOperandPlaced t f.names) args → AllByRecursion (IsPlace f.names) labels
       → said (unknown_parts locals symbols missing kind args labels) ≡ first_unmet k (used_by (kind_in t kind) (map (operand_in t f.names) args) (map (name_in f.names) labels))
   parts_right kinds.Phi args labels h g = entries_right args labels h g
-  parts_right (kinds.Binary op flags) args labels h g = plain_right (kinds.Binary op flags) args labels h g
-  parts_right (kinds.Compare p of) args labels h g = plain_right (kinds.Compare p of) args labels h g
-  parts_right (kinds.Select condition last) args labels h g = plain_right (kinds.Select condition last) args labels h g
-  parts_right kinds.Freeze args labels h g = plain_right kinds.Freeze args labels h g
-  parts_right (kinds.Trunc from nuw nsw) args labels h g = plain_right (kinds.Trunc from nuw nsw) args labels h g
-  parts_right (kinds.Zext from nneg) args labels h g = plain_right (kinds.Zext from nneg) args labels h g
-  parts_right (kinds.Sext from) args labels h g = plain_right (kinds.Sext from) args labels h g
-  parts_right kinds.PtrToInt args labels h g = plain_right kinds.PtrToInt args labels h g
-  parts_right (kinds.Offset id widths inbounds nuw nusw) args labels h g = plain_right (kinds.Offset id widths inbounds nuw nusw) args labels h g
-  parts_right (kinds.Load align) args labels h g = plain_right (kinds.Load align) args labels h g
-  parts_right (kinds.Store of align) args labels h g = plain_right (kinds.Store of align) args labels h g
-  parts_right (kinds.Call callee) args labels h g = plain_right (kinds.Call callee) args labels h g
-  parts_right (kinds.Extract of width) args labels h g = plain_right (kinds.Extract of width) args labels h g
-  parts_right (kinds.Insert element width) args labels h g = plain_right (kinds.Insert element width) args labels h g
-  parts_right (kinds.Shuffle one other mask) args labels h g = plain_right (kinds.Shuffle one other mask) args labels h g
-  parts_right kinds.Jump args labels h g = plain_right kinds.Jump args labels h g
-  parts_right kinds.Branch args labels h g = plain_right kinds.Branch args labels h g
-  parts_right (kinds.Switch width cases) args labels h g = plain_right (kinds.Switch width cases) args labels h g
-  parts_right kinds.ReturnVoid args labels h g = plain_right kinds.ReturnVoid args labels h g
-  parts_right (kinds.Return of) args labels h g = plain_right (kinds.Return of) args labels h g
-  parts_right kinds.Unreachable args labels h g = plain_right kinds.Unreachable args labels h g
+  parts_right kind args labels h g = plain_right kind args labels h g
 
   -- ---- with the numbers of instructions
 

@@ -24,7 +24,7 @@ pub(crate) fn name_at(names: &Names, id: ValueId) -> Option<&Name>
     }
 }
 
-// The number of the instruction so many behind one. There is no memory for those whose numbers have more than 32 bits.
+// The number of the instruction so many behind one. Where it has more than 32 bits, the answer is that there is no memory.
 pub(crate) fn behind(place: u32, count: usize) -> Result<u32, AllocError>
     ensures { IfOk result (λ n. n ≡ place + count) }
 {
@@ -81,7 +81,7 @@ fn push_blocks(definitions: &mut Vec<Definition>, blocks: &[Block]) -> Result<()
 ///
 /// # Errors
 ///
-/// Where there is no memory, and where the function has more instructions than numbers of 32 bits.
+/// Where there is no memory; so it is said of a function of 2^32 instructions or more, too.
 pub(crate) fn definitions_of(
     alloc: Global,
     function: &Function,

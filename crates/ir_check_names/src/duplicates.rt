@@ -119,7 +119,7 @@ fn first_repeated(alloc: Global, m: &Module) -> Result<Option<Breach>, AllocErro
 ///
 /// # Errors
 ///
-/// Where there is no memory, and where a function has more instructions than numbers of 32 bits.
+/// Where there is no memory; so it is said of a function of 2^32 instructions or more, too.
 pub fn duplicate_name(alloc: Global, m: &Module) -> Result<Option<Breach>, AllocError>
     requires readable { IsReadable m.now }
     ensures { IfOk result (λ found. found ≡ first (duplicate_names (tree_of m.now))) }

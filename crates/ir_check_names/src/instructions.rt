@@ -166,7 +166,7 @@ fn unknown_insts(
 ///
 /// # Errors
 ///
-/// Where the function has more instructions than numbers of 32 bits.
+/// Where the function has 2^32 instructions or more.
 pub(crate) fn unknown_blocks(
     known: &Known<'_>,
     blocks: &[Block],

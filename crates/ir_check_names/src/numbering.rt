@@ -78,7 +78,7 @@ fn misnumbered_in_functions(
 ///
 /// # Errors
 ///
-/// Where there is no memory, and where a function has more instructions than numbers of 32 bits.
+/// Where there is no memory; so it is said of a function of 2^32 instructions or more, too.
 pub fn misnumbered(alloc: Global, m: &Module) -> Result<Option<Breach>, AllocError>
     requires readable { IsReadable m.now }
     ensures { IfOk result (λ found. found ≡ first (misnumbered_names (tree_of m.now))) }

@@ -141,7 +141,7 @@ fn first_unknown(alloc: Global, m: &Module) -> Result<Option<Breach>, AllocError
 ///
 /// # Errors
 ///
-/// Where there is no memory, and where a function has more instructions than numbers of 32 bits.
+/// Where there is no memory; so it is said of a function of 2^32 instructions or more, too.
 pub fn unknown_name(alloc: Global, m: &Module) -> Result<Option<Breach>, AllocError>
     requires readable { IsReadable m.now }
     ensures { IfOk result (λ found. found ≡ first (unknown_names (tree_of m.now))) }
