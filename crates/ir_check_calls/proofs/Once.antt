@@ -15,15 +15,13 @@ use Rattle.ir_types.specs.declared.name.Name.TheVariants.{Text, Number}
 use Rattle.ir_types.specs.declared.call.Callee.{Callee}
 use Rattle.ir_types.specs.declared.inst.Ty.{Ty}
 use Rattle.ir_types.specs.declared.module.Function.{Function}
-use Rattle.ir_types.specs.declared.module.Module.{Module}
 use Rattle.ir_types.specs.Names.{same_name, has_name}
-use Rattle.ir_types.specs.Denotes.{Tables, tables_of, function_in, tree_of}
-use Rattle.ir_types.specs.Tree.{FunctionTree, SymbolTree, VariableTree}
-use Rattle.ir_types.specs.Collected.{symbol_of, symbols_from, collected, as_variable, as_function}
-use Rattle.ir_types.specs.Reads.{IsReadable}
+use Rattle.ir_types.specs.Denotes.{Tables, function_in}
+use Rattle.ir_types.specs.Tree.{FunctionTree, SymbolTree}
+use Rattle.ir_types.specs.Collected.{symbols_from}
 use Rattle.ir_types.proofs.SameNames.{name_eq}
 use Rattle.ir_rules.specs.Breaches.{behind_those}
-use Rattle.ir_rules.specs.Duplicates.{repeated, duplicate_names}
+use Rattle.ir_rules.specs.Duplicates.{repeated}
 use Rattle.ir_rules.specs.Callees.{is_called_rightly}
 use Rattle.ir_check_calls.specs.Heads.{Apart, function_names, types_agree, is_called_so}
 use Rattle.ir_check_calls.proofs.Agree.{called_same}

@@ -1,5 +1,5 @@
 -- The first breach of the rule in a module.
-use Rattle.std.proofs.Common.{◌≡◌, ℕ, Bool, List, [], ◌∷◌, ◌++◌, map, Option, Some, None, refl, sym, ap, subst, ◌∙◌, if◌then◌else◌}
+use Rattle.std.proofs.Common.{◌≡◌, List, [], ◌∷◌, ◌++◌, map, Option, Some, None, refl, sym, ap, subst, ◌∙◌, if◌then◌else◌}
 use Rattle.std.specs.Prelude.{filter_map}
 use Rattle.std.specs.List.{cons_option}
 use Rattle.std.proofs.lemmas.List.{map-append}
@@ -15,7 +15,6 @@ use Rattle.ir_types.specs.Denotes.{Tables, tables_of, function_in, symbol_in, tr
 use Rattle.ir_types.specs.Collected.{symbol_of, symbols_from, as_variable, as_function}
 use Rattle.ir_types.specs.Reads.{IsReadable}
 use Rattle.ir_rules.specs.declared.fault.Breach.{Breach}
-use Rattle.ir_rules.specs.declared.fault.Subject.{Subject}
 use Rattle.ir_rules.specs.declared.fault.Subject.TheVariants.{Symbol as SymbolSubject, TypeName as TypeSubject}
 use Rattle.ir_rules.specs.Breaches.{first, outside, inside, in_insts, in_functions}
 use Rattle.ir_rules.specs.Duplicates.{repeated, repeated_locals, duplicate_names}

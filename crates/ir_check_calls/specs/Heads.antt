@@ -1,5 +1,5 @@
 -- The rule in the words of functions that names are looked up among.
-use Rattle.std.specs.Prelude.{◌≡◌, ℕ, Bool, true, false, not, ◌&&◌, slice_get, position, List, [], ◌∷◌, map, take, length, Option, Some, None, if◌then◌else◌}
+use Rattle.std.specs.Prelude.{◌≡◌, Bool, true, false, not, ◌&&◌, slice_get, position, List, [], ◌∷◌, map, take, length, Option, Some, None, if◌then◌else◌}
 use Rattle.ir_types.specs.declared.name.Name.{Name}
 use Rattle.ir_types.specs.declared.call.Actual.{Actual}
 use Rattle.ir_types.specs.declared.call.Callee.{Callee}

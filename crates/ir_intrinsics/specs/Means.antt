@@ -1,5 +1,5 @@
 -- What is found of a name, in the words of the rule.
-use Rattle.std.specs.Prelude.{ℕ, List, [], ◌∷◌, filter_map, codes, Option, Some, None, if◌then◌else◌}
+use Rattle.std.specs.Prelude.{ℕ, List, [], ◌∷◌, filter_map, codes, Option, Some, if◌then◌else◌}
 use Rattle.forms.specs.Bind.{◌>>=◌}
 use Rattle.forms.specs.Form.{is_one_of}
 use Rattle.ir_types.specs.declared.inst.Ty.{Ty}

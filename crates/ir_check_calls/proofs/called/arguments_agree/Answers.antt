@@ -1,6 +1,4 @@
-use Rattle.std.proofs.Common.{map, take, length, sym, ap, ◌∙◌, if◌then◌else◌}
-use Rattle.ir_types.specs.declared.call.Actual.{Actual}
-use Rattle.ir_types.specs.declared.module.Param.{Param}
+use Rattle.std.proofs.Common.{take, length, sym, ap, ◌∙◌, if◌then◌else◌}
 use Rattle.ir_rules.specs.Callees.{same_types}
 use Rattle.ir_check_calls.specs.Heads.{types_of, types_of_actuals}
 use Rattle.ir_check_calls.proofs.called.arguments_agree.Goals as goal

@@ -1,4 +1,4 @@
-use Rattle.std.proofs.Common.{◌≡◌, None, sym, ap, subst, ◌∙◌}
+use Rattle.std.proofs.Common.{sym, ap, subst, ◌∙◌}
 use Rattle.std.specs.Prelude.{filter_map}
 use Rattle.ir_rules.specs.Breaches.{first}
 use Rattle.ir_check_calls.specs.Heads.{Apart, function_names, misdeclared_of, miscalled_in}
