@@ -1,0 +1,5 @@
+//! Whether operands, results, labels, numbers, alignments and memory types fit their instructions.
+#![tactic(auto)]
+
+mod locals;
+mod operands;
