@@ -3,3 +3,4 @@
 
 mod locals;
 mod operands;
+mod steps;
