@@ -1,4 +1,5 @@
--- Rule: what is called is a function whose types are the call's, and a name that this project gives a meaning has the signature that goes with it.
+-- Rule: what is called is a function whose types are the call's, and a name that this project gives a meaning has the signature that goes with it
+-- and no body.
 use Rattle.std.specs.Prelude.{ℕ, Bool, true, false, not, ◌&&◌, slice_get, List, [], ◌∷◌, ◌++◌, map, take, length, Option, Some, None, if◌then◌else◌}
 use Rattle.std.specs.List.{list_any}
 use Rattle.forms.specs.Nested.{concat}
@@ -43,7 +44,7 @@ is_declared (b ∷ bs) = false
 abbrev pub has_signature : FunctionTree → Signed → Bool
 has_signature f s = is_declared f.body && (not f.varargs && (same_type s.ret f.ret && same_types s.params (param_types f)))
 
--- a function may have a name with this meaning; the lifetimes have any signature
+-- a function may have a name with this meaning: it is declared, with the signature if there is one; the lifetimes have any
 abbrev pub may_mean : FunctionTree → Meant → Bool
 may_mean f meant = elim meant.signature [ Some s ↦ has_signature f s | None ↦ is_declared f.body ]
 

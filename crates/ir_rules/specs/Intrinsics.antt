@@ -1,12 +1,13 @@
 -- The functions that this project gives a meaning by their names, and their signatures. (LLVM's Language Reference, "Intrinsic Functions".)
 use Rattle.std.specs.List.{list_any}
-use Rattle.std.specs.Prelude.{ℕ, bytes_eq, List, [], ◌∷◌, ◌++◌, map, drop, length, find, filter_map, codes, Option, Some, None, if◌then◌else◌}
+use Rattle.std.specs.Prelude.{ℕ, bytes_eq, List, [], ◌∷◌, ◌++◌, drop, length, find, filter_map, codes, Option, Some, None, if◌then◌else◌}
 use Rattle.forms.specs.Bind.{◌>>=◌}
 use Rattle.forms.specs.LeftOut.{begins_with}
 use Rattle.ir_types.specs.declared.name.Name.{Name}
 use Rattle.ir_types.specs.declared.name.Name.TheVariants.{Text, Number}
 use Rattle.ir_types.specs.declared.inst.Ty.{Ty}
 use Rattle.ir_types.specs.declared.inst.Ty.TheVariants.{Int, Ptr, Vector, Void}
+use Rattle.ir_types.specs.Grammar.{bits_for, element_of}
 use Rattle.ir_rules.specs.Breaches.{first}
 
 -- the functions with a meaning
@@ -20,7 +21,7 @@ pub data Intrinsic : Type 0 where
   -- where a variable's life begins or ends
   lifetime : Intrinsic
 
--- how their names begin, which ends with a dot; types stand behind it
+-- how their names begin; behind that stand the types that they are about
 unfoldable pub families : List (List ℕ × Intrinsic)
 families =
     (codes "llvm.smin.", minimum_maximum) ∷
@@ -80,16 +81,6 @@ pub record Signed : Type 0 where
   pub ret : Ty
   pub params : List Ty
 
--- the bits for the lanes of a vector
-abbrev pub bits_of : Ty → Ty
-bits_of (Vector n w) = Vector n 1
-bits_of t = t
-
--- an element of a vector
-abbrev pub element : Ty → Ty
-element (Vector n w) = Int w
-element t = t
-
 -- an intrinsic, with the signature that its name asks for, where it asks for one
 pub record Meant : Type 0 where
   pub intrinsic : Intrinsic
@@ -105,9 +96,9 @@ any_lifetime = record { intrinsic = lifetime; signature = None }
 -- the intrinsic of a family whose name goes on so
 abbrev pub in_family : Intrinsic → List ℕ → Option Meant
 in_family minimum_maximum text = type_written text >>= λ t. Some (meant minimum_maximum t (t ∷ t ∷ []))
-in_family reduction text = vector_before [] text >>= λ t. Some (meant reduction (element t) (t ∷ []))
-in_family masked_load text = vector_before (codes ".p0") text >>= λ t. Some (meant masked_load t (Ptr ∷ Int 32 ∷ bits_of t ∷ t ∷ []))
-in_family masked_store text = vector_before (codes ".p0") text >>= λ t. Some (meant masked_store Void (t ∷ Ptr ∷ Int 32 ∷ bits_of t ∷ []))
+in_family reduction text = vector_before [] text >>= λ t. Some (meant reduction (element_of t) (t ∷ []))
+in_family masked_load text = vector_before (codes ".p0") text >>= λ t. Some (meant masked_load t (Ptr ∷ Int 32 ∷ bits_for t ∷ t ∷ []))
+in_family masked_store text = vector_before (codes ".p0") text >>= λ t. Some (meant masked_store Void (t ∷ Ptr ∷ Int 32 ∷ bits_for t ∷ []))
 in_family lifetime text = Some any_lifetime
 
 -- the names of the lifetimes without anything behind them

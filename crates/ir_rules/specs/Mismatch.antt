@@ -10,7 +10,6 @@ use Rattle.ir_types.specs.declared.inst.Ty.{Ty}
 use Rattle.ir_types.specs.declared.inst.Ty.TheVariants.{Int, Ptr, Vector, Void}
 use Rattle.ir_types.specs.Kinds.{Kind, Binary, Compare, Select, Freeze, Trunc, Zext, Sext, PtrToInt, Phi, Offset, Load, Store, Call, Extract, Insert, Shuffle, Jump, Branch, Switch, ReturnVoid, Return, Unreachable}
 use Rattle.ir_types.specs.Tree.{OperandTree, local, number, InstTree, FunctionTree, SymbolKindTree, variable, function, SymbolTree, ModuleTree}
-use Rattle.ir_types.specs.TypeNodes.{TypeNode}
 use Rattle.ir_types.specs.Offsets.{Definitions as TypeDefinitions}
 use Rattle.ir_rules.specs.declared.fault.Subject.{Subject}
 use Rattle.ir_rules.specs.declared.fault.Subject.TheVariants.{Nothing}
@@ -36,11 +35,12 @@ abbrev pub is_written_alignment : OperandTree → Bool
 is_written_alignment (number n) = is_alignment n
 is_written_alignment a = false
 
--- a shuffle's mask: constant lanes of 32 bits
+-- the type of a shuffle's mask: a vector of 32 bits each
 abbrev pub is_mask_type : Ty → Bool
 is_mask_type (Vector n w) = nat_eq w 32
 is_mask_type t = false
 
+-- a mask is no local
 abbrev pub is_constant : OperandTree → Bool
 is_constant (local n) = false
 is_constant a = true

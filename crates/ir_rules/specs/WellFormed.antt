@@ -49,17 +49,17 @@ pub record IsWellFormed (m : Module) : Type 0 where
   pub readable : IsReadable m
   pub keeps : KeepsRules (tree_of m)
 
--- the rules about names and types: why they are refused
+-- why a module is refused by the rules about names and types
 abbrev pub TypeCause : ModuleTree → CheckFault → Type 0
 TypeCause m (Broken rule breach) = first (type_breaches m) ≡ Some (rule, breach)
 TypeCause m Memory = Unit {0}
 
--- where only the last rule may be broken, it is broken here first
+-- no earlier rule is broken, and the last one is broken here first
 pub record IsLastBroken (m : ModuleTree) (b : Breach) : Type 0 where
   pub early : early_breaches m ≡ []
   pub first : IsFirstUnavailable m b
 
--- all rules: why a module is refused
+-- why a module is refused by all rules
 abbrev pub Cause : ModuleTree → CheckFault → Type 0
 Cause m (Broken rule breach) = (first (early_breaches m) ≡ Some (rule, breach)) ⊎ ((rule ≡ NotAvailable) × IsLastBroken m breach)
 Cause m Memory = Unit {0}

@@ -16,7 +16,8 @@ pub enum Rule {
     UnknownName,
     /// Operands, results, labels, numbers, alignments and memory types fit their instructions.
     TypeMismatch,
-    /// What is called is a function of the call's types, and a name that this project gives a meaning has that signature.
+    /// What is called is a function of the call's types, and a name that this project gives a meaning has the signature that goes with
+    /// it, and no body.
     UnknownCallee,
     /// A number that is written as the name of a local is above all earlier ones of its function.
     Numbering,
@@ -46,8 +47,8 @@ pub enum Subject {
 pub struct Breach {
     /// The name of the function, none outside functions.
     pub function: Option<Name>,
-    /// The name that is repeated, unknown, called or misnumbered, the entry's, the phi's, or that of the value which is not available; where
-    /// types don't fit, the result's.
+    /// The name that is repeated, unknown, called, wrongly declared or misnumbered, the entry's, the phi's, or that of the value which is
+    /// not available; where types don't fit, the result's, and none of what has no result.
     pub subject: Subject,
     /// The number of the instruction in the function's text, from 0; in heads 0.
     pub place: u32,
