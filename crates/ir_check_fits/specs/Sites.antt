@@ -1,7 +1,10 @@
 -- A function of a module, and what is said in its tree.
-use Rattle.std.specs.Prelude.{◌≡◌, ◌<◌, ℕ, Bool, ◌&&◌, List, length}
-use Rattle.std.specs.List.{list_any}
+use Rattle.std.specs.Prelude.{◌≡◌, ◌<◌, ℕ, Bool, ◌&&◌, List, length, IfSome}
+use Rattle.std.specs.List.{list_any, AllByRecursion}
+use Rattle.ir_types.specs.declared.name.Name.{Name}
+use Rattle.ir_types.specs.declared.name.ValueId.{ValueId}
 use Rattle.ir_types.specs.declared.inst.Operand.{Operand}
+use Rattle.ir_types.specs.declared.inst.Operand.TheVariants.{Local}
 use Rattle.ir_types.specs.declared.inst.InstKind.{InstKind}
 use Rattle.ir_types.specs.declared.inst.Inst.{Inst}
 use Rattle.ir_types.specs.declared.module.Function.{Function}
@@ -44,3 +47,19 @@ is_given s i p = list_any (λ (d : Definition). same_name (name_at s.part.names 
 -- the roles of each name are what it is given to
 abbrev pub AreRoles : Site → List (List Role) → Type 0
 AreRoles s lists = (i : ℕ) (p : Given → Bool) → i < length s.part.names → has_role lists i p ≡ is_given s i p
+
+-- ---- places of local names
+
+-- a local name's place is one of the table
+abbrev pub IsHere : List Name → Operand → Type 0
+IsHere names (Local id) = id.0 < length names
+IsHere names a = Unit {0}
+
+abbrev pub IsNamed : List Name → ValueId → Type 0
+IsNamed names id = id.0 < length names
+
+-- so is each in an instruction
+pub record IsInstHere (names : List Name) (i : Inst) : Type 0 where
+  pub args : AllByRecursion (IsHere names) i.args
+  pub labels : AllByRecursion (IsNamed names) i.labels
+  pub result : IfSome i.result (IsNamed names)

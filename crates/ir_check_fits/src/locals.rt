@@ -1,6 +1,7 @@
 // What the local names of a function are given to.
 ghost use Rattle.std.specs.Prelude.{◌≡◌, ◌<◌, ◌||◌, ℕ, Bool, false, IsTrue, length, IfOk, OnOk, Contains, slice_index_or, []};
 ghost use Rattle.std.specs.List.{list_any};
+ghost use Rattle.ir_types.specs.Names.{IsTable};
 ghost use Rattle.ir_rules.specs.Locals.{Given};
 ghost use Rattle.ir_check_fits.specs.Roles.{as_given, same_role, any_passes, has_role, is_there, at_param, at_result, at_block, at_function};
 
@@ -105,7 +106,8 @@ fn give_params(lists: &mut [Roles], params: &[Param]) -> Result<(), AllocError>
 ///
 /// Where there is no memory.
 pub fn roles_of(alloc: Global, function: &Function) -> Result<Vec<Roles>, AllocError>
-    ensures { IfOk result (λ lists. (i : ℕ) (p : Given → Bool) → i < length function.now.names → has_role lists.items i p ≡ at_function i p function.now) }
+    ensures roles { IfOk result (λ lists. (i : ℕ) (p : Given → Bool) → i < length function.now.names → has_role lists.items i p ≡ at_function i p function.now) }
+    ensures table { IsTable function.now.names }
 {
     let mut lists = no_roles(alloc, function.names.len())?;
     give_params(&mut lists, function.params.as_slice())?;
