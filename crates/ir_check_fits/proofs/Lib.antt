@@ -1,3 +1,4 @@
 pub mod Defined
 pub mod Led
 pub mod Named
+pub mod Powers

@@ -1,3 +1,4 @@
 pub mod Roles
 pub mod Places
 pub mod Sites
+pub mod Masked

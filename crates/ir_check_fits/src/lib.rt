@@ -2,6 +2,11 @@
 #![tactic(auto)]
 
 mod around;
+mod calls;
+mod fitting;
+mod kinds;
 mod locals;
+mod masked;
+mod numbers;
 mod operands;
 mod steps;
