@@ -1,0 +1,14 @@
+-- What a rule finds in instructions that stand behind one another, by their numbers.
+use Rattle.std.specs.Prelude.{ℕ, List, map}
+use Rattle.forms.specs.Nested.{concat}
+use Rattle.ir_types.specs.Tree.{InstTree, BlockTree}
+use Rattle.ir_rules.specs.declared.fault.Subject.{Subject}
+use Rattle.ir_rules.specs.Breaches.{Found, all_at, numbered_from}
+
+-- in instructions, of which the first has this number
+abbrev pub found_from : (InstTree → List Subject) → ℕ → List InstTree → List Found
+found_from subjects n insts = concat (map (λ i. all_at i.0 (subjects i.1)) (numbered_from n insts))
+
+-- the instructions of blocks
+abbrev pub insts_in : List BlockTree → List InstTree
+insts_in blocks = concat (map (λ (b : BlockTree). b.insts) blocks)
