@@ -12,7 +12,7 @@ ghost use Rattle.ir_check_fits.specs.Sites.{locals_at, operand_at, IsHere};
 
 use crate::around::Around;
 use crate::fitting::actuals_fit;
-use crate::masked::{Masked, masked};
+use crate::masked::{Masked, access_of};
 use crate::numbers::is_written_alignment;
 use crate::operands::is_bits;
 use ir_types::{Actual, Callee, Operand, Ty};
@@ -60,5 +60,5 @@ pub fn call_fits(x: &Around<'_>, callee: &Callee, ty: Ty, args: &[Operand]) -> b
     ensures { result ≡ call_fits (locals_at x.now) callee.now ty (map (operand_at x.now) args.now) }
 {
     let actuals = callee.actuals.as_slice();
-    actuals_fit(x, actuals, args) && access_fits(masked(&callee.name), ty, actuals, args)
+    actuals_fit(x, actuals, args) && access_fits(access_of(&callee.name), ty, actuals, args)
 }

@@ -16,7 +16,7 @@ pub enum Masked {
 }
 
 /// The masked access that a function is by its name.
-pub fn masked(name: &Name) -> Option<Masked>
+pub fn access_of(name: &Name) -> Option<Masked>
     ensures { result ≡ masked_in (meant_by name.now) }
 {
     match meant_by(name) {
