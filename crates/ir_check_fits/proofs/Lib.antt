@@ -2,3 +2,4 @@ pub mod Defined
 pub mod Led
 pub mod Named
 pub mod Powers
+pub mod Accesses
