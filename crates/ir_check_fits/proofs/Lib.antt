@@ -3,3 +3,5 @@ pub mod Led
 pub mod Named
 pub mod Powers
 pub mod Accesses
+pub mod Insts
+pub mod Firsts

@@ -50,16 +50,16 @@ AreRoles s lists = (i : ℕ) (p : Given → Bool) → i < length s.part.names �
 
 -- ---- places of local names
 
--- a local name's place is one of the table
-abbrev pub IsHere : List Name → Operand → Type 0
-IsHere names (Local id) = id.0 < length names
-IsHere names a = Unit {0}
+-- a local name's place is one of so many
+abbrev pub IsHere : ℕ → Operand → Type 0
+IsHere count (Local id) = id.0 < count
+IsHere count a = Unit {0}
 
-abbrev pub IsNamed : List Name → ValueId → Type 0
-IsNamed names id = id.0 < length names
+abbrev pub IsNamed : ℕ → ValueId → Type 0
+IsNamed count id = id.0 < count
 
 -- so is each in an instruction
-pub record IsInstHere (names : List Name) (i : Inst) : Type 0 where
-  pub args : AllByRecursion (IsHere names) i.args
-  pub labels : AllByRecursion (IsNamed names) i.labels
-  pub result : IfSome i.result (IsNamed names)
+pub record IsInstHere (count : ℕ) (i : Inst) : Type 0 where
+  pub args : AllByRecursion (IsHere count) i.args
+  pub labels : AllByRecursion (IsNamed count) i.labels
+  pub result : IfSome i.result (IsNamed count)

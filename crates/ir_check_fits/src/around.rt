@@ -129,7 +129,7 @@ impl<'m> Around<'m> {
 
     /// Whether an operand has a type.
     pub fn fits(&self, ty: Ty, operand: &Operand) -> bool
-        requires { IsHere self.now.part.names operand.now }
+        requires { IsHere (length self.now.part.names) operand.now }
         ensures { result ≡ fits (locals_at self.now) ty (operand_at self.now operand.now) }
     {
         match (ty, operand) {

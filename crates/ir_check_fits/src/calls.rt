@@ -1,5 +1,5 @@
 // Whether arguments fit their call.
-ghost use Rattle.std.specs.Prelude.{◌≡◌, List, map, Option};
+ghost use Rattle.std.specs.Prelude.{◌≡◌, List, map, Option, length};
 ghost use Rattle.std.specs.List.{AllByRecursion};
 ghost use Rattle.ir_types.specs.declared.name.Name.{Name};
 ghost use Rattle.ir_types.specs.declared.inst.Ty.{Ty};
@@ -47,16 +47,18 @@ fn store_fits(actuals: &[Actual], args: &[Operand]) -> bool
 fn access_fits(access: Option<Masked>, ty: Ty, actuals: &[Actual], args: &[Operand]) -> bool
     ensures { (t : Tables) (names : List Name) (meant : Option Meant) → access ≡ masked_in meant → result ≡ is_meant_right meant ty (map (λ (a : Actual). a.ty) actuals.now) (map (operand_in t names) args.now) }
 {
+    let Some(access) = access else {
+        return true;
+    };
     match access {
-        Some(Masked::Load) => load_fits(ty, args),
-        Some(Masked::Store) => store_fits(actuals, args),
-        None => true,
+        Masked::Load => load_fits(ty, args),
+        Masked::Store => store_fits(actuals, args),
     }
 }
 
 /// Whether arguments fit a call that gives a type.
 pub fn call_fits(x: &Around<'_>, callee: &Callee, ty: Ty, args: &[Operand]) -> bool
-    requires { AllByRecursion (IsHere x.now.part.names) args.now }
+    requires { AllByRecursion (IsHere (length x.now.part.names)) args.now }
     ensures { result ≡ call_fits (locals_at x.now) callee.now ty (map (operand_at x.now) args.now) }
 {
     let actuals = callee.actuals.as_slice();

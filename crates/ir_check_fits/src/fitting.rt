@@ -1,5 +1,5 @@
 // Whether lists of operands have their types.
-ghost use Rattle.std.specs.Prelude.{◌≡◌, List, map};
+ghost use Rattle.std.specs.Prelude.{◌≡◌, List, map, length};
 ghost use Rattle.std.specs.List.{AllByRecursion};
 ghost use Rattle.ir_types.specs.declared.call.Actual.{Actual};
 ghost use Rattle.ir_types.specs.declared.inst.Ty.TheVariants.{Int};
@@ -11,7 +11,7 @@ use ir_types::{Actual, Operand, Ty};
 
 /// Whether operands have these types, one each.
 pub fn fit(x: &Around<'_>, types: &[Ty], args: &[Operand]) -> bool
-    requires { AllByRecursion (IsHere x.now.part.names) args.now }
+    requires { AllByRecursion (IsHere (length x.now.part.names)) args.now }
     ensures { result ≡ fit (locals_at x.now) types.now (map (operand_at x.now) args.now) }
 {
     let mut types_left = types;
@@ -31,7 +31,7 @@ pub fn fit(x: &Around<'_>, types: &[Ty], args: &[Operand]) -> bool
 
 /// Whether indexes have these widths, one each.
 pub fn indexes_fit(x: &Around<'_>, widths: &[u32], args: &[Operand]) -> bool
-    requires { AllByRecursion (IsHere x.now.part.names) args.now }
+    requires { AllByRecursion (IsHere (length x.now.part.names)) args.now }
     ensures { result ≡ fit (locals_at x.now) (map Int widths.now) (map (operand_at x.now) args.now) }
 {
     let mut widths_left = widths;
@@ -51,7 +51,7 @@ pub fn indexes_fit(x: &Around<'_>, widths: &[u32], args: &[Operand]) -> bool
 
 /// Whether operands all have this type.
 pub fn fit_all(x: &Around<'_>, ty: Ty, args: &[Operand]) -> bool
-    requires { AllByRecursion (IsHere x.now.part.names) args.now }
+    requires { AllByRecursion (IsHere (length x.now.part.names)) args.now }
     ensures { result ≡ fit_all (locals_at x.now) ty (map (operand_at x.now) args.now) }
 {
     let mut left = args;
@@ -66,7 +66,7 @@ pub fn fit_all(x: &Around<'_>, ty: Ty, args: &[Operand]) -> bool
 
 /// Whether arguments have the types that a call writes, one each.
 pub fn actuals_fit(x: &Around<'_>, actuals: &[Actual], args: &[Operand]) -> bool
-    requires { AllByRecursion (IsHere x.now.part.names) args.now }
+    requires { AllByRecursion (IsHere (length x.now.part.names)) args.now }
     ensures { result ≡ fit (locals_at x.now) (map (λ (a : Actual). a.ty) actuals.now) (map (operand_at x.now) args.now) }
 {
     let mut actuals_left = actuals;

@@ -1,5 +1,5 @@
 // Whether operands and types fit what an instruction does.
-ghost use Rattle.std.specs.Prelude.{◌≡◌, Bool, map};
+ghost use Rattle.std.specs.Prelude.{◌≡◌, Bool, map, length};
 ghost use Rattle.std.specs.List.{AllByRecursion};
 ghost use Rattle.ir_types.specs.declared.inst.Ty.{Ty};
 ghost use Rattle.ir_types.specs.Denotes.{nodes_in};
@@ -18,7 +18,7 @@ use ir_types::{InstKind, Operand, Ty, TypeId};
 
 // Whether a pointer and indexes fit a `getelementptr` through the type at a place.
 fn offset_fits(x: &Around<'_>, id: TypeId, widths: &[u32], args: &[Operand]) -> bool
-    requires { AllByRecursion (IsHere x.now.part.names) args.now }
+    requires { AllByRecursion (IsHere (length x.now.part.names)) args.now }
     ensures { (inbounds nuw nusw : Bool) (ty : Ty) → result ≡ kind_fits (around_at x.now) (Offset (nodes_in x.now.whole id) widths.now inbounds nuw nusw) ty (map (operand_at x.now) args.now) }
 {
     let Some((pointer, indexes)) = args.split_first() else {
@@ -31,7 +31,7 @@ fn offset_fits(x: &Around<'_>, id: TypeId, widths: &[u32], args: &[Operand]) -> 
 
 // Whether operands fit an `insertelement` into a vector of a type.
 fn insert_fits(x: &Around<'_>, element: Ty, width: u32, ty: Ty, args: &[Operand]) -> bool
-    requires { AllByRecursion (IsHere x.now.part.names) args.now }
+    requires { AllByRecursion (IsHere (length x.now.part.names)) args.now }
     ensures { result ≡ kind_fits (around_at x.now) (Insert element width) ty (map (operand_at x.now) args.now) }
 {
     match (element, ty) {
@@ -44,7 +44,7 @@ fn insert_fits(x: &Around<'_>, element: Ty, width: u32, ty: Ty, args: &[Operand]
 
 // Whether operands fit a `shufflevector` of vectors of these types.
 fn shuffle_fits(x: &Around<'_>, of: Ty, other: Ty, mask: Ty, args: &[Operand]) -> bool
-    requires { AllByRecursion (IsHere x.now.part.names) args.now }
+    requires { AllByRecursion (IsHere (length x.now.part.names)) args.now }
     ensures { (ty : Ty) → result ≡ kind_fits (around_at x.now) (Shuffle of other mask) ty (map (operand_at x.now) args.now) }
 {
     is_vector(of)
@@ -56,7 +56,7 @@ fn shuffle_fits(x: &Around<'_>, of: Ty, other: Ty, mask: Ty, args: &[Operand]) -
 
 /// Whether operands and types fit an instruction of a kind with a result of a type.
 pub fn kind_fits(x: &Around<'_>, kind: &InstKind, ty: Ty, args: &[Operand]) -> bool
-    requires { AllByRecursion (IsHere x.now.part.names) args.now }
+    requires { AllByRecursion (IsHere (length x.now.part.names)) args.now }
     ensures { result ≡ kind_fits (around_at x.now) (kind_at x.now kind.now) ty (map (operand_at x.now) args.now) }
 {
     match kind {

@@ -4,9 +4,12 @@
 mod around;
 mod calls;
 mod fitting;
+mod inst;
 mod kinds;
 mod locals;
 mod masked;
 mod numbers;
 mod operands;
+mod places;
+mod rule;
 mod steps;

@@ -5,7 +5,7 @@ use Rattle.ir_check_fits.specs.Sites.{locals_at, operand_at, IsHere}
 use Rattle.ir_check_fits.proofs.fitting.fit.Given as goal
 
 abbrev pub invariant-more : goal.invariant-more
-invariant-more l = AllByRecursion (IsHere l.x.part.names) l.args_left × (fit (locals_at l.x) l.types_left (map (operand_at l.x) l.args_left) ≡ fit (locals_at l.fn.x) l.fn.types (map (operand_at l.fn.x) l.fn.args))
+invariant-more l = AllByRecursion (IsHere (length l.x.part.names)) l.args_left × (fit (locals_at l.x) l.types_left (map (operand_at l.x) l.args_left) ≡ fit (locals_at l.fn.x) l.fn.types (map (operand_at l.fn.x) l.fn.args))
 
 abbrev pub decreases-more : goal.decreases-more
 decreases-more l = length l.types_left
