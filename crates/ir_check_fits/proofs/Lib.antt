@@ -5,3 +5,4 @@ pub mod Powers
 pub mod Accesses
 pub mod Insts
 pub mod Firsts
+pub mod Sizeless
