@@ -1,0 +1,8 @@
+use Rattle.std.proofs.Common.{◌≡◌, ◌<◌, ◌||◌, ℕ, Bool, length, take}
+use Rattle.std.specs.List.{list_any}
+use Rattle.ir_rules.specs.Locals.{Given}
+use Rattle.ir_check_fits.specs.Roles.{has_role, at_block}
+use Rattle.ir_check_fits.proofs.locals.give_blocks.Given as goal
+
+abbrev pub invariant-loop-block : goal.invariant-loop-block
+invariant-loop-block l = (i : ℕ) (p : Given → Bool) → i < length l.lists → has_role l.lists i p ≡ (has_role l.fn.lists i p || list_any (at_block i p) (take l.block-index l.blocks))

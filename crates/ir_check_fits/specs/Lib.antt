@@ -1,0 +1,5 @@
+pub mod Roles
+pub mod Places
+pub mod Sites
+pub mod Masked
+pub mod Variables

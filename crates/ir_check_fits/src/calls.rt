@@ -1,0 +1,66 @@
+// Whether arguments fit their call.
+ghost use Rattle.std.specs.Prelude.{◌≡◌, List, map, Option, length};
+ghost use Rattle.std.specs.List.{AllByRecursion};
+ghost use Rattle.ir_types.specs.declared.name.Name.{Name};
+ghost use Rattle.ir_types.specs.declared.inst.Ty.{Ty};
+ghost use Rattle.ir_types.specs.declared.call.Actual.{Actual};
+ghost use Rattle.ir_types.specs.Denotes.{Tables, operand_in};
+ghost use Rattle.ir_rules.specs.Intrinsics.{masked_load, masked_store, Meant};
+ghost use Rattle.ir_rules.specs.Mismatch.{is_access_right, is_meant_right, call_fits};
+ghost use Rattle.ir_check_fits.specs.Masked.{masked_in};
+ghost use Rattle.ir_check_fits.specs.Sites.{locals_at, operand_at, IsHere};
+
+use crate::around::Around;
+use crate::fitting::actuals_fit;
+use crate::masked::{Masked, access_of};
+use crate::numbers::is_written_alignment;
+use crate::operands::is_bits;
+use ir_types::{Actual, Callee, Operand, Ty};
+
+// Whether a masked load may load a type, and its alignment is written.
+fn load_fits(ty: Ty, args: &[Operand]) -> bool
+    ensures { (t : Tables) (names : List Name) (types : List Ty) → result ≡ is_access_right masked_load ty types (map (operand_in t names) args.now) }
+{
+    let Some((_, behind)) = args.split_first() else {
+        return true;
+    };
+    match behind.split_first() {
+        Some((align, _)) => !is_bits(ty) && is_written_alignment(align),
+        None => true,
+    }
+}
+
+// Whether a masked store may store what it does, and its alignment is written.
+fn store_fits(actuals: &[Actual], args: &[Operand]) -> bool
+    ensures { (t : Tables) (names : List Name) (ty : Ty) → result ≡ is_access_right masked_store ty (map (λ (a : Actual). a.ty) actuals.now) (map (operand_in t names) args.now) }
+{
+    let Some((stored, _)) = actuals.split_first() else {
+        return true;
+    };
+    let Some((_, behind)) = args.split_first() else {
+        return true;
+    };
+    load_fits(stored.ty, behind)
+}
+
+// Whether a masked access is right, where this is one.
+fn access_fits(access: Option<Masked>, ty: Ty, actuals: &[Actual], args: &[Operand]) -> bool
+    ensures { (t : Tables) (names : List Name) (meant : Option Meant) → access ≡ masked_in meant → result ≡ is_meant_right meant ty (map (λ (a : Actual). a.ty) actuals.now) (map (operand_in t names) args.now) }
+{
+    let Some(access) = access else {
+        return true;
+    };
+    match access {
+        Masked::Load => load_fits(ty, args),
+        Masked::Store => store_fits(actuals, args),
+    }
+}
+
+/// Whether arguments fit a call that gives a type.
+pub fn call_fits(x: &Around<'_>, callee: &Callee, ty: Ty, args: &[Operand]) -> bool
+    requires { AllByRecursion (IsHere (length x.now.part.names)) args.now }
+    ensures { result ≡ call_fits (locals_at x.now) callee.now ty (map (operand_at x.now) args.now) }
+{
+    let actuals = callee.actuals.as_slice();
+    actuals_fit(x, actuals, args) && access_fits(access_of(&callee.name), ty, actuals, args)
+}
