@@ -10,7 +10,7 @@ use Rattle.ir_laws.proofs.Composed.{allowing-grows}
 use Rattle.ir_laws.proofs.AlikeAllows.{allowed}
 use Rattle.ir_laws.proofs.Readings.{one_reading, reads-too}
 use Rattle.vplanc.specs.declared.answer.Status.{Status}
-use Rattle.vplanc.specs.declared.answer.Status.TheVariants.{Done, BadWords, Text, ReadFault, WriteFault, Memory}
+use Rattle.vplanc.specs.declared.answer.Status.TheVariants.{Done, BadWords, Text, Check, ReadFault, WriteFault, Memory}
 use Rattle.vplanc.specs.Answers.{TookAll, OutHolds, OutLeft, IsAllowed, TookAllowed, AllowedLeft}
 
 -- two texts that read as one module allow whatever modules they read as
@@ -38,6 +38,7 @@ allowed-left None told before now status left = tt
 allowed-left (Some file) told before now Done left = took-allowed (told file) before now left
 allowed-left (Some file) told before now BadWords left = tt
 allowed-left (Some file) told before now (Text fault) left = tt
+allowed-left (Some file) told before now (Check rule names place) left = tt
 allowed-left (Some file) told before now (ReadFault which) left = tt
 allowed-left (Some file) told before now (WriteFault which) left = tt
 allowed-left (Some file) told before now Memory left = tt

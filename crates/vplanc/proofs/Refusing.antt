@@ -15,12 +15,20 @@ use Rattle.text_lex.specs.declared.fault.Count.{Count}
 use Rattle.text_lex.specs.Fault.{IsLeftOutAt, HasNoneLeftOut}
 use Rattle.text_lex.proofs.Unique.{lexes_unique, stops_lexes}
 use Rattle.ir_limits.specs.Limits.{limit_passed}
-use Rattle.ir_laws.proofs.Readings.{one_numbering}
+use Rattle.ir_types.specs.declared.module.Module.{Module}
+use Rattle.ir_types.specs.Denotes.{tree_of}
+use Rattle.ir_rules.specs.declared.fault.Rule.{Rule}
+use Rattle.ir_rules.specs.declared.fault.Breach.{Breach}
+use Rattle.ir_rules.specs.declared.fault.CheckFault.{CheckFault}
+use Rattle.ir_rules.specs.declared.fault.CheckFault.TheVariants.{Broken, Memory as CheckMemory}
+use Rattle.ir_rules.specs.WellFormed.{KeepsRules, Cause as BreachCause}
+use Rattle.ir_check.proofs.Causes.{verdict}
+use Rattle.ir_laws.proofs.Readings.{one_numbering, one_reading}
 use Rattle.ir_reader.specs.Refusal.{IsRefusal}
 use Rattle.vplanc.specs.declared.answer.Which.TheVariants.{Module as TheModule, Out}
 use Rattle.vplanc.specs.declared.answer.Status.{Status}
-use Rattle.vplanc.specs.declared.answer.Status.TheVariants.{Done, BadWords, Text, ReadFault, WriteFault, Memory}
-use Rattle.vplanc.specs.Answers.{text_status, IsAccepted, IsBeforeOut, FileCause, Cause, WriteCause, FileCompletes, Completes}
+use Rattle.vplanc.specs.declared.answer.Status.TheVariants.{Done, BadWords, Text, Check, ReadFault, WriteFault, Memory}
+use Rattle.vplanc.specs.Answers.{text_status, breach_text, IsAccepted, IsMeant, IsBroken, IsCheckStatus, IsBeforeOut, FileCause, Cause, WriteCause, FileCompletes, Completes}
 
 -- what holds of the bytes that were loaded holds of the file, where it is told
 told-of : (P : List ℕ → Type 0) (told : Option (List ℕ)) (bytes : List ℕ) → IfSome told (λ file. bytes ≡ file) → P bytes → IfSome told P
@@ -66,6 +74,12 @@ not-over text ok count n r =
     let over = p.passed in
     absurd (cc)
 
+-- an accepted text breaks no rule
+not-broken : (text : List ℕ) → IsAccepted text → (rule : Rule) (names : List ℕ) (place : ℕ) → IsBroken text rule names place → ⊥
+not-broken text ok rule names place b =
+    let same = one_reading text ok.meant b.read_as ok.reads.reads b.reads.reads in
+    verdict (tree_of b.read_as) rule b.breach (subst KeepsRules (same.first.says ∙ sym same.second.says) ok.keeps) b.cause
+
 -- an accepted file, with no fault, is printed, or memory is short
 accepted-done : (text : List ℕ) (before now last out_before out_now : ℕ) (status : Status) → FileCause (Some text) before now last status → WriteCause out_before out_now status → IsAccepted text → ¬ Rose before now → ¬ Rose out_before out_now → (status ≡ Done) ⊎ (status ≡ Memory)
 accepted-done text b n l ob on Done cause write ok read wrote = inl refl
@@ -77,6 +91,7 @@ accepted-done text b n l ob on (Text (LeftOut word place)) cause write ok read w
 accepted-done text b n l ob on (Text (NoReading place)) cause write ok read wrote = absurd (cause.1.1 ok.meant ok.reads.reads)
 accepted-done text b n l ob on (Text (CountLimit count c)) cause write ok read wrote = not-over text ok count c cause.1
 accepted-done text b n l ob on (Text TextMemory) cause write ok read wrote = absurd cause
+accepted-done text b n l ob on (Check rule names place) cause write ok read wrote = absurd (not-broken text ok rule names place cause.1)
 accepted-done text b n l ob on (ReadFault TheModule) cause write ok read wrote = absurd (read cause)
 accepted-done text b n l ob on (ReadFault Out) cause write ok read wrote = absurd cause
 accepted-done text b n l ob on (WriteFault TheModule) cause write ok read wrote = absurd write
@@ -90,3 +105,15 @@ file-completes (Some text) b n l ob on status cause write = accepted-done text b
 pub completes : (command : Option (List ℕ)) (told : List ℕ → Option (List ℕ)) (before now : List ℕ → ℕ) (last out_before out_now : ℕ) (status : Status) → Cause command told before now last status → WriteCause out_before out_now status → Completes command told (λ name. Rose (before name) (now name)) (Rose out_before out_now) status
 completes None told before now l ob on status cause write = tt
 completes (Some file) told before now l ob on status cause write = file-completes (told file) (before file) (now file) l ob on status cause write
+
+-- ---- a module that breaks a rule
+
+-- the module that a file reads as breaks a rule, and that is the answer
+broken-text : (told : Option (List ℕ)) (m : Module) (rule : Rule) (breach : Breach) → IsMeant told m → BreachCause (tree_of m) (Broken rule breach) → IfSome told (λ text. IsBroken text rule (breach_text breach) breach.place)
+broken-text None m rule breach meant cause = tt
+broken-text (Some text) m rule breach meant cause = record { nothing_left_out = meant.1; read_as = m; reads = meant.2; breach = breach; cause = cause; names_are = refl; place_is = refl }
+
+pub refused-module : (told : Option (List ℕ)) (before now last : ℕ) (m : Module) (fault : CheckFault) (s : Status) → IsMeant told m → last ≤ longest → BreachCause (tree_of m) fault → IsCheckStatus fault s → IsBeforeOut s × FileCause told before now last s
+refused-module told b n last m (Broken rule breach) s meant short cause (inl is) = subst (λ x. IsBeforeOut x × FileCause told b n last x) (sym is) (tt, (short, broken-text told m rule breach meant cause))
+refused-module told b n last m (Broken rule breach) s meant short cause (inr is) = subst (λ x. IsBeforeOut x × FileCause told b n last x) (sym is) (tt, tt)
+refused-module told b n last m CheckMemory s meant short cause is = subst (λ x. IsBeforeOut x × FileCause told b n last x) (sym is) (tt, tt)

@@ -13,21 +13,33 @@ use Rattle.text_lex.specs.declared.fault.Count.{Count}
 use Rattle.text_lex.specs.declared.fault.Count.TheVariants.{Functions, Blocks, Instructions, Name as NameBytes}
 use Rattle.text_lex.specs.Fault.{HasNoneLeftOut}
 use Rattle.ir_types.specs.declared.module.Module.{Module}
+use Rattle.ir_types.specs.declared.name.Name.{Name}
+use Rattle.ir_types.specs.Denotes.{tree_of}
 use Rattle.ir_types.specs.Reads.{Reads}
 use Rattle.ir_types.specs.Allows.{Allows, factor_of}
 use Rattle.ir_types.specs.First.{HasMeaning}
+use Rattle.type_printer.specs.Texts.{name_text}
+use Rattle.ir_rules.specs.declared.fault.Rule.{Rule}
+use Rattle.ir_rules.specs.declared.fault.Rule.TheVariants as rules
+use Rattle.ir_rules.specs.declared.fault.Subject.{Subject}
+use Rattle.ir_rules.specs.declared.fault.Subject.TheVariants.{Nothing, Local, Symbol, TypeName}
+use Rattle.ir_rules.specs.declared.fault.Breach.{Breach}
+use Rattle.ir_rules.specs.declared.fault.CheckFault.{CheckFault}
+use Rattle.ir_rules.specs.declared.fault.CheckFault.TheVariants.{Broken, Memory as CheckMemory}
+use Rattle.ir_rules.specs.WellFormed.{KeepsRules, Cause as BreachCause}
 use Rattle.ir_reader.specs.Refusal.{IsRefusal, IsWithinLimits}
 use Rattle.ir_printer.specs.Print.{module_pieces}
 use Rattle.vplanc.specs.declared.answer.Which.{Which}
 use Rattle.vplanc.specs.declared.answer.Which.TheVariants.{Module as TheModule, Out}
 use Rattle.vplanc.specs.declared.answer.Status.{Status}
-use Rattle.vplanc.specs.declared.answer.Status.TheVariants.{Done, BadWords, Text, ReadFault, WriteFault, Memory}
+use Rattle.vplanc.specs.declared.answer.Status.TheVariants.{Done, BadWords, Text, Check, ReadFault, WriteFault, Memory}
 
 -- the exit status
 abbrev pub code_of : Status → ℕ
 code_of Done = 0
 code_of BadWords = 2
 code_of (Text fault) = 3
+code_of (Check rule names place) = 4
 code_of (ReadFault which) = 6
 code_of (WriteFault which) = 7
 code_of Memory = 8
@@ -59,6 +71,33 @@ count_name Blocks = codes "blocks"
 count_name Instructions = codes "instructions"
 count_name NameBytes = codes "name"
 
+-- a rule, in a line of the notes
+abbrev pub rule_name : Rule → List ℕ
+rule_name rules.DuplicateName = codes "duplicate-name"
+rule_name rules.UnknownName = codes "unknown-name"
+rule_name rules.TypeMismatch = codes "type-mismatch"
+rule_name rules.UnknownCallee = codes "unknown-callee"
+rule_name rules.Numbering = codes "numbering"
+rule_name rules.EntryHasPredecessor = codes "entry-has-predecessor"
+rule_name rules.PhiEdges = codes "phi-edges"
+rule_name rules.NotAvailable = codes "not-available"
+
+-- a function, and `-` outside functions
+abbrev pub function_text : Option Name → List ℕ
+function_text None = codes "-"
+function_text (Some n) = 64 ∷ name_text n
+
+-- what a breach is said of, as a module's text has it
+abbrev pub subject_text : Subject → List ℕ
+subject_text Nothing = codes "-"
+subject_text (Local n) = 37 ∷ name_text n
+subject_text (Symbol n) = 64 ∷ name_text n
+subject_text (TypeName n) = 37 ∷ name_text n
+
+-- both, behind one another
+abbrev pub breach_text : Breach → List ℕ
+breach_text b = function_text b.function ++ 32 ∷ subject_text b.subject
+
 -- a line of the notes
 abbrev pub line : List ℕ → List ℕ
 line text = codes "vplanc: " ++ text ++ 10 ∷ []
@@ -73,25 +112,43 @@ line_of (Text (TextLimit n)) = line (codes "text: " ++ decimal n ++ codes " byte
 line_of (Text (NoReading place)) = line (codes "text: no reading at " ++ decimal place)
 line_of (Text (CountLimit count n)) = line (codes "text: " ++ count_name count ++ codes " limit " ++ decimal n)
 line_of (Text TextMemory) = line (codes "memory")
+line_of (Check rule names place) = line (codes "check: " ++ rule_name rule ++ codes " " ++ names ++ codes " " ++ decimal place)
 line_of (ReadFault which) = line (codes "read fault: " ++ name_of which)
 line_of (WriteFault which) = line (codes "write fault: " ++ name_of which)
 line_of Memory = line (codes "memory")
 
--- a text within the limit that has no token that is left out, and reads as a module within the limits
+-- a text within the limit that has no token that is left out, and reads as a well-formed module within the limits
 pub record IsAccepted (text : List ℕ) : Type 0 where
   pub short : length text ≤ longest
   pub nothing_left_out : HasNoneLeftOut text
   pub meant : Module
   pub reads : IsWithinLimits text meant
+  pub keeps : KeepsRules (tree_of meant)
 
 -- the module that the file reads as, where the file is told
 abbrev pub IsMeant : Option (List ℕ) → Module → Type 0
 IsMeant told m = IfSome told (λ text. (length text ≤ longest) × HasNoneLeftOut text × IsWithinLimits text m)
 
--- what is printed of a file: the text of a module that the file reads as, which reads as that module too
+-- the text reads as a module that breaks this rule first, in this function, of this name, and at this place
+pub record IsBroken (text : List ℕ) (rule : Rule) (names : List ℕ) (place : ℕ) : Type 0 where
+  pub nothing_left_out : HasNoneLeftOut text
+  pub read_as : Module
+  pub reads : IsWithinLimits text read_as
+  pub breach : Breach
+  pub cause : BreachCause (tree_of read_as) (Broken rule breach)
+  pub names_are : names ≡ breach_text breach
+  pub place_is : place ≡ breach.place
+
+-- the answer to a fault of the checks; there may be no room for the names
+abbrev pub IsCheckStatus : CheckFault → Status → Type 0
+IsCheckStatus (Broken rule breach) status = (status ≡ Check rule (breach_text breach) breach.place) ⊎ (status ≡ Memory)
+IsCheckStatus CheckMemory status = status ≡ Memory
+
+-- what is printed of a file: the text of a well-formed module that the file reads as, which reads as that module too
 pub record IsPrinted (told : Option (List ℕ)) (printed : List ℕ) : Type 0 where
   pub meant : Module
   pub file_reads : IsMeant told meant
+  pub keeps : KeepsRules (tree_of meant)
   pub text_reads : Reads printed meant
   pub exact : printed ≡ text_of (module_pieces meant)
 
@@ -103,6 +160,7 @@ FileCause told before now last (Text (LeftOut word place)) = (last ≤ longest) 
 FileCause told before now last (Text (NoReading place)) = (last ≤ longest) × IfSome told (λ text. IsRefusal text (NoReading place))
 FileCause told before now last (Text (CountLimit count n)) = (last ≤ longest) × IfSome told (λ text. IsRefusal text (CountLimit count n))
 FileCause told before now last (Text TextMemory) = ⊥
+FileCause told before now last (Check rule names place) = (last ≤ longest) × IfSome told (λ text. IsBroken text rule names place)
 FileCause told before now last (ReadFault TheModule) = Rose before now
 FileCause told before now last (ReadFault Out) = ⊥
 FileCause told before now last BadWords = ⊥
@@ -122,6 +180,7 @@ WriteCause before now (WriteFault Out) = Rose before now
 WriteCause before now Done = Unit {0}
 WriteCause before now BadWords = Unit {0}
 WriteCause before now (Text fault) = Unit {0}
+WriteCause before now (Check rule names place) = Unit {0}
 WriteCause before now (ReadFault which) = Unit {0}
 WriteCause before now Memory = Unit {0}
 
@@ -140,6 +199,7 @@ IsBeforeOut Done = ⊥
 IsBeforeOut (WriteFault which) = ⊥
 IsBeforeOut BadWords = Unit {0}
 IsBeforeOut (Text fault) = Unit {0}
+IsBeforeOut (Check rule names place) = Unit {0}
 IsBeforeOut (ReadFault which) = Unit {0}
 IsBeforeOut Memory = Unit {0}
 
@@ -150,6 +210,7 @@ Delivered before now text (WriteFault Out) = (n : ℕ) × (now ≡ and_then befo
 Delivered before now text (WriteFault TheModule) = ⊥
 Delivered before now text BadWords = ⊥
 Delivered before now text (Text fault) = ⊥
+Delivered before now text (Check rule names place) = ⊥
 Delivered before now text (ReadFault which) = ⊥
 Delivered before now text Memory = ⊥
 
@@ -173,6 +234,7 @@ OutHolds told before now (WriteFault Out) = TookFront told before now
 OutHolds told before now (WriteFault TheModule) = ⊥
 OutHolds told before now BadWords = now ≡ before
 OutHolds told before now (Text fault) = now ≡ before
+OutHolds told before now (Check rule names place) = now ≡ before
 OutHolds told before now (ReadFault which) = now ≡ before
 OutHolds told before now Memory = now ≡ before
 

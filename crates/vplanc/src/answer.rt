@@ -4,6 +4,8 @@ ghost use Rattle.std.specs.Prelude.{◌≡◌, ◌≤◌, length};
 ghost use Rattle.vplanc.specs.declared.answer.Status.TheVariants.{Memory};
 ghost use Rattle.vplanc.specs.Answers.{code_of, load_status, name_of, text_status};
 
+use ir_rules::Rule;
+use lists::Text;
 use std::alloc::AllocError;
 use text_lex::TextFault;
 use vplan_io::{LONGEST, LoadFault};
@@ -39,6 +41,8 @@ pub enum Status {
     BadWords,
     /// The file's text is too long, has a token that is none or is left out, reads as no module, or as one that passes a limit.
     Text(TextFault),
+    /// The file's module breaks this rule, and no earlier one: the function and the name, as the line has them, and the instruction's place.
+    Check(Rule, Text, u32),
     /// The file is not read.
     ReadFault(Which),
     /// The sink did not take the text.
@@ -56,6 +60,7 @@ impl Status {
             Status::Done => 0,
             Status::BadWords => 2,
             Status::Text(_) => 3,
+            Status::Check(_, _, _) => 4,
             Status::ReadFault(_) => 6,
             Status::WriteFault(_) => 7,
             Status::Memory => 8,

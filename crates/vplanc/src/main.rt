@@ -3,6 +3,7 @@
 
 mod answer;
 mod message;
+mod refusal;
 mod run;
 #[cfg(test)]
 mod tests;

@@ -3,11 +3,12 @@
 ghost use Rattle.std.specs.Prelude.{◌≡◌, ℕ, ◌+◌, ◌≤◌, ◌++◌, codes, length, take};
 ghost use Rattle.std.specs.Fmt.{decimal};
 ghost use Rattle.vplan_io.specs.Causes.{Rose, and_then};
-ghost use Rattle.vplanc.specs.Answers.{count_name, line, line_of};
+ghost use Rattle.vplanc.specs.Answers.{count_name, rule_name, line, line_of};
 ghost use Rattle.vplanc.specs.declared.answer.Status.TheVariants.{Done};
 
 use crate::answer::Status;
 use arrayvec::ArrayString;
+use ir_rules::Rule;
 use itoa::Buffer;
 use text_lex::{Count, TextFault};
 use vplan_io::{Sink, put_three};
@@ -62,6 +63,43 @@ fn left_out(word: &[u8], place: u32) -> Line<'_>
     Line { head, word, tail }
 }
 
+// The name of a rule, in a line of the notes.
+fn rule_name(rule: Rule) -> &'static str
+    ensures name { result.now ≡ rule_name rule }
+    ensures short { length result.now ≤ 21 }
+{
+    match rule {
+        Rule::DuplicateName => "duplicate-name",
+        Rule::UnknownName => "unknown-name",
+        Rule::TypeMismatch => "type-mismatch",
+        Rule::UnknownCallee => "unknown-callee",
+        Rule::Numbering => "numbering",
+        Rule::EntryHasPredecessor => "entry-has-predecessor",
+        Rule::PhiEdges => "phi-edges",
+        Rule::NotAvailable => "not-available",
+    }
+}
+
+// The line that names a rule that is broken.
+fn broken(rule: Rule, names: &[u8], place: u32) -> Line<'_>
+    ensures { result.head.bytes ++ result.word.now ++ result.tail.bytes ≡ line (codes "check: " ++ rule_name rule ++ codes " " ++ names.now ++ codes " " ++ decimal place) }
+{
+    let mut digits = Buffer::new();
+    let mut head = ArrayString::new();
+    head.push_str("vplanc: check: ");
+    head.push_str(rule_name(rule));
+    head.push_str(" ");
+    let mut tail = ArrayString::new();
+    tail.push_str(" ");
+    tail.push_str(digits.format(place));
+    tail.push_str("\n");
+    Line {
+        head,
+        word: names,
+        tail,
+    }
+}
+
 // What is counted, in a line of the notes.
 fn name_of(count: Count) -> &'static str
     ensures name { result.now ≡ count_name count }
@@ -108,6 +146,7 @@ fn line_for(status: &Status) -> Line<'_>
             whole(line_with("text: no reading at ", digits.format(*place), ""))
         }
         Status::Text(TextFault::CountLimit(count, number)) => whole(limit(*count, *number)),
+        Status::Check(rule, names, place) => broken(*rule, names.as_bytes(), *place),
         Status::ReadFault(which) => whole(line_with("read fault: ", which.name(), "")),
         Status::WriteFault(which) => whole(line_with("write fault: ", which.name(), "")),
         Status::Text(TextFault::Memory) | Status::Memory => whole(line_with("memory", "", "")),

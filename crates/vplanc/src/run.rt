@@ -9,7 +9,9 @@ ghost use Rattle.vplanc.specs.Answers.{Cause, FileCause, WriteCause, OutHolds, O
 
 use crate::answer::{Status, Which};
 use crate::message::put_line;
+use crate::refusal::refused;
 use crate::words::file_named;
+use ir_check::{Checked, check};
 use ir_printer::print_module;
 use ir_reader::read_module;
 use ir_types::Module;
@@ -30,6 +32,21 @@ fn module_in<F: Files>(alloc: Global, file: &str, files: &mut F) -> Result<Modul
     Ok(module)
 }
 
+// The module of the file, where it is well-formed.
+fn checked_in<F: Files>(alloc: Global, file: &str, files: &mut F) -> Result<Checked, Status>
+    ensures told { F.told files.new ≡ F.told files.old }
+    ensures later { (name : List ℕ) → F.faults files.old name ≤ F.faults files.new name }
+    ensures meant { IfOk result (IsMeant (F.told files.old file.now)) }
+    ensures short { OnOk result (F.last files.new ≤ longest) }
+    ensures refused { IfErr result (λ s. IsBeforeOut s × FileCause (F.told files.old file.now) (F.faults files.old file.now) (F.faults files.new file.now) (F.last files.new) s) }
+{
+    let module = module_in(alloc, file, files)?;
+    match check(alloc, module) {
+        Ok(checked) => Ok(checked),
+        Err((_, fault)) => Err(refused(alloc, fault)),
+    }
+}
+
 // The printed text of the file's module.
 fn make<F: Files>(alloc: Global, file: &str, files: &mut F) -> Result<Vec<u8>, Status>
     ensures told { F.told files.new ≡ F.told files.old }
@@ -38,9 +55,9 @@ fn make<F: Files>(alloc: Global, file: &str, files: &mut F) -> Result<Vec<u8>, S
     ensures short { OnOk result (F.last files.new ≤ longest) }
     ensures refused { IfErr result (λ s. IsBeforeOut s × FileCause (F.told files.old file.now) (F.faults files.old file.now) (F.faults files.new file.now) (F.last files.new) s) }
 {
-    let module = module_in(alloc, file, files)?;
+    let checked = checked_in(alloc, file, files)?;
     let mut text = Vec::new(alloc);
-    print_module(alloc, &module, &mut text)?;
+    print_module(alloc, checked.module(), &mut text)?;
     Ok(text)
 }
 
