@@ -1,0 +1,2 @@
+pub mod SetsLemmas
+pub mod SetsRows

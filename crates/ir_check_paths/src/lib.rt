@@ -1,0 +1,4 @@
+//! Rules about paths through a function's blocks.
+#![tactic(auto)]
+
+mod sets;
