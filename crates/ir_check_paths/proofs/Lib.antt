@@ -1,2 +1,5 @@
 pub mod SetsLemmas
 pub mod SetsRows
+pub mod FlowLemmas
+pub mod Containing
+pub mod Paths

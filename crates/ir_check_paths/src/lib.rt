@@ -1,4 +1,6 @@
 //! Rules about paths through a function's blocks.
 #![tactic(auto)]
 
+mod edges;
+mod flow;
 mod sets;
