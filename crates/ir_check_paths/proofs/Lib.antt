@@ -3,3 +3,4 @@ pub mod SetsRows
 pub mod FlowLemmas
 pub mod Containing
 pub mod Paths
+pub mod Positions

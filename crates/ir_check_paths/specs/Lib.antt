@@ -1,3 +1,5 @@
 pub mod Sets
 pub mod Flow
 pub mod Graph
+pub mod Known
+pub mod EdgeLists

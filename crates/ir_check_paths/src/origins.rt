@@ -1,0 +1,17 @@
+// What the names of a function are given to.
+ghost use Rattle.std.specs.Prelude.{IfOk};
+ghost use Rattle.ir_check_paths.specs.Known.{IsReady};
+
+use ir_types::{Function, Inst};
+use std::alloc::{AllocError, Global};
+
+/// What a name is given to.
+#[derive(Clone, Copy)]
+pub enum Origin {
+    /// To a parameter.
+    Parameter,
+    /// To the result of an instruction, by the numbers of its block and of itself in that.
+    Result(usize, usize),
+    /// To neither.
+    Unknown,
+}
