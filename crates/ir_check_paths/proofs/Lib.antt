@@ -4,3 +4,4 @@ pub mod FlowLemmas
 pub mod Containing
 pub mod Paths
 pub mod Positions
+pub mod EdgeLemmas
