@@ -5,3 +5,5 @@ pub mod Containing
 pub mod Paths
 pub mod Positions
 pub mod EdgeLemmas
+pub mod Noted
+pub mod Passing

@@ -3,3 +3,5 @@ pub mod Flow
 pub mod Graph
 pub mod Known
 pub mod EdgeLists
+pub mod Setting
+pub mod Uses

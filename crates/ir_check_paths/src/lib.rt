@@ -4,6 +4,9 @@
 mod branches;
 mod edges;
 mod flow;
+mod noting;
+mod order;
 mod origins;
+mod passed;
 mod places;
 mod sets;

@@ -1,9 +1,4 @@
 // What the names of a function are given to.
-ghost use Rattle.std.specs.Prelude.{IfOk};
-ghost use Rattle.ir_check_paths.specs.Known.{IsReady};
-
-use ir_types::{Function, Inst};
-use std::alloc::{AllocError, Global};
 
 /// What a name is given to.
 #[derive(Clone, Copy)]
