@@ -7,3 +7,4 @@ pub mod Positions
 pub mod EdgeLemmas
 pub mod Noted
 pub mod Passing
+pub mod Deciding

@@ -1,6 +1,7 @@
 //! Rules about paths through a function's blocks.
 #![tactic(auto)]
 
+mod available;
 mod branches;
 mod edges;
 mod flow;
