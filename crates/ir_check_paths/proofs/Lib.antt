@@ -8,3 +8,5 @@ pub mod EdgeLemmas
 pub mod Noted
 pub mod Passing
 pub mod Deciding
+pub mod FindsLemmas
+pub mod EntriesLemmas

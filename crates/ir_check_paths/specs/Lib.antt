@@ -5,3 +5,4 @@ pub mod Known
 pub mod EdgeLists
 pub mod Setting
 pub mod Uses
+pub mod Finding

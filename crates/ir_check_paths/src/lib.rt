@@ -11,3 +11,4 @@ mod origins;
 mod passed;
 mod places;
 mod sets;
+mod uses;
