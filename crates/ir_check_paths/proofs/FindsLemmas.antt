@@ -1,7 +1,10 @@
 -- What is found in lists, part by part.
 use Rattle.std.proofs.Common.{◌≡◌, ℕ, zero, suc, ◌+◌, ◌<◌, ◌≤◌, Bool, true, false, List, [], ◌∷◌, ◌++◌, length, map, take, drop, get_or, slice_get, Contains, Option, Some, None, refl, sym, ◌∙◌, ap, subst, arith}
 use Rattle.std.specs.Option.{option_map}
-use Rattle.std.specs.List.{filter_map, cons_option, zip, All}
+use Rattle.std.specs.Option.{is_some}
+use Rattle.std.specs.List.{filter_map, cons_option, zip, All, AllByRecursion}
+use Rattle.std.proofs.lemmas.List.Elements.{All-from_recursion}
+use Rattle.ir_shape.specs.Placed.{IsOperandPlaced}
 use Rattle.std.proofs.lemmas.List.{drop_more, at_drop_all}
 use Rattle.forms.specs.Nested.{concat}
 use Rattle.ir_types.specs.declared.name.Name.{Name}
@@ -18,7 +21,7 @@ use Rattle.ir_rules.specs.Edges.{Placed, placed_behind, placed_in}
 use Rattle.ir_rules.specs.Available.{LocalUse, local_in, used_at, used_from, IsUnavailable}
 use Rattle.ir_check_paths.specs.Known.{IsReady, ArePlaces}
 use Rattle.ir_check_paths.specs.Uses.{Finds, nothing, found, behind, IsUseAt, IsAnswer}
-use Rattle.ir_check_paths.specs.Finding.{IsUseOf, IsUseFound, FindsOfArgs, FindsOfEntries, FindsAt, FindsIn, FindsFirst}
+use Rattle.ir_check_paths.specs.Finding.{IsLocalIn, IsUseOf, IsUseFound, FindsOfArgs, FindsOfEntries, FindsAt, FindsIn, FindsFirst}
 
 pub finds_on : {A B : Type 0} (P : A → Type 0) (Q : A → B → Type 0) (xs ys : List A) (o n : Option B) → n ≡ None → Finds P Q xs n → Finds P Q ys o → Finds P Q (xs ++ ys) o
 finds_on P Q _ ys o _ e nothing h = h
@@ -106,3 +109,41 @@ args_stop f number before place args a o y lt e some one r =
 
 pub args_end : (f : Function) (number before place : ℕ) (args : List Operand) → length args ≤ place → ArgsRest f number before place args → FindsOfArgs f number before args None
 args_end f number before place args le r = r.rest None (subst (λ (xs : List Operand). FindsOfArgs f number before xs None) (sym (at_drop_all (λ (xs : List Operand). xs) args place le)) (λ t p at b. nothing))
+
+-- ---- answers
+
+pub other_of : (a : Operand) → ((id : ValueId) → a ≡ Local id → ⊥) → IsOther a
+other_of (Local id) h = h id refl
+other_of (Int n) h = tt
+other_of Null h = tt
+other_of Poison h = tt
+other_of (Lanes xs) h = tt
+other_of (Global i k) h = tt
+other_of (OutOfRange i) h = tt
+
+pub some_of : {A : Type 0} (o : Option A) → is_some o ≡ true → (y : A) × (o ≡ Some y)
+some_of None e = absurd cc
+some_of (Some y) e = (y, refl)
+
+pub none_of : {A : Type 0} (o : Option A) → is_some o ≡ false → o ≡ None
+none_of None e = refl
+none_of (Some y) e = absurd cc
+
+pub local_in_place : (names : List Name) (a : Operand) (id : ValueId) → a ≡ Local id → IsLocalIn names a → id.0 < length names
+local_in_place names a id e h = subst (λ (x : Operand). IsLocalIn names x) e h
+
+pub args_in_place : (t : Tables) (names : List Name) (args : List Operand) → AllByRecursion (IsOperandPlaced t names) args → All (IsLocalIn names) args
+args_in_place t names args h = All-from_recursion (IsLocalIn names) args (weaker args h)
+  where
+    one : (a : Operand) → IsOperandPlaced t names a → IsLocalIn names a
+    one (Local id) p = p
+    one (Int n) p = tt
+    one Null p = tt
+    one Poison p = tt
+    one (Lanes xs) p = tt
+    one (Global i k) p = tt
+    one (OutOfRange i) p = tt
+
+    weaker : (xs : List Operand) → AllByRecursion (IsOperandPlaced t names) xs → AllByRecursion (IsLocalIn names) xs
+    weaker [] p = p
+    weaker (x ∷ xs) p = (one x p.0, weaker xs p.1)
