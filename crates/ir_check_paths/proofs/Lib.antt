@@ -10,3 +10,5 @@ pub mod Passing
 pub mod Deciding
 pub mod FindsLemmas
 pub mod EntriesLemmas
+pub mod InstLemmas
+pub mod BlockLemmas
