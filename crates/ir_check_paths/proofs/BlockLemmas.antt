@@ -80,3 +80,20 @@ unfolding FindsFrom
 block_end f number start place b at le r = r.rest b at None (λ t.
     let P : List Inst → Type 0 = λ xs. Finds (IsUnavailable (function_in t f)) (IsUseFound f.names) (uses_of (function_in t f) (placed_behind (block_in t f.names b) (start + place) (map (inst_in t f.names) (take place b.insts)) (map (inst_in t f.names) xs))) None in
     subst P (sym (at_drop_all (λ (xs : List Inst). xs) b.insts place le)) nothing)
+
+-- ---- what a loop knows
+
+got_below : {A : Type 0} (xs : List A) (k : ℕ) → k < length xs → (x : A) × (slice_get xs k ≡ Some x)
+got_below [] k lt = absurd (omega arith)
+got_below (y ∷ ys) zero lt = (y, refl)
+got_below (y ∷ ys) (suc k) lt = got_below ys k (omega arith)
+
+pub inst_there : (f : Function) (number before : ℕ) (c : Block) → slice_get f.body number ≡ Some c → before < length c.insts → (b : Block) → slice_get f.body number ≡ Some b → (i : Inst) × (slice_get b.insts before ≡ Some i)
+inst_there f number before c at_c lt b at_b = let same : c ≡ b = some_same (sym at_c ∙ at_b) in got_below b.insts before (subst (λ (x : Block). before < length x.insts) same lt)
+
+pub block_length : (f : Function) (number : ℕ) (b c : Block) → slice_get f.body number ≡ Some c → slice_get f.body number ≡ Some b → length b.insts ≡ length c.insts
+block_length f number b c at_c at_b = let same : b ≡ c = some_same (sym at_b ∙ at_c) in ap (λ (x : Block). length x.insts) same
+
+pub none_from : {A : Type 0} (o : Option A) → ((x : A) → o ≡ Some x → ⊥) → o ≡ None
+none_from None h = refl
+none_from (Some x) h = absurd (h x refl)

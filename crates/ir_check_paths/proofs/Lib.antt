@@ -12,3 +12,4 @@ pub mod FindsLemmas
 pub mod EntriesLemmas
 pub mod InstLemmas
 pub mod BlockLemmas
+pub mod FunctionLemmas
