@@ -62,11 +62,11 @@ results_cases block n (i ∷ is) o id lt =
     let more : List Origin = result_set i.result (Result block n) o in
     let size : length more ≡ length o = one_size i.result (Result block n) o in
     elim (results_cases block (suc n) is more id (omega arith)) [
-    | inr r ↦ let at : suc n + r.0 ≡ n + suc r.0 = omega arith in inr (suc r.0, record { inst = r.1.inst; name = r.1.name; at = r.1.at; is = r.1.is; id_is = r.1.id_is }, r.2 ∙ ap (λ k. Result block k) at)
-    | inl l ↦ elim (one_case i.result (Result block n) o id lt) [
-      | inl m ↦ inl (l.0 ∙ m.0, none_there i is id m.1 l.1)
-      | inr m ↦ let at : n ≡ n + 0 = omega arith in inr (0, record { inst = i; name = m.0; at = refl; is = m.1; id_is = m.2 }, l.0 ∙ (m.3 ∙ ap (λ k. Result block k) at))
-    ]
+      | inr r ↦ let at : suc n + r.0 ≡ n + suc r.0 = omega arith in inr (suc r.0, record { inst = r.1.inst; name = r.1.name; at = r.1.at; is = r.1.is; id_is = r.1.id_is }, r.2 ∙ ap (λ k. Result block k) at)
+      | inl l ↦ elim (one_case i.result (Result block n) o id lt) [
+        | inl m ↦ inl (l.0 ∙ m.0, none_there i is id m.1 l.1)
+        | inr m ↦ let at : n ≡ n + 0 = omega arith in inr (0, record { inst = i; name = m.0; at = refl; is = m.1; id_is = m.2 }, l.0 ∙ (m.3 ∙ ap (λ k. Result block k) at))
+      ]
     ]
   where
     none_there : (i : Inst) (is : List Inst) (id : ℕ) → ((v : ValueId) → i.result ≡ Some v → v.0 ≢ id) → ((j : ℕ) → ¬ HasResult is j id) → (j : ℕ) → ¬ HasResult (i ∷ is) j id
@@ -82,14 +82,14 @@ blocks_cases n (b ∷ bs) o id lt =
     let more : List Origin = results_set n 0 b.insts o in
     let size : length more ≡ length o = results_size n 0 b.insts o in
     elim (blocks_cases (suc n) bs more id (omega arith)) [
-    | inr r ↦ let at : suc n + r.0 ≡ n + suc r.0 = omega arith in inr (suc r.0, r.1, record { holder = r.2.holder; inst = r.2.inst; name = r.2.name; at_block = r.2.at_block; at_place = r.2.at_place; is = r.2.is; id_is = r.2.id_is }, r.3 ∙ ap (λ k. Result k r.1) at)
-    | inl l ↦ elim (results_cases n 0 b.insts o id lt) [
-      | inl m ↦ inl (l.0 ∙ m.0, none_there b bs id m.1 l.1)
-      | inr m ↦
-        let at : n ≡ n + 0 = omega arith in
-        let place : 0 + m.0 ≡ m.0 = omega arith in
-        inr (0, m.0, record { holder = b; inst = m.1.inst; name = m.1.name; at_block = refl; at_place = m.1.at; is = m.1.is; id_is = m.1.id_is }, l.0 ∙ (m.2 ∙ (ap (λ k. Result n k) place ∙ ap (λ k. Result k m.0) at)))
-    ]
+      | inr r ↦ let at : suc n + r.0 ≡ n + suc r.0 = omega arith in inr (suc r.0, r.1, record { holder = r.2.holder; inst = r.2.inst; name = r.2.name; at_block = r.2.at_block; at_place = r.2.at_place; is = r.2.is; id_is = r.2.id_is }, r.3 ∙ ap (λ k. Result k r.1) at)
+      | inl l ↦ elim (results_cases n 0 b.insts o id lt) [
+        | inl m ↦ inl (l.0 ∙ m.0, none_there b bs id m.1 l.1)
+        | inr m ↦
+            let at : n ≡ n + 0 = omega arith in
+            let place : 0 + m.0 ≡ m.0 = omega arith in
+            inr (0, m.0, record { holder = b; inst = m.1.inst; name = m.1.name; at_block = refl; at_place = m.1.at; is = m.1.is; id_is = m.1.id_is }, l.0 ∙ (m.2 ∙ (ap (λ k. Result n k) place ∙ ap (λ k. Result k m.0) at)))
+      ]
     ]
   where
     none_there : (b : Block) (bs : List Block) (id : ℕ) → ((j : ℕ) → ¬ HasResult b.insts j id) → ((k j : ℕ) → ¬ IsResultId bs k j id) → (k j : ℕ) → ¬ IsResultId (b ∷ bs) k j id
@@ -104,11 +104,11 @@ params_cases [] o id lt = inl (refl, λ c. contains_none id c)
 params_cases (p ∷ ps) o id lt =
     let size : length (set o p.name.0 Parameter) ≡ length o = length-set o p.name.0 Parameter in
     elim (params_cases ps (set o p.name.0 Parameter) id (omega arith)) [
-    | inr r ↦ inr (contains_tail id p.name.0 (map (λ (q : Param). q.name.0) ps) r.0, r.1)
-    | inl l ↦ elim (cases_eq p.name.0 id) [
-      | inl e ↦ inr (subst (λ x. IsParamId (p ∷ ps) x) e (contains_head p.name.0 (map (λ (q : Param). q.name.0) ps)), l.0 ∙ subst (λ k. get_or (set o p.name.0 Parameter) k Unknown ≡ Parameter) e (get_or-set_same o p.name.0 Parameter Unknown (omega arith)))
-      | inr ne ↦ inl (l.0 ∙ get_or-set_other o p.name.0 id Parameter Unknown (λ s. ne (sym s)), λ c. elim (contains_cases id p.name.0 (map (λ (q : Param). q.name.0) ps) c) [ inl e ↦ ne e | inr t ↦ l.1 t ])
-    ]
+      | inr r ↦ inr (contains_tail id p.name.0 (map (λ (q : Param). q.name.0) ps) r.0, r.1)
+      | inl l ↦ elim (cases_eq p.name.0 id) [
+        | inl e ↦ inr (subst (λ x. IsParamId (p ∷ ps) x) e (contains_head p.name.0 (map (λ (q : Param). q.name.0) ps)), l.0 ∙ subst (λ k. get_or (set o p.name.0 Parameter) k Unknown ≡ Parameter) e (get_or-set_same o p.name.0 Parameter Unknown (omega arith)))
+        | inr ne ↦ inl (l.0 ∙ get_or-set_other o p.name.0 id Parameter Unknown (λ s. ne (sym s)), λ c. elim (contains_cases id p.name.0 (map (λ (q : Param). q.name.0) ps) c) [ inl e ↦ ne e | inr t ↦ l.1 t ])
+      ]
     ]
 
 -- ---- all
@@ -151,11 +151,11 @@ origin_case f o id lt e =
     let size' : length (blocks_set 0 f.body start) ≡ length start = blocks_size 0 f.body start in
     let same : get_or o id Unknown ≡ get_or (params_set f.params (blocks_set 0 f.body start)) id Unknown = ap (λ (l : List Origin). get_or l id Unknown) e in
     elim (params_cases f.params (blocks_set 0 f.body start) id (omega arith)) [
-    | inr p ↦ is_param p.0 (same ∙ p.1)
-    | inl p ↦ elim (blocks_cases 0 f.body start id (omega arith)) [
-      | inr b ↦ let at : 0 + b.0 ≡ b.0 = omega arith in is_result p.1 b.0 b.1 b.2 (same ∙ (p.0 ∙ (b.3 ∙ ap (λ k. Result k b.1) at)))
-      | inl b ↦ is_none p.1 b.1 (same ∙ (p.0 ∙ (b.0 ∙ unknown_at (length f.names) id)))
-    ]
+      | inr p ↦ is_param p.0 (same ∙ p.1)
+      | inl p ↦ elim (blocks_cases 0 f.body start id (omega arith)) [
+        | inr b ↦ let at : 0 + b.0 ≡ b.0 = omega arith in is_result p.1 b.0 b.1 b.2 (same ∙ (p.0 ∙ (b.3 ∙ ap (λ k. Result k b.1) at)))
+        | inl b ↦ is_none p.1 b.1 (same ∙ (p.0 ∙ (b.0 ∙ unknown_at (length f.names) id)))
+      ]
     ]
 
 result_same : {a b c d : ℕ} → Result a b ≡ Result c d → (a ≡ c) × (b ≡ d)

@@ -86,12 +86,12 @@ places_more n f places b r e p =
       found = λ k c lt at. elim (cases_eq b.name.0 c.name.0) [
         | inl same ↦ let k_is : n ≡ k = one_block f r n k b c e at same in subst (λ x. get_or (set places b.name.0 (Some n)) x None ≡ Some k) same (get_or-set_same places b.name.0 (Some n) None within ∙ ap (λ x. Some x) k_is)
         | inr other ↦
-          let ne : n ≢ k = λ s. other (let g : b ≡ c = some_same (sym e ∙ ap (λ x. slice_get f.body x) s ∙ at) in ap (λ (x : Block). x.name.0) g) in
-          get_or-set_other places b.name.0 c.name.0 (Some n) None (λ s. other (sym s)) ∙ p.found k c (omega arith) at
+            let ne : n ≢ k = λ s. other (let g : b ≡ c = some_same (sym e ∙ ap (λ x. slice_get f.body x) s ∙ at) in ap (λ (x : Block). x.name.0) g) in
+            get_or-set_other places b.name.0 c.name.0 (Some n) None (λ s. other (sym s)) ∙ p.found k c (omega arith) at
       ];
       only = λ id k h. elim (cases_eq b.name.0 id) [
         | inl same ↦ let v : Some n ≡ Some k = sym (get_or-set_same places b.name.0 (Some n) None within) ∙ ap (λ x. get_or (set places b.name.0 (Some n)) x None) same ∙ h in
-          let k_is : n ≡ k = cc in (b, subst (λ x. slice_get f.body x ≡ Some b) k_is e, same)
+            let k_is : n ≡ k = cc in (b, subst (λ x. slice_get f.body x ≡ Some b) k_is e, same)
         | inr other ↦ p.only id k (sym (get_or-set_other places b.name.0 id (Some n) None (λ s. other (sym s))) ∙ h)
       ];
     }

@@ -26,8 +26,8 @@ returns-in-Some-clause-finds c =
     let lt : c.args.label.0 < length c.args.known.now.places.items = omega (arith, c.requires.places.size, c.requires.label_in) in
     let e = get_or_default c.args.known.now.places.items c.args.label.0 None _ lt ∙ (sym c.index.ensures ∙ c.in-Some.is) in
     ok_weaker c.of_arg.result _ _ (λ o h. entry_at c.args.function.now c.args.arg.now c.args.label c.in-Some.number c.at.result.now o c.at.ensures.found
-      (λ t. block_found c.args.function.now c.requires.ready c.args.known.now.places.items c.requires.places c.args.label c.requires.label_in t c.in-Some.number e c.at.result.now c.at.ensures.found)
-      (rw c.len-end.ensures at h)) c.of_arg.ensures.finds
+    (λ t. block_found c.args.function.now c.requires.ready c.args.known.now.places.items c.requires.places c.args.label c.requires.label_in t c.in-Some.number e c.at.result.now c.at.ensures.found)
+    (rw c.len-end.ensures at h)) c.of_arg.ensures.finds
 
 pub returns-in-None-clause-finds : goal.returns-in-None-clause-finds
 returns-in-None-clause-finds c =
