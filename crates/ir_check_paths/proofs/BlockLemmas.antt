@@ -2,13 +2,12 @@
 use Rattle.std.proofs.Common.{◌≡◌, ℕ, zero, suc, ◌+◌, ◌<◌, ◌≤◌, List, [], ◌∷◌, ◌++◌, length, map, take, drop, slice_get, Option, Some, None, refl, sym, ◌∙◌, ap, subst, arith}
 use Rattle.std.specs.Option.{option_map}
 use Rattle.std.proofs.lemmas.List.{at_drop_all}
-use Rattle.forms.specs.Nested.{concat}
 use Rattle.ir_types.specs.declared.name.Name.{Name}
 use Rattle.ir_types.specs.declared.name.ValueId.{ValueId}
 use Rattle.ir_types.specs.declared.inst.Inst.{Inst}
 use Rattle.ir_types.specs.declared.module.Block.{Block}
 use Rattle.ir_types.specs.declared.module.Function.{Function}
-use Rattle.ir_types.specs.Tree.{InstTree, FunctionTree}
+use Rattle.ir_types.specs.Tree.{InstTree}
 use Rattle.ir_types.specs.Denotes.{Tables, kind_in, inst_in, block_in, function_in}
 use Rattle.ir_rules.specs.Edges.{Placed, placed_behind}
 use Rattle.ir_rules.specs.Available.{LocalUse, uses_by, IsUnavailable}

@@ -1,30 +1,28 @@
 -- What is found of a phi's entries.
-use Rattle.std.proofs.Common.{◌≡◌, ◌≢◌, ℕ, zero, suc, ◌+◌, ◌<◌, ◌≤◌, ◌⊎◌, inl, inr, Bool, true, false, List, [], ◌∷◌, ◌++◌, length, map, take, drop, get_or, slice_get, Contains, Option, Some, None, min, if◌then◌else◌, refl, sym, ◌∙◌, ap, subst, arith, true≢false}
+use Rattle.std.proofs.Common.{◌≡◌, ◌≢◌, ℕ, zero, suc, ◌+◌, ◌<◌, ◌≤◌, ◌⊎◌, inl, inr, Bool, true, false, List, [], ◌∷◌, length, map, take, drop, get_or, slice_get, Option, Some, None, if◌then◌else◌, refl, sym, ◌∙◌, ap, subst, arith, true≢false}
 use Rattle.std.specs.Prelude.{find}
 use Rattle.std.specs.Bool.{Decides}
-use Rattle.std.specs.List.{filter_map, cons_option, zip}
+use Rattle.std.specs.List.{cons_option, zip}
 use Rattle.std.proofs.lemmas.Bool.Decides.{Decides-eqb}
 use Rattle.std.proofs.lemmas.Slice.Eq.{bytes_eq-Decides}
 use Rattle.std.proofs.lemmas.List.{drop_more, at_drop_all, take_all, length-map}
 use Rattle.ir_types.specs.declared.name.Name.{Name}
 use Rattle.ir_types.specs.declared.name.Name.TheVariants.{Text, Number}
 use Rattle.ir_types.specs.declared.name.ValueId.{ValueId}
-use Rattle.ir_types.specs.declared.inst.Inst.{Inst}
 use Rattle.ir_types.specs.declared.inst.Operand.{Operand}
-use Rattle.ir_types.specs.declared.inst.Operand.TheVariants.{Local, Int, Null, Poison, Lanes, Global, OutOfRange}
 use Rattle.ir_types.specs.declared.module.Block.{Block}
 use Rattle.ir_types.specs.declared.module.Function.{Function}
 use Rattle.ir_types.specs.Names.{name_at, same_name}
 use Rattle.ir_types.specs.declared.inst.Ty.TheVariants.{Void}
 use Rattle.ir_types.specs.Kinds.{Unreachable}
-use Rattle.ir_types.specs.Tree.{OperandTree, local, number, null, poison, lanes, global, out_of_range, InstTree, BlockTree, FunctionTree}
+use Rattle.ir_types.specs.Tree.{OperandTree, local, number, null, poison, lanes, global, out_of_range, BlockTree, FunctionTree}
 use Rattle.ir_types.specs.Denotes.{Tables, name_in, operand_in, inst_in, block_in, function_in}
 use Rattle.ir_rules.specs.Edges.{Placed}
-use Rattle.ir_rules.specs.Available.{LocalUse, local_in, used_at, used_from, IsUnavailable}
+use Rattle.ir_rules.specs.Available.{LocalUse, used_at, used_from, IsUnavailable}
 use Rattle.ir_check_paths.specs.Known.{IsReady, ArePlaces}
-use Rattle.ir_check_paths.specs.Uses.{Finds, nothing, found, behind, IsUseAt, IsAnswer}
+use Rattle.ir_check_paths.specs.Uses.{Finds, nothing}
 use Rattle.ir_check_paths.specs.Finding.{IsUseOf, FindsOfArgs, FindsOfEntries}
-use Rattle.ir_check_paths.proofs.Positions.{got_mapped, map_got, one_place, label_in, one_block}
+use Rattle.ir_check_paths.proofs.Positions.{got_mapped, map_got, one_place, label_in}
 use Rattle.ir_check_paths.proofs.FindsLemmas.{finds_on, finds_first, kept_parts}
 
 pub same_name-Decides : (x y : Name) → Decides (same_name x y) (x ≡ y)

@@ -1,27 +1,21 @@
 -- What is found in lists, part by part.
-use Rattle.std.proofs.Common.{◌≡◌, ℕ, zero, suc, ◌+◌, ◌<◌, ◌≤◌, Bool, true, false, List, [], ◌∷◌, ◌++◌, length, map, take, drop, get_or, slice_get, Contains, Option, Some, None, refl, sym, ◌∙◌, ap, subst, arith}
+use Rattle.std.proofs.Common.{◌≡◌, ℕ, ◌+◌, ◌<◌, ◌≤◌, true, false, List, [], ◌∷◌, ◌++◌, length, map, drop, get_or, Option, Some, None, refl, sym, ◌∙◌, ap, subst}
 use Rattle.std.specs.Option.{option_map}
 use Rattle.std.specs.Option.{is_some}
-use Rattle.std.specs.List.{filter_map, cons_option, zip, All, AllByRecursion}
+use Rattle.std.specs.List.{filter_map, cons_option, All, AllByRecursion}
 use Rattle.std.proofs.lemmas.List.Elements.{All-from_recursion}
 use Rattle.ir_shape.specs.Placed.{IsOperandPlaced}
 use Rattle.std.proofs.lemmas.List.{drop_more, at_drop_all}
-use Rattle.forms.specs.Nested.{concat}
 use Rattle.ir_types.specs.declared.name.Name.{Name}
 use Rattle.ir_types.specs.declared.name.ValueId.{ValueId}
-use Rattle.ir_types.specs.declared.inst.Inst.{Inst}
 use Rattle.ir_types.specs.declared.inst.Operand.{Operand}
 use Rattle.ir_types.specs.declared.inst.Operand.TheVariants.{Local, Int, Null, Poison, Lanes, Global, OutOfRange}
-use Rattle.ir_types.specs.declared.module.Block.{Block}
 use Rattle.ir_types.specs.declared.module.Function.{Function}
-use Rattle.ir_types.specs.Names.{name_at, same_name}
-use Rattle.ir_types.specs.Tree.{OperandTree, BlockTree, FunctionTree}
-use Rattle.ir_types.specs.Denotes.{Tables, name_in, operand_in, inst_in, block_in, function_in}
-use Rattle.ir_rules.specs.Edges.{Placed, placed_behind, placed_in}
-use Rattle.ir_rules.specs.Available.{LocalUse, local_in, used_at, used_from, IsUnavailable}
-use Rattle.ir_check_paths.specs.Known.{IsReady, ArePlaces}
+use Rattle.ir_types.specs.Names.{name_at}
+use Rattle.ir_types.specs.Denotes.{Tables, operand_in, function_in}
+use Rattle.ir_rules.specs.Available.{LocalUse, used_at, IsUnavailable}
 use Rattle.ir_check_paths.specs.Uses.{Finds, nothing, found, behind, IsUseAt, IsAnswer}
-use Rattle.ir_check_paths.specs.Finding.{IsLocalIn, IsUseOf, IsUseFound, FindsOfArgs, FindsOfEntries, FindsAt, FindsIn, FindsFirst}
+use Rattle.ir_check_paths.specs.Finding.{IsLocalIn, IsUseOf, FindsOfArgs}
 
 pub finds_on : {A B : Type 0} (P : A → Type 0) (Q : A → B → Type 0) (xs ys : List A) (o n : Option B) → n ≡ None → Finds P Q xs n → Finds P Q ys o → Finds P Q (xs ++ ys) o
 finds_on P Q _ ys o _ e nothing h = h

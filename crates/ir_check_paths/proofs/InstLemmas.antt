@@ -1,8 +1,7 @@
 -- What is found of an instruction's uses.
-use Rattle.std.proofs.Common.{◌≡◌, ◌≢◌, ℕ, zero, suc, ◌+◌, ◌<◌, List, [], ◌∷◌, ◌++◌, length, map, take, slice_get, All, Option, Some, None, refl, sym, ◌∙◌, ap, subst, arith}
-use Rattle.std.specs.List.{filter_map, zip, AllByRecursion}
+use Rattle.std.proofs.Common.{◌≡◌, ◌≢◌, ℕ, zero, suc, ◌<◌, List, [], ◌∷◌, length, map, take, slice_get, All, Option, Some, refl, sym, ◌∙◌, ap, subst}
+use Rattle.std.specs.List.{filter_map}
 use Rattle.std.proofs.lemmas.List.Elements.{All-from_recursion}
-use Rattle.ir_types.specs.declared.name.Name.{Name}
 use Rattle.ir_types.specs.declared.name.ValueId.{ValueId}
 use Rattle.ir_types.specs.declared.inst.Inst.{Inst}
 use Rattle.ir_types.specs.declared.inst.InstKind.{InstKind}
@@ -11,10 +10,10 @@ use Rattle.ir_types.specs.declared.inst.Operand.{Operand}
 use Rattle.ir_types.specs.declared.module.Block.{Block}
 use Rattle.ir_types.specs.declared.module.Function.{Function}
 use Rattle.ir_types.specs.Tree.{FunctionTree}
-use Rattle.ir_types.specs.Denotes.{Tables, name_in, operand_in, kind_in, inst_in, block_in, function_in}
+use Rattle.ir_types.specs.Denotes.{Tables, kind_in, inst_in, block_in, function_in}
 use Rattle.ir_shape.specs.Placed.{IsPlace, IsInstPlaced, IsBlockPlaced}
 use Rattle.ir_rules.specs.Edges.{Placed}
-use Rattle.ir_rules.specs.Available.{LocalUse, used_at, used_from, uses_by, IsUnavailable}
+use Rattle.ir_rules.specs.Available.{LocalUse, used_at, uses_by, IsUnavailable}
 use Rattle.ir_check_paths.specs.Known.{IsReady}
 use Rattle.ir_check_paths.specs.Uses.{Finds}
 use Rattle.ir_check_paths.specs.Finding.{IsUseOf, IsLocalIn, FindsOfArgs, FindsOfEntries, placed_at, FindsAt}

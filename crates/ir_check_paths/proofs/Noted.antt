@@ -1,5 +1,5 @@
 -- What is noted is what names are given to.
-use Rattle.std.proofs.Common.{◌≡◌, ◌≢◌, ℕ, zero, suc, ◌+◌, ◌<◌, ◌≤◌, ◌⊎◌, inl, inr, List, [], ◌∷◌, length, map, get_or, set, slice_get, drop, Contains, All, IfSome, Option, Some, None, replicate, refl, sym, ◌∙◌, ap, subst, arith, get_or-set_same, get_or-set_other, length-set}
+use Rattle.std.proofs.Common.{◌≡◌, ◌≢◌, ℕ, zero, suc, ◌+◌, ◌<◌, ◌⊎◌, inl, inr, List, [], ◌∷◌, length, map, get_or, set, slice_get, drop, IfSome, Option, Some, None, replicate, refl, sym, ◌∙◌, ap, subst, arith, get_or-set_same, get_or-set_other, length-set}
 use Rattle.std.specs.Option.{option_map}
 use Rattle.std.proofs.lemmas.Bool.{cases_eq, cases_lt}
 use Rattle.std.proofs.lemmas.List.{get_or_past, length-replicate}
@@ -8,7 +8,6 @@ use Rattle.ir_types.specs.declared.inst.Inst.{Inst}
 use Rattle.ir_types.specs.declared.module.Block.{Block}
 use Rattle.ir_types.specs.declared.module.Param.{Param}
 use Rattle.ir_types.specs.declared.module.Function.{Function}
-use Rattle.ir_types.specs.Tree.{InstTree, BlockTree}
 use Rattle.ir_types.specs.Names.{name_at}
 use Rattle.ir_types.specs.Denotes.{Tables, inst_in, block_in, function_in, name_in}
 use Rattle.ir_shape.specs.Placed.{IsPlace, IsInstPlaced, IsBlockPlaced, IsParamPlaced}

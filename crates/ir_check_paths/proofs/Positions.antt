@@ -1,18 +1,14 @@
 -- The places of names in a function's table.
-use Rattle.std.proofs.Common.{◌≡◌, ◌≢◌, ℕ, zero, suc, ◌+◌, ◌^◌, ◌<◌, ◌≤◌, ◌⊎◌, inl, inr, List, [], ◌∷◌, length, map, get_or, set, slice_get, Option, Some, None, replicate, refl, sym, ◌∙◌, ap, subst, arith, below_more, get_or-set_same, get_or-set_other, length-set}
+use Rattle.std.proofs.Common.{◌≡◌, ◌≢◌, ℕ, zero, suc, ◌+◌, ◌^◌, ◌<◌, ◌≤◌, inl, inr, List, [], ◌∷◌, length, map, get_or, set, slice_get, Option, Some, None, replicate, refl, sym, ◌∙◌, ap, subst, arith, get_or-set_same, get_or-set_other, length-set}
 use Rattle.std.specs.List.{AllByRecursion}
 use Rattle.std.proofs.lemmas.Bool.{cases_order, cases_eq}
-use Rattle.std.proofs.lemmas.List.{get_or-replicate, get_or_past}
-use Rattle.std.proofs.lemmas.Option.{slice_get-map}
 use Rattle.ir_types.specs.declared.name.Name.{Name}
 use Rattle.ir_types.specs.declared.name.Name.TheVariants.{Number}
-use Rattle.ir_types.specs.declared.name.ValueId.{ValueId}
 use Rattle.ir_types.specs.declared.module.Block.{Block}
 use Rattle.ir_types.specs.declared.module.Function.{Function}
 use Rattle.ir_types.specs.Names.{IsTable, name_at}
-use Rattle.ir_types.specs.Tree.{BlockTree}
-use Rattle.ir_types.specs.Denotes.{Tables, name_in, block_in, function_in}
-use Rattle.ir_shape.specs.Placed.{IsPlace, IsBlockPlaced}
+use Rattle.ir_types.specs.Denotes.{block_in}
+use Rattle.ir_shape.specs.Placed.{IsBlockPlaced}
 use Rattle.ir_check_paths.specs.Known.{IsReady, ArePlaces}
 use Rattle.ir_check_paths.proofs.Containing.{slice_get_in}
 

@@ -1,5 +1,5 @@
 -- What is found of the uses of a function.
-use Rattle.std.specs.Prelude.{◌≡◌, ℕ, ◌<◌, List, [], ◌∷◌, length, take, map, filter_map, zip, slice_get, Option, Some}
+use Rattle.std.specs.Prelude.{◌≡◌, ℕ, ◌<◌, List, [], length, take, map, filter_map, zip, slice_get, Option, Some}
 use Rattle.forms.specs.Nested.{concat}
 use Rattle.ir_types.specs.declared.name.Name.{Name}
 use Rattle.ir_types.specs.declared.name.ValueId.{ValueId}
@@ -9,8 +9,8 @@ use Rattle.ir_types.specs.declared.inst.Operand.TheVariants.{Local}
 use Rattle.ir_types.specs.declared.module.Block.{Block}
 use Rattle.ir_types.specs.declared.module.Function.{Function}
 use Rattle.ir_types.specs.Denotes.{Tables, name_in, operand_in, kind_in, inst_in, block_in, function_in}
-use Rattle.ir_types.specs.Tree.{BlockTree, FunctionTree}
-use Rattle.ir_rules.specs.Edges.{Placed, placed_behind, placed_insts}
+use Rattle.ir_types.specs.Tree.{FunctionTree}
+use Rattle.ir_rules.specs.Edges.{Placed, placed_behind}
 use Rattle.ir_rules.specs.Available.{LocalUse, used_at, used_from, uses_by, local_uses, IsUnavailable}
 use Rattle.ir_check_paths.specs.Uses.{Finds}
 

@@ -4,7 +4,7 @@ use Rattle.std.proofs.lemmas.List.{at_drop_all}
 use Rattle.ir_types.specs.declared.module.Block.{Block}
 use Rattle.ir_types.specs.declared.module.Param.{Param}
 use Rattle.ir_check_paths.specs.declared.origins.Origin.{Origin}
-use Rattle.ir_check_paths.specs.Setting.{blocks_set, params_set, results_set}
+use Rattle.ir_check_paths.specs.Setting.{blocks_set, params_set}
 use Rattle.ir_check_paths.proofs.Noted.{blocks_more, results_size, are_origins}
 use Rattle.ir_check_paths.proofs.noting.origins_of.Goals as goal
 

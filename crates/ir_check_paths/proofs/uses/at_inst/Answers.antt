@@ -1,7 +1,6 @@
-use Rattle.std.proofs.Common.{◌≡◌, ◌<◌, ◌∙◌, sym, arith}
 use Rattle.ir_check_paths.proofs.Deciding.{ok_weaker}
 use Rattle.ir_check_paths.proofs.Containing.{slice_get_in}
-use Rattle.ir_check_paths.proofs.InstLemmas.{args_placed, labels_placed, found_by_args, found_by_entries}
+use Rattle.ir_check_paths.proofs.InstLemmas.{args_placed, labels_placed, found_by_args}
 use Rattle.ir_check_paths.proofs.uses.at_inst.Goals as goal
 
 pub of_entries-requires-clause-placed : goal.of_entries-requires-clause-placed

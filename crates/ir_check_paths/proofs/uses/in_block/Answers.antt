@@ -1,4 +1,4 @@
-use Rattle.std.proofs.Common.{◌≡◌, ◌<◌, ◌+◌, ◌∙◌, ℕ, length, Option, Some, sym, subst, arith}
+use Rattle.std.proofs.Common.{◌≡◌, ◌<◌, ◌+◌, ℕ, length, Option, Some, sym, subst, arith}
 use Rattle.ir_types.specs.declared.name.ValueId.{ValueId}
 use Rattle.ir_check_paths.specs.Finding.{FindsAt, FindsIn}
 use Rattle.ir_check_paths.proofs.BlockLemmas.{block_start, block_more, block_stop, block_end, inst_there, block_length, none_from}

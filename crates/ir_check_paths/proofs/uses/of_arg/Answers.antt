@@ -1,4 +1,4 @@
-use Rattle.std.proofs.Common.{◌≡◌, [], ◌∷◌, None, Some, sym, subst}
+use Rattle.std.proofs.Common.{[], ◌∷◌, None, Some, sym, subst}
 use Rattle.ir_types.specs.declared.inst.Operand.{Operand}
 use Rattle.ir_check_paths.specs.Finding.{FindsOfArgs}
 use Rattle.ir_check_paths.proofs.FindsLemmas.{one_other, one_there, one_lacking, other_of}

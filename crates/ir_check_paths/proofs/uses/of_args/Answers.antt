@@ -1,4 +1,4 @@
-use Rattle.std.proofs.Common.{◌≡◌, ◌∙◌, sym, arith}
+use Rattle.std.proofs.Common.{◌∙◌, sym}
 use Rattle.ir_check_paths.proofs.FindsLemmas.{args_more, args_stop, args_end, some_of, none_of}
 use Rattle.ir_check_paths.proofs.uses.of_args.Goals as goal
 

@@ -1,4 +1,4 @@
-use Rattle.std.proofs.Common.{◌≡◌, ◌<◌, ◌≤◌, ◌⊎◌, inl, inr, ◌∙◌, length, refl, sym, arith}
+use Rattle.std.proofs.Common.{◌<◌, inl, inr, ◌∙◌, length, sym, arith}
 use Rattle.std.proofs.lemmas.Bool.{cases_lt}
 use Rattle.std.proofs.lemmas.List.{get_or_default}
 use Rattle.ir_check_paths.proofs.FindsLemmas.{some_of, none_of}

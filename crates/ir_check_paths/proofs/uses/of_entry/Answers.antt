@@ -1,7 +1,5 @@
-use Rattle.std.proofs.Common.{◌≡◌, ◌<◌, ◌∙◌, [], ◌∷◌, List, length, None, Some, sym, ap, arith, slice_get, subst}
+use Rattle.std.proofs.Common.{◌<◌, ◌∙◌, length, None, sym, arith}
 use Rattle.std.proofs.lemmas.List.{get_or_default}
-use Rattle.ir_types.specs.declared.module.Block.{Block}
-use Rattle.ir_check_paths.specs.Finding.{FindsOfArgs, FindsOfEntries}
 use Rattle.ir_check_paths.proofs.Containing.{slice_get_in}
 use Rattle.ir_check_paths.proofs.Deciding.{ok_weaker}
 use Rattle.ir_check_paths.proofs.EntriesLemmas.{entry_at, entry_nowhere, block_found, no_block}
