@@ -1,0 +1,15 @@
+pub mod SetsLemmas
+pub mod SetsRows
+pub mod FlowLemmas
+pub mod Containing
+pub mod Paths
+pub mod Positions
+pub mod EdgeLemmas
+pub mod Noted
+pub mod Passing
+pub mod Deciding
+pub mod FindsLemmas
+pub mod EntriesLemmas
+pub mod InstLemmas
+pub mod BlockLemmas
+pub mod FunctionLemmas

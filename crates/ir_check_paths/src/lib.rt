@@ -1,0 +1,14 @@
+//! Rules about paths through a function's blocks.
+#![tactic(auto)]
+
+mod available;
+mod branches;
+mod edges;
+mod flow;
+mod noting;
+mod order;
+mod origins;
+mod passed;
+mod places;
+mod sets;
+mod uses;
