@@ -1,6 +1,6 @@
 // Breaches, with copies of the names that they are said of.
 
-ghost use Rattle.std.specs.Prelude.{◌≡◌, IfOk, None};
+ghost use Rattle.std.specs.Prelude.{◌≡◌, IfOk};
 ghost use Rattle.ir_rules.specs.Breaches.{outside};
 ghost use Rattle.ir_check_names.specs.Definitions.{local_subject, breach_at};
 

@@ -2,7 +2,6 @@
 
 ghost use Rattle.std.specs.Prelude.{◌≡◌, false, true, length, map, replicate, slice_index_or, slice_set, IfOk};
 ghost use Rattle.ir_types.specs.declared.module.Symbol.{Symbol};
-ghost use Rattle.ir_types.specs.declared.memory_type.TypeName.{TypeName};
 ghost use Rattle.ir_check_names.specs.Definitions.{all_marked, is_symbol_known};
 
 use crate::definitions::Definition;

@@ -1,6 +1,6 @@
 // Uses of what is neither defined nor declared.
 
-ghost use Rattle.std.specs.Prelude.{◌≡◌, ℕ, [], map, IfOk, Some};
+ghost use Rattle.std.specs.Prelude.{◌≡◌, IfOk};
 ghost use Rattle.ir_types.specs.Denotes.{tree_of};
 ghost use Rattle.ir_types.specs.Reads.{IsReadable};
 ghost use Rattle.ir_types.specs.declared.module.Symbol.{Symbol};
@@ -8,8 +8,7 @@ ghost use Rattle.ir_types.specs.declared.memory_type.TypeName.{TypeName};
 ghost use Rattle.ir_rules.specs.Breaches.{first};
 ghost use Rattle.ir_rules.specs.Unknown.{unknown_names};
 ghost use Rattle.ir_check_names.specs.Choice.{first_of};
-ghost use Rattle.ir_check_names.specs.Missing.{missing_in_definition, missing_in_symbol, missing_names};
-ghost use Rattle.ir_check_names.specs.Definitions.{is_symbol_known};
+ghost use Rattle.ir_check_names.specs.Missing.{missing_in_definition, missing_in_symbol};
 ghost use Rattle.ir_check_names.specs.FirstUnknown.{type_subject, symbol_subject, used_subject, unknown_in, first_unknown};
 
 use crate::breaches::{local_subject, outside};
