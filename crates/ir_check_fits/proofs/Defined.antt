@@ -1,16 +1,13 @@
 -- The definitions of names of types in a module's tree are those of its list of names.
-use Rattle.std.proofs.Common.{◌≡◌, ◌≢◌, ℕ, zero, suc, ◌+◌, ◌<◌, ◌≤◌, ◌||◌, Bool, true, false, cond, List, [], ◌∷◌, ◌++◌, map, find, length, Option, Some, None, refl, sym, ap, ◌∙◌, subst, arith}
+use Rattle.std.proofs.Common.{◌≡◌, ◌≢◌, ℕ, zero, suc, ◌+◌, ◌<◌, ◌≤◌, ◌||◌, Bool, true, false, cond, List, [], ◌∷◌, ◌++◌, map, length, Option, Some, None, refl, sym, ap, ◌∙◌, subst, arith}
 use Rattle.std.specs.Prelude.{slice_get}
-use Rattle.std.specs.List.{list_any, filter_map, cons_option}
+use Rattle.std.specs.List.{filter_map}
 use Rattle.std.specs.Option.{option_map}
 use Rattle.std.proofs.lemmas.Slice.Eq.{bytes_eq-Decides}
 use Rattle.std.proofs.lemmas.Bool.Decides.{Decides-eqb}
 use Rattle.std.proofs.lemmas.Option.{slice_get-map}
-use Rattle.forms.specs.Bind.{◌>>=◌}
 use Rattle.ir_types.specs.declared.name.Name.{Name}
 use Rattle.ir_types.specs.declared.name.Name.TheVariants.{Text, Number}
-use Rattle.ir_types.specs.declared.memory_type.TypeId.{TypeId}
-use Rattle.ir_types.specs.declared.memory_type.MemTy.{MemTy}
 use Rattle.ir_types.specs.declared.memory_type.NamedType.{NamedType}
 use Rattle.ir_types.specs.declared.memory_type.NamedType.TheVariants.{Defined, Opaque, Missing}
 use Rattle.ir_types.specs.declared.memory_type.TypeName.{TypeName}
@@ -18,9 +15,9 @@ use Rattle.ir_types.specs.declared.module.Module.{Module}
 use Rattle.ir_types.specs.Names.{same_name, has_name, unknown, name_at}
 use Rattle.ir_types.specs.Types.{IsFirst}
 use Rattle.ir_types.specs.TypeNodes.{TypeNode}
-use Rattle.ir_types.specs.Tree.{defined, opaque, TypeNameTree}
+use Rattle.ir_types.specs.Tree.{TypeNameTree}
 use Rattle.ir_types.specs.Offsets.{Definitions, nodes_of_name}
-use Rattle.ir_types.specs.Denotes.{type_name_in, tree_of, Denotes}
+use Rattle.ir_types.specs.Denotes.{type_name_in, tree_of}
 use Rattle.ir_types.specs.Used.{types_used}
 use Rattle.ir_types.specs.Reads.{IsReadable}
 use Rattle.ir_types.proofs.NameAt.{name_got}

@@ -1,5 +1,5 @@
 -- The first of lists behind one another.
-use Rattle.std.proofs.Common.{◌≡◌, List, [], ◌∷◌, ◌++◌, Option, Some, None, refl, sym, ◌∙◌}
+use Rattle.std.proofs.Common.{◌≡◌, List, [], ◌∷◌, ◌++◌, Option, Some, None, refl}
 use Rattle.ir_rules.specs.Breaches.{first}
 
 -- the first of two

@@ -1,5 +1,5 @@
 -- Where indexes lead by places is where they lead by nodes.
-use Rattle.std.proofs.Common.{◌≡◌, ℕ, zero, suc, ◌-◌, ◌^◌, ◌<◌, ◌≤◌, Bool, true, false, cond, ◌&&◌, nat_eq, nat_lt, List, [], ◌∷◌, length, Option, Some, None, is_some, refl, sym, ap, ◌∙◌, subst, arith}
+use Rattle.std.proofs.Common.{◌≡◌, ℕ, zero, suc, ◌^◌, ◌≤◌, Bool, true, false, cond, ◌&&◌, nat_eq, nat_lt, List, [], ◌∷◌, length, Option, Some, None, is_some, refl, sym, ap, ◌∙◌, subst, arith}
 use Rattle.std.specs.Prelude.{slice_get, IfSome, MatchOption}
 use Rattle.std.specs.Option.{option_map}
 use Rattle.std.proofs.lemmas.Bool.Decides.{Decides-eqb}
@@ -10,7 +10,7 @@ use Rattle.ir_types.specs.declared.memory_type.MemTy.{MemTy}
 use Rattle.ir_types.specs.declared.memory_type.MemTy.TheVariants.{One, Array, Struct, Named}
 use Rattle.ir_types.specs.declared.memory_type.TypeName.{TypeName}
 use Rattle.ir_types.specs.declared.memory_type.Extent.{Extent}
-use Rattle.ir_types.specs.declared.memory_type.Extent.TheVariants.{NoSize, Size}
+use Rattle.ir_types.specs.declared.memory_type.Extent.TheVariants.{NoSize}
 use Rattle.ir_types.specs.declared.module.Module.{Module}
 use Rattle.ir_types.specs.Denotes.{tree_of}
 use Rattle.ir_types.specs.Reads.{IsReadable}
@@ -19,9 +19,9 @@ use Rattle.ir_types.specs.Tree.{OperandTree, local, number, null, poison, lanes,
 use Rattle.ir_types.specs.Offsets.{Definitions, small_size, unnamed, stepped_into, counted, scaled}
 use Rattle.ir_sizes.specs.declared.offsets.Index.{Index}
 use Rattle.ir_sizes.specs.declared.step.Step.{Step}
-use Rattle.ir_sizes.specs.Known.{extent_at, IsSizedAt}
-use Rattle.ir_sizes.specs.Definitions.{names_in, nodes_in, type_in, AreDefinitions}
-use Rattle.ir_sizes.specs.Stepping.{small_extent, IsSteppable, IsUnnamed, step_by, step_in, IsStep, index_pair}
+use Rattle.ir_sizes.specs.Known.{extent_at}
+use Rattle.ir_sizes.specs.Definitions.{nodes_in, type_in, AreDefinitions}
+use Rattle.ir_sizes.specs.Stepping.{small_extent, IsSteppable, IsUnnamed, step_in, IsStep, index_pair}
 use Rattle.ir_sizes.specs.Prepared.{StepLists, LeadsTo, no_name, end_at, AreSteps, ArePrepared}
 use Rattle.ir_sizes.proofs.Leading.{leads_within}
 use Rattle.ir_sizes.proofs.Ahead.{steppable_sized, name_leads, member_begins, IsBehind, type_behind}

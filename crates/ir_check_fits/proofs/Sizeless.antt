@@ -1,14 +1,11 @@
 -- The first variable whose type has no size.
-use Rattle.std.proofs.Common.{◌≡◌, Bool, true, false, not, List, [], ◌∷◌, ◌++◌, map, Option, Some, None, refl, sym, ap, ◌∙◌}
-use Rattle.std.specs.List.{filter_map}
-use Rattle.forms.specs.Nested.{concat}
+use Rattle.std.proofs.Common.{◌≡◌, Bool, true, false, not, List, ◌∷◌, Some, refl}
 use Rattle.ir_types.specs.declared.memory_type.TypeId.{TypeId}
 use Rattle.ir_types.specs.declared.module.Symbol.{Symbol}
 use Rattle.ir_types.specs.declared.module.SymbolKind.{SymbolKind}
 use Rattle.ir_types.specs.declared.module.SymbolKind.TheVariants as symbols
 use Rattle.ir_types.specs.declared.module.Module.{Module}
 use Rattle.ir_types.specs.Denotes.{nodes_in, tree_of}
-use Rattle.ir_rules.specs.declared.fault.Breach.{Breach}
 use Rattle.ir_rules.specs.declared.fault.Subject.TheVariants.{Nothing}
 use Rattle.ir_rules.specs.Breaches.{first, outside}
 use Rattle.ir_rules.specs.Steps.{type_definitions, has_size}

@@ -1,7 +1,6 @@
 -- A function of a module, and what is said in its tree.
 use Rattle.std.specs.Prelude.{◌≡◌, ◌<◌, ℕ, Bool, ◌&&◌, List, length, IfSome}
 use Rattle.std.specs.List.{list_any, AllByRecursion}
-use Rattle.ir_types.specs.declared.name.Name.{Name}
 use Rattle.ir_types.specs.declared.name.ValueId.{ValueId}
 use Rattle.ir_types.specs.declared.inst.Operand.{Operand}
 use Rattle.ir_types.specs.declared.inst.Operand.TheVariants.{Local}
@@ -10,7 +9,7 @@ use Rattle.ir_types.specs.declared.inst.Inst.{Inst}
 use Rattle.ir_types.specs.declared.module.Function.{Function}
 use Rattle.ir_types.specs.declared.module.Module.{Module}
 use Rattle.ir_types.specs.Names.{name_at, same_name}
-use Rattle.ir_types.specs.Denotes.{Tables, tables_of, operand_in, kind_in, inst_in, function_in, tree_of}
+use Rattle.ir_types.specs.Denotes.{tables_of, operand_in, kind_in, inst_in, function_in, tree_of}
 use Rattle.ir_types.specs.Kinds.{Kind}
 use Rattle.ir_types.specs.Tree.{OperandTree, InstTree}
 use Rattle.ir_rules.specs.Locals.{Given, Definition, definitions_of}

@@ -38,8 +38,7 @@ fn body_fits(x: &Around<'_>, inst: &Inst) -> bool
     requires { IsInstHere (length x.now.part.names) inst.now }
     ensures { result ≡ (list_all (is_label (locals_at x.now)) (map (name_in x.now.part.names) inst.now.labels) && kind_fits (around_at x.now) (kind_at x.now inst.now.kind) inst.now.ty (map (operand_at x.now) inst.now.args)) }
 {
-    labels_fit(x, inst.labels.as_slice())
-        && kind_fits(x, &inst.kind, inst.ty, inst.args.as_slice())
+    labels_fit(x, inst.labels.as_slice()) && kind_fits(x, &inst.kind, inst.ty, inst.args.as_slice())
 }
 
 /// Whether an instruction fits.

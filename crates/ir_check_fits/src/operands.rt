@@ -66,7 +66,8 @@ pub fn is_condition_for(ty: Ty, condition: Ty) -> bool
 {
     match (ty, condition) {
         (_, Ty::Int(width)) => width == 1,
-        (Ty::Vector(lanes, _), Ty::Vector(other_lanes, width)) => lanes == other_lanes && width == 1,
+        (Ty::Vector(lanes, _), Ty::Vector(other_lanes, width)) => lanes == other_lanes
+            && width == 1,
         _ => false,
     }
 }

@@ -154,7 +154,6 @@ impl<'m> TypeSteps<'m> {
         };
         let types = self.whole.types.as_slice();
         let extents = self.whole.extents.as_slice();
-        is_sized_at(extents, id)
-            && leads_at(types, &self.steps, extents, id, widths_behind, behind)
+        is_sized_at(extents, id) && leads_at(types, &self.steps, extents, id, widths_behind, behind)
     }
 }

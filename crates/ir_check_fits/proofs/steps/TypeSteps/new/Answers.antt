@@ -1,4 +1,4 @@
-use Rattle.std.proofs.Common.{ap, sym, ◌∙◌, subst, rules}
+use Rattle.std.proofs.Common.{rules}
 use Rattle.ir_sizes.specs.Prepared.{AreSteps}
 use Rattle.ir_check_fits.proofs.Defined.{readable_definitions}
 use Rattle.ir_check_fits.proofs.Led.{readable_prepared}
