@@ -85,8 +85,45 @@ def names_type(text, place):
     return name is not None and re.search(rb"^" + re.escape(name[0]) + rb" *= *type", text, re.MULTILINE) is not None
 
 
+def instruction(text, answer):
+    """The line of the instruction that a broken rule names, or the whole text where it isn't found."""
+    for start, end in functions(text):
+        head, _, body = text[start:end].partition(b"\n")
+        if answer.function + b"(" in head:
+            lines = re.findall(rb"^ +(?!i\d+ -?\d+, label)[^\s\]].*$", body, re.MULTILINE)
+            return lines[answer.place] if answer.place < len(lines) else text
+    return text
+
+
+def has_great_number(line):
+    """Whether a number stands there that is out of the range of one of the types there."""
+    widths = [int(width) for width in re.findall(rb"\bi(1|8|16|32|64)\b", line)] or [64]
+    numbers = [int(number) for number in re.findall(rb"(?<![\w%@.\"-])-?\d+(?![\w.]| x)", re.sub(rb", align \d+|!\S+", b"", line))]
+    return any(not -(1 << min(widths) - 1) <= number < 1 << min(widths) for number in numbers)
+
+
+def of_check(text, answer):
+    """The cause for which a module breaks a rule that LLVM takes."""
+    line = instruction(text, answer)
+    if answer.word == b"unknown-callee":
+        return "calls"
+    if answer.word in (b"unknown-name", b"duplicate-name") and b'""' in text:
+        return "empty names"
+    if answer.word == b"phi-edges" and b"poison" in line:
+        return "poison lanes"
+    if answer.word == b"type-mismatch" and answer.function == b"-":
+        return "opaque"
+    if answer.word == b"type-mismatch" and re.search(rb"(?:load|store) <\d+ x i1>", line):
+        return "bits"
+    if answer.word == b"type-mismatch" and has_great_number(line):
+        return "ranges"
+    return UNEXPLAINED
+
+
 def of_program(text, answer):
     """The cause for which the program refuses a text that LLVM takes."""
+    if answer.kind == "check":
+        return of_check(text, answer)
     by_kind = {"left out": "left out", "bad token": "tokens", "no reading": None}.get(answer.kind, "limits")
     if by_kind is not None:
         return by_kind
