@@ -57,7 +57,7 @@ module _ (f : Function) (b : Block) (start place : ℕ) (i : Inst) (at : slice_g
       ∙ ap (λ k. uses_by (function_in t f) (placed_at t f.names b place (start + place) i) (kind_in t i.kind) ++ uses_of (function_in t f) (placed_behind (block_in t f.names b) k (map (inst_in t f.names) (take (place + 1) b.insts)) (map (inst_in t f.names) (drop (place + 1) b.insts)))) next)
 
 as_found : (names : List Name) (place : ℕ) (u : LocalUse) (id : ValueId) → IsUseOf names place u id → IsUseFound names u (id, place)
-as_found names place u id h = record { named = h.named; placed = h.placed }
+as_found names place u id h = record { named = h.named; placed = h.placed; within = h.within }
 
 pub block_more : (f : Function) (number start place : ℕ) (n : Option ValueId) → ((b : Block) → slice_get f.body number ≡ Some b → (i : Inst) × (slice_get b.insts place ≡ Some i)) → n ≡ None → ((b : Block) (i : Inst) → slice_get f.body number ≡ Some b → slice_get b.insts place ≡ Some i → FindsAt f b place i n) → BlockRest f number start place → BlockRest f number start (place + 1)
 unfolding FindsFrom

@@ -51,8 +51,8 @@ args_other f number before (OutOfRange i) rest o h r = λ t p at b. r t p at b
 args_local : (f : Function) (number before : ℕ) (id : ValueId) (rest : List Operand) (o : Option ValueId) → ((t : Tables) (u : LocalUse) → IsUseAt (function_in t f) (name_at f.names id.0) number before u → IsAnswer true (function_in t f) u) → FindsOfArgs f number before rest o → FindsOfArgs f number before (Local id ∷ rest) o
 args_local f number before id rest o h r = λ t p at b. behind (record { name = name_at f.names id.0; block = p.block; before = p.before; place = p.place }) _ o (h t _ (record { named = refl; at_block = at; behind = b })) (r t p at b)
 
-args_found : (f : Function) (number before : ℕ) (id : ValueId) (rest : List Operand) → ((t : Tables) (u : LocalUse) → IsUseAt (function_in t f) (name_at f.names id.0) number before u → IsAnswer false (function_in t f) u) → FindsOfArgs f number before (Local id ∷ rest) (Some id)
-args_found f number before id rest h = λ t p at b. found (record { name = name_at f.names id.0; block = p.block; before = p.before; place = p.place }) _ id (h t _ (record { named = refl; at_block = at; behind = b })) (record { named = refl; placed = refl })
+args_found : (f : Function) (number before : ℕ) (id : ValueId) (rest : List Operand) → id.0 < length f.names → ((t : Tables) (u : LocalUse) → IsUseAt (function_in t f) (name_at f.names id.0) number before u → IsAnswer false (function_in t f) u) → FindsOfArgs f number before (Local id ∷ rest) (Some id)
+args_found f number before id rest lt h = λ t p at b. found (record { name = name_at f.names id.0; block = p.block; before = p.before; place = p.place }) _ id (h t _ (record { named = refl; at_block = at; behind = b })) (record { named = refl; placed = refl; within = lt })
 
 pub one_other : (f : Function) (number before : ℕ) (a : Operand) → IsOther a → FindsOfArgs f number before (a ∷ []) None
 one_other f number before a h = args_other f number before a [] None h (λ t p at b. nothing)
@@ -60,8 +60,8 @@ one_other f number before a h = args_other f number before a [] None h (λ t p a
 pub one_there : (f : Function) (number before : ℕ) (id : ValueId) → ((t : Tables) (u : LocalUse) → IsUseAt (function_in t f) (name_at f.names id.0) number before u → IsAnswer true (function_in t f) u) → FindsOfArgs f number before (Local id ∷ []) None
 one_there f number before id h = args_local f number before id [] None h (λ t p at b. nothing)
 
-pub one_lacking : (f : Function) (number before : ℕ) (id : ValueId) → ((t : Tables) (u : LocalUse) → IsUseAt (function_in t f) (name_at f.names id.0) number before u → IsAnswer false (function_in t f) u) → FindsOfArgs f number before (Local id ∷ []) (Some id)
-one_lacking f number before id h = args_found f number before id [] h
+pub one_lacking : (f : Function) (number before : ℕ) (id : ValueId) → id.0 < length f.names → ((t : Tables) (u : LocalUse) → IsUseAt (function_in t f) (name_at f.names id.0) number before u → IsAnswer false (function_in t f) u) → FindsOfArgs f number before (Local id ∷ []) (Some id)
+one_lacking f number before id lt h = args_found f number before id [] lt h
 
 -- ---- one behind another
 

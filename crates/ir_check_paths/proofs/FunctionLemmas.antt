@@ -28,7 +28,7 @@ uses_parts : (f : FunctionTree) (ps qs : List Placed) → uses_of f (ps ++ qs) �
 uses_parts f [] qs = refl
 uses_parts f (p ∷ ps) qs = ap (λ (xs : List LocalUse). uses_by f p p.inst.kind ++ xs) (uses_parts f ps qs) ∙ sym (append_assoc (uses_by f p p.inst.kind) (uses_of f ps) (uses_of f qs))
 
-drop_got : {A : Type 0} (xs : List A) (n : ℕ) (x : A) → slice_get xs n ≡ Some x → drop n xs ≡ x ∷ drop (n + 1) xs
+pub drop_got : {A : Type 0} (xs : List A) (n : ℕ) (x : A) → slice_get xs n ≡ Some x → drop n xs ≡ x ∷ drop (n + 1) xs
 drop_got [] n x e = absurd cc
 drop_got (y ∷ ys) zero x e = cc
 drop_got (y ∷ ys) (suc n) x e = let step : suc n + 1 ≡ suc (n + 1) = omega arith in drop_got ys n x e ∙ ap (λ k. x ∷ drop k (y ∷ ys)) (sym step)

@@ -13,3 +13,5 @@ pub mod EntriesLemmas
 pub mod InstLemmas
 pub mod BlockLemmas
 pub mod FunctionLemmas
+pub mod BreachLemmas
+pub mod Once

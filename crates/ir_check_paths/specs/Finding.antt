@@ -18,10 +18,12 @@ use Rattle.ir_check_paths.specs.Uses.{Finds}
 pub record IsUseOf (names : List Name) (place : ℕ) (u : LocalUse) (id : ValueId) : Type 0 where
   pub named : u.name ≡ name_in names id
   pub placed : u.place ≡ place
+  pub within : id.0 < length names
 
 pub record IsUseFound (names : List Name) (u : LocalUse) (x : ValueId × ℕ) : Type 0 where
   pub named : u.name ≡ name_in names x.0
   pub placed : u.place ≡ x.1
+  pub within : x.0.0 < length names
 
 -- the uses of placed instructions
 abbrev pub uses_of : FunctionTree → List Placed → List LocalUse

@@ -6,3 +6,4 @@ pub mod EdgeLists
 pub mod Setting
 pub mod Uses
 pub mod Finding
+pub mod Breaking

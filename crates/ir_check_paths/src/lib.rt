@@ -5,6 +5,7 @@ mod available;
 mod branches;
 mod edges;
 mod flow;
+mod module;
 mod noting;
 mod order;
 mod origins;
@@ -12,3 +13,5 @@ mod passed;
 mod places;
 mod sets;
 mod uses;
+
+pub use module::unavailable;
