@@ -135,21 +135,18 @@ def of_program(text, answer):
 
 # ---- where LLVM alone refuses: causes, with what it says, where it looks while it reads and where it looks at the whole
 
-CHECKED = re.compile(
-    r"use of undefined (?:value|type)|defined with type|is not a basic block|forward referenced with type|expected to be numbered|(?:multiple definition|redefinition) of|"
-    r"doesn't match function result type|must have (?:integer|pointer|'i1'|function) type|must be a pointer type|constant expression type mismatch|invalid type for|floating point constant invalid|"
-    r"invalid cast opcode|invalid operand type|not enough parameters|too many arguments|is not of expected type|duplicate case value|must be sized|invalid getelementptr|must be an integer|"
-    r"cannot have a name|power of two|huge alignment|requires integer operands|invalid (?:shufflevector|extractelement|insertelement) operands|must be (?:i1|first class)|vector select|"
-    r"select (?:condition|values)|unsized types|operand must be|first class type|type sizes|is not an integer|element type|number of elements|base of getelementptr|unable to create block"
+SAID = tuple(
+    (cause, re.compile(form))
+    for cause, form in (
+        ("masks", r"invalid shufflevector operands"),
+        ("equal cases", r"duplicate case value"),
+        ("truths", r"constant expression type mismatch: got type 'i1'"),
+        ("members", r"invalid getelementptr indices"),
+        ("numbered items", r"expected to be numbered"),
+    )
 )
-# What it says of the names of items, and of the types of variables.
-DEFINED = re.compile(r"redefinition of|expected to be numbered|use of undefined type")
 VERIFIED = (
-    (
-        "checker",
-        r"dominate all uses|must not have predecessors|PHI ?[nN]ode|PHI nodes|Both operands|same type|return type does not match|Call parameter type|Incorrect number of arguments|"
-        r"may reference their own value|[iI]nvalid .* operands|only operate|must have same|Duplicate|only produces|Illegal .* type|types? must|should have one entry|GEP",
-    ),
+    ("entries", r"multiple entries for the same basic block"),
     ("intrinsics", r"[Ii]ntrinsic|immarg"),
     ("musttail", r"musttail|guarantee tail call"),
     (
@@ -198,10 +195,11 @@ def of_llvm(text, message):
     if text[place : place + 1] in (b"%", b"@", b"$", b'"') and b"\\00" in text[place : lexed_end(text, place)]:
         return "names"
     line = text.rfind(b"\n", 0, place) + 1
+    by_words = next((cause for cause, form in SAID if form.search(said)), None)
+    if by_words is not None:
+        return by_words
     if not in_function(text, line) and text[line : line + 1] in b"@!$a":
-        return "checker" if DEFINED.search(said) else "kept"
-    if CHECKED.search(said):
-        return "checker"
+        return "kept"
     return "kept" if is_kept(text, place) else UNEXPLAINED
 
 
