@@ -1,6 +1,6 @@
 -- In a function that breaks no rule of names, no name is given twice.
 use Rattle.std.proofs.Common.{◌≡◌, ℕ, zero, suc, ◌+◌, Bool, true, false, not, ◌&&◌, List, [], ◌∷◌, ◌++◌, length, map, slice_get, Contains, Option, Some, None, inl, inr, refl, sym, ◌∙◌, ap, subst, arith}
-use Rattle.std.specs.Prelude.{filter, nat_lt, nat_eq}
+use Rattle.std.specs.Prelude.{filter}
 use Rattle.std.specs.List.{AllByRecursion, list_all}
 use Rattle.std.proofs.lemmas.List.{map-append}
 use Rattle.std.proofs.lemmas.Bool.Decides.{Decides-eqb, nat_tests}
@@ -16,10 +16,8 @@ use Rattle.ir_types.specs.Reads.{IsReadable}
 use Rattle.ir_types.specs.Tree.{InstTree, BlockTree, FunctionTree, TypeNameTree, SymbolTree, ModuleTree}
 use Rattle.ir_shape.specs.Placed.{IsFunctionPlaced}
 use Rattle.ir_shape.proofs.Placing.{readable_placed}
-use Rattle.ir_rules.specs.declared.fault.Rule.{Rule}
-use Rattle.ir_rules.specs.declared.fault.Breach.{Breach}
 use Rattle.ir_rules.specs.declared.fault.Rule.TheVariants.{DuplicateName, UnknownName, TypeMismatch, UnknownCallee, Numbering}
-use Rattle.ir_rules.specs.declared.fault.Subject.TheVariants.{Local, Symbol, TypeName as TypeOf}
+use Rattle.ir_rules.specs.declared.fault.Subject.TheVariants.{Symbol, TypeName as TypeOf}
 use Rattle.ir_rules.specs.Breaches.{Found, behind_those, inside, outside, in_functions}
 use Rattle.ir_rules.specs.Locals.{Definition, of_params, of_results, of_blocks, definitions_of, names_of, is_text}
 use Rattle.ir_rules.specs.Duplicates.{repeated, repeated_locals, duplicate_names}
@@ -47,11 +45,14 @@ AreApart xs ys = (x : _) → Contains xs x → ¬ Contains ys x
 once_parts : {A : Type 0} (xs ys : List A) → IsOnce (xs ++ ys) → IsOnce xs × IsOnce ys × AreApart xs ys
 once_parts [] ys h = (tt, h, λ x c. absurd (contains_none x c))
 once_parts (x ∷ xs) ys h =
-    let r = once_parts xs ys h.1 in
-    ((λ c. h.0 (contains_left x xs ys c), r.0), r.1, λ z c k. elim (contains_cases z x xs c) [
-      | inl s ↦ h.0 (contains_right x xs ys (subst (Contains ys) (sym s) k))
-      | inr d ↦ r.2 z d k
-    ])
+    let r = once_parts xs ys h.1 in (
+      (λ c. h.0 (contains_left x xs ys c), r.0),
+      r.1,
+      λ z c k. elim (contains_cases z x xs c) [
+        | inl s ↦ h.0 (contains_right x xs ys (subst (Contains ys) (sym s) k))
+        | inr d ↦ r.2 z d k
+      ],
+    )
 
 -- each is none of those before it
 abbrev IsFresh : {A : Type 0} → List A → List A → Type 0
@@ -61,11 +62,13 @@ IsFresh before (x ∷ xs) = (¬ Contains before x) × IsFresh (before ++ x ∷ [
 fresh_once : {A : Type 0} (before xs : List A) → IsFresh before xs → IsOnce xs × AreApart before xs
 fresh_once before [] h = (tt, λ x c k. contains_none x k)
 fresh_once before (x ∷ xs) h =
-    let r = fresh_once (before ++ x ∷ []) xs h.1 in
-    ((λ c. r.1 x (contains_right x before (x ∷ []) (contains_head x [])) c, r.0), λ z c k. elim (contains_cases z x xs k) [
-      | inl s ↦ h.0 (subst (Contains before) (sym s) c)
-      | inr d ↦ r.1 z (contains_left z before (x ∷ []) c) d
-    ])
+    let r = fresh_once (before ++ x ∷ []) xs h.1 in (
+      (λ c. r.1 x (contains_right x before (x ∷ []) (contains_head x [])) c, r.0),
+      λ z c k. elim (contains_cases z x xs k) [
+        | inl s ↦ h.0 (subst (Contains before) (sym s) c)
+        | inr d ↦ r.1 z (contains_left z before (x ∷ []) c) d
+      ],
+    )
 
 -- ---- a name that breaks neither rule
 
@@ -279,7 +282,7 @@ no_duplicates m e = nothing_mapped (λ b. (DuplicateName, b)) (duplicate_names m
 no_repeated : (m : ModuleTree) → duplicate_names m ≡ [] → in_functions repeated_locals m ≡ []
 no_repeated m e =
     nothing_second (map (λ n. outside (Symbol n)) (repeated (map (λ (s : SymbolTree). s.name) m.symbols))) _
-      (nothing_second (map (λ n. outside (TypeOf n)) (repeated (map (λ (t : TypeNameTree). t.name) m.type_names))) _ e)
+    (nothing_second (map (λ n. outside (TypeOf n)) (repeated (map (λ (t : TypeNameTree). t.name) m.type_names))) _ e)
 
 no_misnumbered : (m : ModuleTree) → early_breaches m ≡ [] → misnumbered_names m ≡ []
 no_misnumbered m e =
@@ -300,5 +303,5 @@ each_ready t (f ∷ fs) p n a w =
 pub all_ready : (m : Module) → IsReadable m → early_breaches (tree_of m) ≡ [] → AllByRecursion IsReady m.functions
 all_ready m r e =
     each_ready (tables_of m) m.functions (readable_placed m r).functions r.1.denotes.tables
-      (none_in repeated_locals (tree_of m).functions (no_repeated (tree_of m) (no_duplicates (tree_of m) e)))
-      (none_in misnumbered (tree_of m).functions (no_misnumbered (tree_of m) e))
+    (none_in repeated_locals (tree_of m).functions (no_repeated (tree_of m) (no_duplicates (tree_of m) e)))
+    (none_in misnumbered (tree_of m).functions (no_misnumbered (tree_of m) e))

@@ -1,7 +1,7 @@
 // The first use in a module to which a path comes without its definition.
 ghost use Rattle.std.specs.Prelude.{◌≡◌, ◌<◌, [], IfOk, length};
 ghost use Rattle.std.specs.Option.{MatchOption};
-ghost use Rattle.ir_types.specs.Denotes.{name_in, tree_of};
+ghost use Rattle.ir_types.specs.Denotes.{tree_of};
 ghost use Rattle.ir_types.specs.Reads.{IsReadable};
 ghost use Rattle.ir_rules.specs.Available.{AllAvailable, IsFirstUnavailable};
 ghost use Rattle.ir_rules.specs.WellFormed.{early_breaches};

@@ -1,4 +1,4 @@
-use Rattle.std.proofs.Common.{Some, None, ◌∙◌, ap, sym, subst}
+use Rattle.std.proofs.Common.{subst}
 use Rattle.ir_check_paths.specs.Finding.{FindsFirst}
 use Rattle.ir_check_paths.proofs.BreachLemmas.{use_within, breach_none, breach_some}
 use Rattle.ir_check_paths.proofs.module.breach_in.Goals as goal
