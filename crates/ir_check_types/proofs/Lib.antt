@@ -1,1 +1,3 @@
 mod Firsts
+pub mod Narrowed
+pub mod Causes

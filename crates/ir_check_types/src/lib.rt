@@ -4,6 +4,7 @@
 ghost use Rattle.std.specs.Prelude.{◌≡◌, [], Some, None, IfErr, OnOk};
 ghost use Rattle.ir_types.specs.Denotes.{tree_of};
 ghost use Rattle.ir_types.specs.Reads.{IsReadable};
+ghost use Rattle.ir_shape.specs.Narrow.{IsNarrow};
 ghost use Rattle.ir_rules.specs.declared.fault.Breach.{Breach};
 ghost use Rattle.ir_rules.specs.declared.fault.CheckFault.TheVariants.{Broken};
 ghost use Rattle.ir_rules.specs.WellFormed.{type_breaches, TypeCause};
@@ -36,9 +37,11 @@ pub fn kept(rule: Rule, found: Option<Breach>) -> Result<(), CheckFault>
 ///
 /// The first of these rules that is broken, and of it the first breach, through the types, the symbols, and then each function's head and
 /// instructions in the text's order; and where there was no memory for the checks.
+#[tactic(auto, using(crate::proofs::Narrowed::narrow, crate::proofs::Firsts::none_first, crate::proofs::Firsts::next_rule, crate::proofs::Firsts::broken))]
 pub fn check_types(alloc: Global, m: &Module) -> Result<(), CheckFault>
     requires { IsReadable m.now }
     ensures ok { OnOk result (type_breaches (tree_of m.now) ≡ []) }
+    ensures narrow { OnOk result (IsNarrow m.now) }
     ensures err { IfErr result (TypeCause (tree_of m.now)) }
 {
     kept(Rule::DuplicateName, duplicate_name(alloc, m)?)?;

@@ -1,4 +1,4 @@
--- In a well-formed module no instruction is wide.
+-- In a module whose types fit no instruction is wide.
 use Rattle.std.proofs.Common.{◌≡◌, ℕ, suc, Bool, true, false, not, ◌&&◌, List, [], ◌∷◌, ◌++◌, map, Option, Some, None, refl, sym, ap, ◌∙◌, if◌then◌else◌}
 use Rattle.std.specs.List.{AllByRecursion, list_all}
 use Rattle.forms.specs.Nested.{concat}
@@ -19,7 +19,7 @@ use Rattle.ir_rules.specs.declared.fault.Rule.TheVariants.{DuplicateName, Unknow
 use Rattle.ir_rules.specs.Duplicates.{duplicate_names}
 use Rattle.ir_rules.specs.Unknown.{unknown_names}
 use Rattle.ir_rules.specs.Operands.{is_label}
-use Rattle.ir_rules.specs.WellFormed.{of_rule, type_breaches, edge_breaches, KeepsRules, IsWellFormed}
+use Rattle.ir_rules.specs.WellFormed.{of_rule, type_breaches}
 
 -- ---- nothing in a list of lists
 
@@ -81,12 +81,11 @@ narrow_functions m t (f ∷ fs) e =
     (narrow_blocks t f.names f.body (narrow_from (around m (function_in t f)) 0 _ here), narrow_functions m t fs (nothing_second (map (inside f.name) (mismatches m (function_in t f))) _ e))
 
 -- the mismatches are among the breaches
-no_mismatches : (m : ModuleTree) → KeepsRules m → type_mismatches m ≡ []
-no_mismatches m h =
-    let types : type_breaches m ≡ [] = nothing_first (type_breaches m) (edge_breaches m) h.early in
+no_mismatches : (m : ModuleTree) → type_breaches m ≡ [] → type_mismatches m ≡ []
+no_mismatches m types =
     let behind_names : _ = nothing_second (of_rule DuplicateName (duplicate_names m)) _ types in
     let behind_unknown : _ = nothing_second (of_rule UnknownName (unknown_names m)) _ behind_names in
     nothing_mapped (λ b. (TypeMismatch, b)) (type_mismatches m) (nothing_first (of_rule TypeMismatch (type_mismatches m)) _ behind_unknown)
 
-pub narrow : (m : Module) → IsWellFormed m → IsNarrow m
-narrow m w = narrow_functions (tree_of m) (tables_of m) m.functions (nothing_second (concat (map (λ (s : SymbolTree). sizeless (tree_of m) s.kind) (tree_of m).symbols)) _ (no_mismatches (tree_of m) w.keeps))
+pub narrow : (m : Module) → type_breaches (tree_of m) ≡ [] → IsNarrow m
+narrow m kept = narrow_functions (tree_of m) (tables_of m) m.functions (nothing_second (concat (map (λ (s : SymbolTree). sizeless (tree_of m) s.kind) (tree_of m).symbols)) _ (no_mismatches (tree_of m) kept))

@@ -1,2 +1,0 @@
-mod Narrowed
-pub mod Causes
