@@ -1,5 +1,5 @@
 -- What is found first in functions behind one another.
-use Rattle.std.proofs.Common.{◌≡◌, IfOk, Result, subst, List, [], ◌∷◌, ◌++◌, map, Option, Some, None, refl, ap, ◌∙◌}
+use Rattle.std.proofs.Common.{◌≡◌, IfOk, Result, subst, List, [], ◌∷◌, ◌++◌, map, refl, ap, ◌∙◌}
 use Rattle.forms.specs.Nested.{concat}
 use Rattle.ir_types.specs.declared.module.Function.{Function}
 use Rattle.ir_types.specs.declared.module.Module.{Module}

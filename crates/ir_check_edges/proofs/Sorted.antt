@@ -1,7 +1,7 @@
 -- Two ascending lists that have each number equally often are one.
-use Rattle.std.proofs.Common.{◌≡◌, ℕ, zero, suc, ◌+◌, ◌<◌, ◌≤◌, Bool, true, false, cond, ◌&&◌, ◌⊎◌, nat_eq, inl, inr, List, [], ◌∷◌, ◌++◌, length, get_or, map, refl, sym, ap, ◌∙◌, true≢false, arith}
+use Rattle.std.proofs.Common.{◌≡◌, ℕ, suc, ◌+◌, ◌<◌, ◌≤◌, Bool, true, false, cond, ◌&&◌, ◌⊎◌, nat_eq, inl, inr, List, [], ◌∷◌, ◌++◌, length, get_or, refl, sym, ap, ◌∙◌, true≢false, arith}
 use Rattle.std.specs.Bool.{Decides}
-use Rattle.std.specs.List.{AllByRecursion, count_by, list_all}
+use Rattle.std.specs.List.{count_by, list_all}
 use Rattle.std.specs.List.Sorted.{IsPermutation, IsNonDecreasing}
 use Rattle.std.proofs.lemmas.List.Sums.{sum_by-cons}
 use Rattle.std.proofs.lemmas.List.Sorted.{sum_by-IsPermutation}
@@ -99,6 +99,7 @@ agreeing xs ys all n =
 
 -- so sorted lists are one exactly where the test holds
 pub sorted_tell : (xs ys us vs : List ℕ) → IsPermutation xs us → IsPermutation ys vs → IsNonDecreasing us → IsNonDecreasing vs → Decides (counts_agree xs ys) (us ≡ vs)
-sorted_tell xs ys us vs moved other_moved rising others =
-    (λ e. one_list us vs rising others (λ n. same_occurs n xs us moved ∙ agreeing xs ys e n ∙ sym (same_occurs n ys vs other_moved)),
-     λ e. all_true (λ n. nat_eq (occurs n xs) (occurs n ys)) (xs ++ ys) (λ n. (Decides-eqb (occurs n xs) (occurs n ys)).1 (sym (same_occurs n xs us moved) ∙ ap (occurs n) e ∙ same_occurs n ys vs other_moved)))
+sorted_tell xs ys us vs moved other_moved rising others = (
+  λ e. one_list us vs rising others (λ n. same_occurs n xs us moved ∙ agreeing xs ys e n ∙ sym (same_occurs n ys vs other_moved)),
+  λ e. all_true (λ n. nat_eq (occurs n xs) (occurs n ys)) (xs ++ ys) (λ n. (Decides-eqb (occurs n xs) (occurs n ys)).1 (sym (same_occurs n xs us moved) ∙ ap (occurs n) e ∙ same_occurs n ys vs other_moved)),
+)

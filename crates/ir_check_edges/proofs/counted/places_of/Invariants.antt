@@ -1,4 +1,4 @@
-use Rattle.std.proofs.Common.{◌≡◌, ◌<◌, take, map, length}
+use Rattle.std.proofs.Common.{take}
 use Rattle.ir_check_edges.specs.Counted.{ArePlacesOf}
 use Rattle.ir_check_edges.proofs.counted.places_of.Given as goal
 
