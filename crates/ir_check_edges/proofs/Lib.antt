@@ -1,0 +1,5 @@
+pub mod Firsts
+pub mod Places
+pub mod Sames
+pub mod Sorted
+pub mod Tallies

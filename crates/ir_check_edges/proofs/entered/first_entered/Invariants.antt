@@ -1,0 +1,6 @@
+use Rattle.std.proofs.Common.{◌≡◌, drop}
+use Rattle.ir_check_edges.specs.Targets.{first_of, entered_in}
+use Rattle.ir_check_edges.proofs.entered.first_entered.Given as goal
+
+abbrev pub invariant-loop-function : goal.invariant-loop-function
+invariant-loop-function l = first_of (entered_in l.m) (drop l.function-index l.functions) ≡ first_of (entered_in l.m) l.functions
