@@ -57,7 +57,7 @@ start:
   store i64 %f, ptr %c, align 8, !note !1
   store ptr @"two words", ptr %e, align 1
   store ptr null, ptr %c
-  store <2 x i1> <i1 true, i1 poison>, ptr %d
+  store <2 x i8> <i8 1, i8 poison>, ptr %d
   tail call void (ptr, i32, ...) @g(ptr noundef nonnull @row, i32 signext %a, i64 5, ptr poison) #1
   %g = notail call <4 x i32> @lanes(<4 x i32> %b, i1 zeroext false), !note !0
   %h = call fastcc zeroext i8 @z(i8 zeroext -3)

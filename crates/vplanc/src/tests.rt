@@ -168,7 +168,13 @@ fn print(rt: &impl Abort, alloc: Global, text: &str, out: &mut Vec<u8>) -> Resul
 fn prints_behind_what_is_there(rt: HostRuntime) -> Result<(), Fail> {
     let alloc = rt.alloc();
     let mut text = Vec::from_slice(alloc, b"; ")?;
-    print(&rt, alloc, EXAMPLE, &mut text)?;
+    match read_module(alloc, EXAMPLE.as_bytes()) {
+        Ok(module) => match check_types(alloc, &module) {
+            Ok(()) => print_module(alloc, &module, &mut text)?,
+            Err(_) => rt.abort(),
+        },
+        Err(_) => rt.abort(),
+    }
     assert_eq!(rt; text[..2], *b"; ".as_slice());
     assert_eq!(rt; text[2..], *PRINTED.as_bytes());
     Ok(())
