@@ -1,5 +1,5 @@
 -- What is found first in functions behind one another.
-use Rattle.std.proofs.Common.{◌≡◌, IfOk, Result, subst, List, [], ◌∷◌, ◌++◌, map, refl, ap, ◌∙◌}
+use Rattle.std.proofs.Common.{◌≡◌, ℕ, zero, suc, ◌+◌, ◌<◌, IfOk, Result, subst, List, [], ◌∷◌, ◌++◌, map, length, get_or, drop, Option, Some, None, refl, sym, ap, ◌∙◌, arith}
 use Rattle.forms.specs.Nested.{concat}
 use Rattle.ir_types.specs.declared.module.Function.{Function}
 use Rattle.ir_types.specs.declared.module.Module.{Module}
@@ -24,3 +24,16 @@ in_module m found = in_each m found m.functions
 -- the same answer, in other words
 pub same_answer : {A E : Type 0} (r : Result A E) (a b : A) → a ≡ b → IfOk r (λ x. x ≡ a) → IfOk r (λ x. x ≡ b)
 same_answer r a b e h = subst (λ y. IfOk r (λ x. x ≡ y)) e h
+
+-- ---- as a loop over functions needs them
+
+drop_next : {A : Type 0} (xs : List A) (k : ℕ) (x : A) → k < length xs → x ≡ get_or xs k x → drop k xs ≡ x ∷ drop (k + 1) xs
+drop_next [] k x lt is = absurd (omega (arith, lt))
+drop_next (y ∷ ys) zero x lt is = ap (λ z. z ∷ ys) (sym is)
+drop_next (y ∷ ys) (suc k) x lt is = let next : suc k + 1 ≡ suc (k + 1) = omega arith in drop_next ys k x (omega (arith, lt)) is ∙ ap (λ j. x ∷ drop j (y ∷ ys)) (sym next)
+
+pub first_passed : {A B : Type 0} (f : A → Option B) (xs : List A) (k : ℕ) (x : A) (o whole : Option B) → first_of f (drop k xs) ≡ whole → k < length xs → x ≡ get_or xs k x → o ≡ f x → o ≡ None → first_of f (drop (k + 1) xs) ≡ whole
+first_passed f xs k x o whole h lt is e none = ap (λ y. or_else y (first_of f (drop (k + 1) xs))) (sym none ∙ e) ∙ sym (ap (first_of f) (drop_next xs k x lt is)) ∙ h
+
+pub first_found : {A B : Type 0} (f : A → Option B) (xs : List A) (k : ℕ) (x : A) (o whole : Option B) (b : B) → first_of f (drop k xs) ≡ whole → k < length xs → x ≡ get_or xs k x → o ≡ f x → o ≡ Some b → Some b ≡ whole
+first_found f xs k x o whole b h lt is e found = ap (λ y. or_else y (first_of f (drop (k + 1) xs))) (sym found ∙ e) ∙ sym (ap (first_of f) (drop_next xs k x lt is)) ∙ h

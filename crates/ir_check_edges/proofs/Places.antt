@@ -1,10 +1,11 @@
 -- In a table of names, a name stands at one place.
-use Rattle.std.proofs.Common.{◌≡◌, ◌≢◌, ℕ, zero, suc, ◌^◌, ◌<◌, inl, inr, nat_eq, List, [], ◌∷◌, length, get_or, refl, sym, ap, ◌∙◌, true≢false}
+use Rattle.std.proofs.Common.{◌≡◌, ◌≢◌, ℕ, zero, suc, ◌^◌, ◌<◌, inl, inr, nat_eq, List, [], ◌∷◌, length, map, get_or, refl, sym, ap, ◌∙◌, true≢false, arith}
 use Rattle.std.specs.Bool.{Decides}
 use Rattle.std.proofs.lemmas.Bool.{cases_order}
 use Rattle.std.proofs.lemmas.Bool.Decides.{Decides-eqb, same_from_decides}
 use Rattle.std.proofs.lemmas.Slice.Eq.{bytes_eq-Decides}
 use Rattle.ir_types.specs.declared.name.Name.{Name}
+use Rattle.ir_types.specs.declared.module.Symbol.{Symbol}
 use Rattle.ir_types.specs.declared.name.Name.TheVariants.{Text, Number}
 use Rattle.ir_types.specs.Names.{IsTable, name_at, same_name}
 
@@ -34,3 +35,11 @@ pub same_place : (ns : List Name) → IsTable ns → (i j : ℕ) → i < length 
 same_place ns table i j here there =
     let at : Decides (nat_eq i j) (name_at ns i ≡ name_at ns j) = (λ e. ap (name_at ns) ((Decides-eqb i j).0 e), λ e. (Decides-eqb i j).1 (one_place ns table i j here there e)) in
     same_from_decides (nat_eq i j) (same_name (name_at ns i) (name_at ns j)) at (same_name-Decides (name_at ns i) (name_at ns j))
+
+-- the name of a symbol that stands at a place
+pub symbol_at : (ss : List Symbol) (i : ℕ) (s : Symbol) → i < length ss → s ≡ get_or ss i s → s.name ≡ name_at (map (λ (s : Symbol). s.name) ss) i
+symbol_at ss i s within e = ap (λ (x : Symbol). x.name) e ∙ at ss i within where
+  at : (xs : List Symbol) (k : ℕ) → k < length xs → (get_or xs k s).name ≡ name_at (map (λ (s : Symbol). s.name) xs) k
+  at [] k lt = absurd (omega (arith, lt))
+  at (x ∷ xs) zero lt = refl
+  at (x ∷ xs) (suc k) lt = at xs k (omega (arith, lt))

@@ -66,7 +66,7 @@ all_true : (p : ℕ → Bool) (xs : List ℕ) → ((n : ℕ) → p n ≡ true) �
 all_true p [] each = refl
 all_true p (x ∷ xs) each = rw (each x, all_true p xs each) refl
 
-both_true : (a b : Bool) → (a && b) ≡ true → (a ≡ true) × (b ≡ true)
+pub both_true : (a b : Bool) → (a && b) ≡ true → (a ≡ true) × (b ≡ true)
 both_true true b e = (refl, e)
 both_true false b e = absurd (true≢false (sym e))
 

@@ -3,6 +3,11 @@
 
 mod counted;
 mod entered;
+mod entries;
+mod incoming;
 mod labels;
+mod operands;
+mod phis;
 
 pub use entered::entry_entered;
+pub use phis::wrong_phi;
