@@ -26,7 +26,7 @@ use Rattle.ir_rules.specs.declared.fault.Subject.TheVariants.{Nothing, Local, Sy
 use Rattle.ir_rules.specs.declared.fault.Breach.{Breach}
 use Rattle.ir_rules.specs.declared.fault.CheckFault.{CheckFault}
 use Rattle.ir_rules.specs.declared.fault.CheckFault.TheVariants.{Broken, Memory as CheckMemory}
-use Rattle.ir_rules.specs.WellFormed.{type_breaches, TypeCause}
+use Rattle.ir_rules.specs.WellFormed.{KeepsRules, Cause as BreachCause}
 use Rattle.ir_reader.specs.Refusal.{IsRefusal, IsWithinLimits}
 use Rattle.ir_printer.specs.Print.{module_pieces}
 use Rattle.vplanc.specs.declared.answer.Which.{Which}
@@ -117,13 +117,13 @@ line_of (ReadFault which) = line (codes "read fault: " ++ name_of which)
 line_of (WriteFault which) = line (codes "write fault: " ++ name_of which)
 line_of Memory = line (codes "memory")
 
--- a text within the limit that has no token that is left out, and reads as a module within the limits that breaks no rule about names and types
+-- a text within the limit that has no token that is left out, and reads as a well-formed module within the limits
 pub record IsAccepted (text : List ℕ) : Type 0 where
   pub short : length text ≤ longest
   pub nothing_left_out : HasNoneLeftOut text
   pub meant : Module
   pub reads : IsWithinLimits text meant
-  pub keeps : type_breaches (tree_of meant) ≡ []
+  pub keeps : KeepsRules (tree_of meant)
 
 -- the module that the file reads as, where the file is told
 abbrev pub IsMeant : Option (List ℕ) → Module → Type 0
@@ -135,7 +135,7 @@ pub record IsBroken (text : List ℕ) (rule : Rule) (names : List ℕ) (place : 
   pub read_as : Module
   pub reads : IsWithinLimits text read_as
   pub breach : Breach
-  pub cause : TypeCause (tree_of read_as) (Broken rule breach)
+  pub cause : BreachCause (tree_of read_as) (Broken rule breach)
   pub names_are : names ≡ breach_text breach
   pub place_is : place ≡ breach.place
 
@@ -144,11 +144,11 @@ abbrev pub IsCheckStatus : CheckFault → Status → Type 0
 IsCheckStatus (Broken rule breach) status = (status ≡ Check rule (breach_text breach) breach.place) ⊎ (status ≡ Memory)
 IsCheckStatus CheckMemory status = status ≡ Memory
 
--- what is printed of a file: the text of a module that the file reads as, which breaks no rule about names and types, and as which it reads too
+-- what is printed of a file: the text of a well-formed module that the file reads as, which reads as that module too
 pub record IsPrinted (told : Option (List ℕ)) (printed : List ℕ) : Type 0 where
   pub meant : Module
   pub file_reads : IsMeant told meant
-  pub keeps : type_breaches (tree_of meant) ≡ []
+  pub keeps : KeepsRules (tree_of meant)
   pub text_reads : Reads printed meant
   pub exact : printed ≡ text_of (module_pieces meant)
 

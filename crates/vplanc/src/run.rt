@@ -1,11 +1,8 @@
 // All that the program does.
 
-ghost use Rattle.std.specs.Prelude.{◌≡◌, ◌≤◌, ◌↔◌, ℕ, List, [], None, map, take, string_bytes, IfOk, OnOk, IfErr};
+ghost use Rattle.std.specs.Prelude.{◌≡◌, ◌≤◌, ◌↔◌, ℕ, List, None, map, take, string_bytes, IfOk, OnOk, IfErr};
 ghost use Rattle.vplan_io.specs.Causes.{Rose, longest, and_then};
-ghost use Rattle.ir_types.specs.Denotes.{tree_of};
 ghost use Rattle.ir_types.specs.Reads.{Reads, IsReadable};
-ghost use Rattle.ir_shape.specs.Narrow.{IsNarrow};
-ghost use Rattle.ir_rules.specs.WellFormed.{type_breaches};
 ghost use Rattle.vplanc.specs.declared.answer.Status.TheVariants.{Done, BadWords};
 ghost use Rattle.vplanc.specs.Words.{command_of};
 ghost use Rattle.vplanc.specs.Answers.{Cause, FileCause, WriteCause, OutHolds, OutLeft, IsMeant, IsPrinted, IsAccepted, IsBeforeOut, AllowedLeft, Delivered, Completes, line_of};
@@ -14,7 +11,7 @@ use crate::answer::{Status, Which};
 use crate::message::put_line;
 use crate::refusal::refused;
 use crate::words::file_named;
-use ir_check_types::check_types;
+use ir_check::{Checked, check};
 use ir_printer::print_module;
 use ir_reader::read_module;
 use ir_types::Module;
@@ -35,21 +32,18 @@ fn module_in<F: Files>(alloc: Global, file: &str, files: &mut F) -> Result<Modul
     Ok(module)
 }
 
-// The module of the file, where it breaks no rule about names and types.
-fn checked_in<F: Files>(alloc: Global, file: &str, files: &mut F) -> Result<Module, Status>
+// The module of the file, where it is well-formed.
+fn checked_in<F: Files>(alloc: Global, file: &str, files: &mut F) -> Result<Checked, Status>
     ensures told { F.told files.new ≡ F.told files.old }
     ensures later { (name : List ℕ) → F.faults files.old name ≤ F.faults files.new name }
     ensures meant { IfOk result (IsMeant (F.told files.old file.now)) }
-    ensures readable { IfOk result (λ m. IsReadable m) }
-    ensures kept { IfOk result (λ m. type_breaches (tree_of m) ≡ []) }
-    ensures narrow { IfOk result (λ m. IsNarrow m) }
     ensures short { OnOk result (F.last files.new ≤ longest) }
     ensures refused { IfErr result (λ s. IsBeforeOut s × FileCause (F.told files.old file.now) (F.faults files.old file.now) (F.faults files.new file.now) (F.last files.new) s) }
 {
     let module = module_in(alloc, file, files)?;
-    match check_types(alloc, &module) {
-        Ok(()) => Ok(module),
-        Err(fault) => Err(refused(alloc, fault)),
+    match check(alloc, module) {
+        Ok(checked) => Ok(checked),
+        Err((_, fault)) => Err(refused(alloc, fault)),
     }
 }
 
@@ -61,9 +55,9 @@ fn make<F: Files>(alloc: Global, file: &str, files: &mut F) -> Result<Vec<u8>, S
     ensures short { OnOk result (F.last files.new ≤ longest) }
     ensures refused { IfErr result (λ s. IsBeforeOut s × FileCause (F.told files.old file.now) (F.faults files.old file.now) (F.faults files.new file.now) (F.last files.new) s) }
 {
-    let module = checked_in(alloc, file, files)?;
+    let checked = checked_in(alloc, file, files)?;
     let mut text = Vec::new(alloc);
-    print_module(alloc, &module, &mut text)?;
+    print_module(alloc, checked.module(), &mut text)?;
     Ok(text)
 }
 

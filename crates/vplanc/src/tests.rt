@@ -2,10 +2,9 @@
 
 use crate::answer::Status;
 use crate::run::run;
-use ir_check_types::check_types;
+use ir_check::{Checked, check};
 use ir_printer::print_module;
 use ir_reader::read_module;
-use ir_types::Module;
 use lists::Copies;
 use std::alloc::Global;
 use std::process::Abort;
@@ -150,14 +149,11 @@ fn prints_the_example(rt: HostRuntime) -> Result<(), Fail> {
     )
 }
 
-// Prints the module of a text, which breaks no rule, behind what is there.
-fn print(rt: &impl Abort, alloc: Global, text: &str, out: &mut Vec<u8>) -> Result<Module, Fail> {
+// The module of a text, which is well-formed.
+fn well_formed(rt: &impl Abort, alloc: Global, text: &str) -> Result<Checked, Fail> {
     match read_module(alloc, text.as_bytes()) {
-        Ok(module) => match check_types(alloc, &module) {
-            Ok(()) => {
-                print_module(alloc, &module, out)?;
-                Ok(module)
-            }
+        Ok(module) => match check(alloc, module) {
+            Ok(checked) => Ok(checked),
             Err(_) => rt.abort(),
         },
         Err(_) => rt.abort(),
@@ -168,13 +164,8 @@ fn print(rt: &impl Abort, alloc: Global, text: &str, out: &mut Vec<u8>) -> Resul
 fn prints_behind_what_is_there(rt: HostRuntime) -> Result<(), Fail> {
     let alloc = rt.alloc();
     let mut text = Vec::from_slice(alloc, b"; ")?;
-    match read_module(alloc, EXAMPLE.as_bytes()) {
-        Ok(module) => match check_types(alloc, &module) {
-            Ok(()) => print_module(alloc, &module, &mut text)?,
-            Err(_) => rt.abort(),
-        },
-        Err(_) => rt.abort(),
-    }
+    let checked = well_formed(&rt, alloc, EXAMPLE)?;
+    print_module(alloc, checked.module(), &mut text)?;
     assert_eq!(rt; text[..2], *b"; ".as_slice());
     assert_eq!(rt; text[2..], *PRINTED.as_bytes());
     Ok(())
@@ -206,9 +197,10 @@ fn prints_instructions(rt: HostRuntime) -> Result<(), Fail> {
 fn prints_a_copy_alike(rt: HostRuntime) -> Result<(), Fail> {
     let alloc = rt.alloc();
     let mut text = Vec::new(alloc);
-    let module = print(&rt, alloc, ITEMS, &mut text)?;
+    let checked = well_formed(&rt, alloc, ITEMS)?;
+    print_module(alloc, checked.module(), &mut text)?;
     assert_eq!(rt; text.as_slice(), ITEMS_PRINTED.as_bytes());
-    let copy = module.copy()?;
+    let copy = checked.into_module().copy()?;
     assert_eq!(rt; copy.functions.len(), 2);
     assert_eq!(rt; copy.symbols.len(), 3);
     assert_eq!(rt; copy.types.len(), 1);
@@ -242,9 +234,9 @@ fn refuses_a_module(rt: HostRuntime) -> Result<(), Fail> {
     let alloc = rt.alloc();
     let text = Vec::from_slice(
         alloc,
-        b"define i32 @f(i32 %0, i1 %1) { br i1 %1, label %3, label %4 3: br label %4 4: %4 = phi i32 [ %0, %2 ], [ 7, %3 ] ret i32 %4 }",
+        b"define i32 @f(i32 %0, i1 %1) { br i1 %1, label %3, label %4 3: br label %4 4: %5 = phi i32 [ %0, %2 ] ret i32 %5 }",
     )?;
-    let line = "vplanc: check: numbering @f %4 2\n";
+    let line = "vplanc: check: phi-edges @f %5 2\n";
     compare(&rt, alloc, &["m"], text, Vec::new(alloc), (4, "", line))
 }
 

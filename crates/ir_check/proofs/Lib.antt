@@ -1,0 +1,2 @@
+mod Narrowed
+pub mod Causes
