@@ -109,6 +109,8 @@ def of_check(text, answer):
         return "calls"
     if answer.word in (b"unknown-name", b"duplicate-name") and b'""' in text:
         return "empty names"
+    if answer.word == b"phi-edges" and b"poison" in line:
+        return "poison lanes"
     if answer.word == b"type-mismatch" and answer.function == b"-":
         return "opaque"
     if answer.word == b"type-mismatch" and re.search(rb"(?:load|store) <\d+ x i1>", line):
@@ -144,7 +146,7 @@ SAID = tuple(
     )
 )
 VERIFIED = (
-    ("paths", r"dominate all uses|must not have predecessors|PHI ?[nN]ode|PHI nodes|multiple entries|may reference their own value|should have one entry"),
+    ("entries", r"multiple entries for the same basic block"),
     ("intrinsics", r"[Ii]ntrinsic|immarg"),
     ("musttail", r"musttail|guarantee tail call"),
     (
