@@ -30,7 +30,9 @@ store_right (Some m) ty types args e = by_store m.intrinsic ty types args e
 store_right None ty types args e = absurd cc
 
 -- behind what is stored it is as of a load
-pub store_behind : (ty stored : Ty) (types loaded : List Ty) (a : OperandTree) (args : List OperandTree) → is_access_right masked_load stored loaded args ≡ is_access_right masked_store ty (stored ∷ types) (a ∷ args)
-store_behind ty stored types loaded a [] = refl
-store_behind ty stored types loaded a (pointer ∷ []) = refl
-store_behind ty stored types loaded a (pointer ∷ align ∷ more) = refl
+pub store_behind : (ty stored : Ty) (types : List Ty) (a : OperandTree) (args : List OperandTree) → is_access_right masked_load stored types args ≡ is_access_right masked_store ty (stored ∷ types) (a ∷ args)
+store_behind ty stored [] a args = refl
+store_behind ty stored (place ∷ []) a args = refl
+store_behind ty stored (place ∷ width ∷ types) a [] = refl
+store_behind ty stored (place ∷ width ∷ types) a (pointer ∷ []) = refl
+store_behind ty stored (place ∷ width ∷ types) a (pointer ∷ align ∷ more) = refl

@@ -14,33 +14,41 @@ use crate::around::Around;
 use crate::fitting::actuals_fit;
 use crate::masked::{Masked, access_of};
 use crate::numbers::is_written_alignment;
-use crate::operands::is_bits;
+use crate::operands::{is_bits, same_type};
 use ir_types::{Actual, Callee, Operand, Ty};
 
-// Whether a masked load may load a type, and its alignment is written.
-fn load_fits(ty: Ty, args: &[Operand]) -> bool
-    ensures { (t : Tables) (names : List Name) (types : List Ty) → result ≡ is_access_right masked_load ty types (map (operand_in t names) args.now) }
+// Whether a masked load may load a type, and its alignment is written, where it has one.
+fn load_fits(ty: Ty, actuals: &[Actual], args: &[Operand]) -> bool
+    ensures { (t : Tables) (names : List Name) → result ≡ is_access_right masked_load ty (map (λ (a : Actual). a.ty) actuals.now) (map (operand_in t names) args.now) }
 {
-    let Some((_, behind)) = args.split_first() else {
+    let Some((_, behind)) = actuals.split_first() else {
         return true;
     };
-    match behind.split_first() {
-        Some((align, _)) => !is_bits(ty) && is_written_alignment(align),
-        None => true,
+    let Some((width, _)) = behind.split_first() else {
+        return true;
+    };
+    let Some((_, args_behind)) = args.split_first() else {
+        return true;
+    };
+    match args_behind.split_first() {
+        Some((align, _)) if same_type(width.ty, Ty::Int(32)) => {
+            !is_bits(ty) && is_written_alignment(align)
+        }
+        _ => true,
     }
 }
 
-// Whether a masked store may store what it does, and its alignment is written.
+// Whether a masked store may store what it does, and its alignment is written, where it has one.
 fn store_fits(actuals: &[Actual], args: &[Operand]) -> bool
     ensures { (t : Tables) (names : List Name) (ty : Ty) → result ≡ is_access_right masked_store ty (map (λ (a : Actual). a.ty) actuals.now) (map (operand_in t names) args.now) }
 {
-    let Some((stored, _)) = actuals.split_first() else {
+    let Some((stored, actuals_behind)) = actuals.split_first() else {
         return true;
     };
     let Some((_, behind)) = args.split_first() else {
         return true;
     };
-    load_fits(stored.ty, behind)
+    load_fits(stored.ty, actuals_behind, behind)
 }
 
 // Whether a masked access is right, where this is one.
@@ -51,7 +59,7 @@ fn access_fits(access: Option<Masked>, ty: Ty, actuals: &[Actual], args: &[Opera
         return true;
     };
     match access {
-        Masked::Load => load_fits(ty, args),
+        Masked::Load => load_fits(ty, actuals, args),
         Masked::Store => store_fits(actuals, args),
     }
 }

@@ -157,12 +157,14 @@ record CallsFound : Type 0 where
       ≡ nothing
   masked : found (codes "declare < 2 x i8 > @llvm.masked.load.v2i8.p0 ( ptr , i32 , < 2 x i1 > , < 2 x i8 > ) define void @f ( ptr %p , i32 %a ) { %x = call < 2 x i8 > @llvm.masked.load.v2i8.p0 ( ptr %p , i32 %a , < 2 x i1 > poison , < 2 x i8 > poison ) ret void }")
       ≡ in_f TypeMismatch x 0
+  masked_otherwise : found (codes "declare < 2 x i8 > @llvm.masked.load.v2i8.p0 ( ptr , < 2 x i1 > , < 2 x i8 > ) define void @f ( ptr %p ) { %x = call < 2 x i8 > @llvm.masked.load.v2i8.p0 ( ptr %p , < 2 x i1 > poison , < 2 x i8 > poison ) ret void }")
+      ≡ in_heads UnknownCallee (Symbol (Text (codes "llvm.masked.load.v2i8.p0")))
   masked_rightly : found (codes "declare void @llvm.masked.store.v2i8.p0 ( < 2 x i8 > , ptr , i32 , < 2 x i1 > ) define void @f ( ptr %p ) { call void @llvm.masked.store.v2i8.p0 ( < 2 x i8 > zeroinitializer , ptr %p , i32 1 , < 2 x i1 > poison ) ret void }")
       ≡ nothing
 
 calls : CallsFound
 unfolding table local_name global_name label width vector_type value_type return_type three_flags inst_memory lane constant_word typed_lane constant_offset value typed_value typed_pair pointer_value index_value target alignment overflowing possibly_exact plain_binary or_operation predicates compared compare select freeze trunc zext sext ptrtoint entry_of_phi phi getelementptr load store argument signature call extractelement insertelement shufflevector branch case_of_switch switch ret inst_attachments operation_words operation terminator_words terminator block kept_piece kept_run metadata_node attachment attachments left_out_words type_words value_words item_words instruction_words excluded_words kept memory_leaf array_begin type_parts parameter dotted_parameters declared_function defined_function target_line attribute_group comdat metadata type_definition initialiser_stops extra_behind behind_type variable_word variable_definition item module_form families lifetimes width_texts lane_texts
-calls = record { undeclared = refl; other_argument = refl; more_arguments = refl; too_few = refl; minimum = refl; other_minimum = refl; variable_minimum = refl; sum = refl; other_function = refl; masked = refl; masked_rightly = refl }
+calls = record { undeclared = refl; other_argument = refl; more_arguments = refl; too_few = refl; minimum = refl; other_minimum = refl; variable_minimum = refl; sum = refl; other_function = refl; masked = refl; masked_otherwise = refl; masked_rightly = refl }
 
 -- ---- edges
 

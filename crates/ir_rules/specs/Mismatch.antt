@@ -47,10 +47,11 @@ is_constant a = true
 
 -- ---- calls
 
--- what is loaded or stored by a call of a masked access has no elements of one bit, and its alignment is a number that is written there
+-- where the argument behind the pointer of a masked access is its alignment, of 32 bits: what is loaded or stored has no elements of one bit, and the alignment
+-- is a number that is written there
 abbrev pub is_access_right : Intrinsic → Ty → List Ty → List OperandTree → Bool
-is_access_right masked_load ty types (pointer ∷ align ∷ more) = not (is_bits ty) && is_written_alignment align
-is_access_right masked_store ty (stored ∷ types) (a ∷ pointer ∷ align ∷ more) = not (is_bits stored) && is_written_alignment align
+is_access_right masked_load ty (place ∷ width ∷ types) (pointer ∷ align ∷ args) = if same_type width (Int 32) then not (is_bits ty) && is_written_alignment align else true
+is_access_right masked_store ty (stored ∷ place ∷ width ∷ types) (a ∷ pointer ∷ align ∷ args) = if same_type width (Int 32) then not (is_bits stored) && is_written_alignment align else true
 is_access_right intrinsic ty types args = true
 
 -- the same of what is called, where it is an intrinsic

@@ -9,7 +9,7 @@ pub returns-in-Load : goal.returns-in-Load
 returns-in-Load c = λ t names meant e.
     let types = map (λ (a : Actual). a.ty) c.args.actuals.now in
     let args = map (operand_in t names) c.args.args.now in
-    c.load_fits.ensures t names types ∙ load_right meant c.args.ty types args (sym e ∙ c.in-Some.is ∙ ap (λ (m : Masked). Some m) c.in-Load.is)
+    c.load_fits.ensures t names ∙ load_right meant c.args.ty types args (sym e ∙ c.in-Some.is ∙ ap (λ (m : Masked). Some m) c.in-Load.is)
 
 pub returns-in-Store : goal.returns-in-Store
 returns-in-Store c = λ t names meant e.
