@@ -113,8 +113,10 @@ def of_check(text, answer):
         return "poison lanes"
     if answer.word == b"type-mismatch" and answer.function == b"-":
         return "opaque"
-    if answer.word == b"type-mismatch" and re.search(rb"(?:load|store) <\d+ x i1>", line):
+    if answer.word == b"type-mismatch" and re.search(rb"(?:load|store) <\d+ x i1>|@llvm\.masked\.(?:load|store)\.v\d+i1\.", line):
         return "bits"
+    if answer.word == b"type-mismatch" and b"getelementptr" in line:
+        return "vector steps" if re.search(rb"getelementptr .*<\d+ x", line) else "opaque"
     if answer.word == b"type-mismatch" and has_great_number(line):
         return "ranges"
     return UNEXPLAINED
