@@ -1,2 +1,3 @@
 mod Narrowed
 pub mod Causes
+pub mod Examples
