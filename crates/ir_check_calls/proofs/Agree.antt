@@ -23,7 +23,7 @@ use Rattle.ir_rules.specs.declared.fault.Subject.TheVariants.{Symbol as SymbolSu
 use Rattle.ir_rules.specs.Breaches.{first, outside}
 use Rattle.ir_rules.specs.Operands.{same_type}
 use Rattle.ir_rules.specs.Mismatch.{actual_types}
-use Rattle.ir_rules.specs.Intrinsics.{Signed, Meant, meant_by}
+use Rattle.ir_intrinsics.specs.Intrinsics.{Signed, Meant, meant_by}
 use Rattle.ir_rules.specs.Callees.{same_types, same_flag, param_types, is_declared, has_signature, may_mean, means_rightly, misdeclared, signature_agrees, arguments_agree, is_called_rightly}
 use Rattle.ir_check_calls.specs.Heads.{types_of, has_no_block, has_signature_of, may_mean_of, means_rightly_of, misdeclared_of, signature_agrees_with, arguments_agree_with, types_agree}
 

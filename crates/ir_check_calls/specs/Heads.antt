@@ -21,7 +21,7 @@ use Rattle.ir_rules.specs.declared.fault.Breach.{Breach}
 use Rattle.ir_rules.specs.Breaches.{first, outside, inside, in_insts}
 use Rattle.ir_rules.specs.Operands.{same_type}
 use Rattle.ir_rules.specs.Callees.{same_types, same_flag}
-use Rattle.ir_rules.specs.Intrinsics.{Signed, Meant, meant_by}
+use Rattle.ir_intrinsics.specs.Intrinsics.{Signed, Meant, meant_by}
 
 -- no name stands twice
 abbrev pub Apart : List Name → Type 0

@@ -2,7 +2,7 @@
 use Rattle.std.proofs.Common.{◌≡◌, List, [], ◌∷◌, Option, Some, None, refl}
 use Rattle.ir_types.specs.declared.inst.Ty.{Ty}
 use Rattle.ir_types.specs.Tree.{OperandTree}
-use Rattle.ir_rules.specs.Intrinsics.{Intrinsic, minimum_maximum, reduction, masked_load, masked_store, lifetime, Meant}
+use Rattle.ir_intrinsics.specs.Intrinsics.{Intrinsic, minimum_maximum, reduction, masked_load, masked_store, lifetime, Meant}
 use Rattle.ir_rules.specs.Mismatch.{is_access_right, is_meant_right}
 use Rattle.ir_check_fits.specs.declared.masked.Masked.TheVariants.{Load, Store}
 use Rattle.ir_check_fits.specs.Masked.{masked_by, masked_in}

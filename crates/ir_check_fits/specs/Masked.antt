@@ -1,6 +1,6 @@
 -- Masked accesses.
 use Rattle.std.specs.Prelude.{Option, Some, None}
-use Rattle.ir_rules.specs.Intrinsics.{Intrinsic, minimum_maximum, reduction, masked_load, masked_store, lifetime, Meant}
+use Rattle.ir_intrinsics.specs.Intrinsics.{Intrinsic, minimum_maximum, reduction, masked_load, masked_store, lifetime, Meant}
 use Rattle.ir_check_fits.specs.declared.masked.Masked.{Masked}
 use Rattle.ir_check_fits.specs.declared.masked.Masked.TheVariants.{Load, Store}
 

@@ -5,7 +5,7 @@ ghost use Rattle.ir_types.specs.declared.name.Name.{Name};
 ghost use Rattle.ir_types.specs.declared.inst.Ty.{Ty};
 ghost use Rattle.ir_types.specs.declared.call.Actual.{Actual};
 ghost use Rattle.ir_types.specs.Denotes.{Tables, operand_in};
-ghost use Rattle.ir_rules.specs.Intrinsics.{masked_load, masked_store, Meant};
+ghost use Rattle.ir_intrinsics.specs.Intrinsics.{masked_load, masked_store, Meant};
 ghost use Rattle.ir_rules.specs.Mismatch.{is_access_right, is_meant_right, call_fits};
 ghost use Rattle.ir_check_fits.specs.Masked.{masked_in};
 ghost use Rattle.ir_check_fits.specs.Sites.{locals_at, operand_at, IsHere};

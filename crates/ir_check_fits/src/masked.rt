@@ -1,6 +1,6 @@
 // Which calls are masked accesses.
 ghost use Rattle.std.specs.Prelude.{◌≡◌};
-ghost use Rattle.ir_rules.specs.Intrinsics.{meant_by};
+ghost use Rattle.ir_intrinsics.specs.Intrinsics.{meant_by};
 ghost use Rattle.ir_check_fits.specs.Masked.{masked_in};
 
 use ir_intrinsics::{Intrinsic, meant_by};

@@ -3,7 +3,7 @@ use Rattle.std.proofs.Common.{◌≡◌, ◌<◌, ◌≤◌, ℕ, zero, suc, ◌
 use Rattle.std.specs.Prelude.{filter_map}
 use Rattle.std.specs.List.{cons_option}
 use Rattle.std.proofs.lemmas.List.{drop_all}
-use Rattle.ir_rules.specs.Breaches.{first}
+use Rattle.ir_intrinsics.specs.Intrinsics.{first}
 
 pub first_here : {E B C : Type 0} (v : E → B) (h : B → Option C) (es : List E) (i : ℕ) (d : E) (c : C) → i < length es → h (v (get_or es i d)) ≡ Some c → first (filter_map h (map v (drop i es))) ≡ Some c
 first_here v h [] i d c lt e = absurd (omega arith)

@@ -11,8 +11,7 @@ use Rattle.forms.specs.Form.{same_text, is_one_of}
 use Rattle.forms.proofs.Begins.{test}
 use Rattle.forms.proofs.Tokens.{text_is, is_text}
 use Rattle.ir_types.specs.declared.name.Name.TheVariants.{Text}
-use Rattle.ir_rules.specs.Breaches.{first}
-use Rattle.ir_rules.specs.Intrinsics.{Intrinsic as Kind, Meant, any_lifetime, behind_front, in_family, families, lifetimes, meant_by}
+use Rattle.ir_intrinsics.specs.Intrinsics.{first, Intrinsic as Kind, Meant, any_lifetime, behind_front, in_family, families, lifetimes, meant_by}
 use Rattle.ir_intrinsics.specs.Means.{in_one, short_families, short_lifetimes, behind_llvm}
 
 -- byte by byte

@@ -3,21 +3,20 @@
 ghost use Rattle.std.specs.Prelude.{◌≡◌, map, filter_map};
 ghost use Rattle.std.specs.Option.{option_map};
 ghost use Rattle.ir_types.specs.declared.name.Name.TheVariants.{Text as TextName};
-ghost use Rattle.ir_rules.specs.Breaches.{first};
-ghost use Rattle.ir_rules.specs.Intrinsics.{in_family, meant_by};
+ghost use Rattle.ir_intrinsics.specs.Intrinsics.{first, in_family, meant_by};
 ghost use Rattle.ir_intrinsics.specs.Means.{meant_in, family_in, in_one, behind_llvm};
 
 use crate::written::{behind_front, type_written, vector_before};
 use forms::is_one_of;
-use ir_types::{Name, Ty};
+use ir_types::{BinOp, Name, Ty};
 
 /// A function that has a meaning by its name. (LLVM's Language Reference, "Intrinsic Functions".)
 #[derive(Clone, Copy, Debug, PartialEq, Eq)]
 pub enum Intrinsic {
-    /// The least or the greatest of two numbers of this type, signed or unsigned; of vectors lane by lane.
-    MinimumMaximum(Ty),
-    /// One number from all lanes of a vector of this type.
-    Reduction(Ty),
+    /// The least or the greatest of two numbers of this type, signed or unsigned, which is this operator of them; of vectors lane by lane.
+    MinimumMaximum(BinOp, Ty),
+    /// One number from all lanes of a vector of this type, by this operator.
+    Reduction(BinOp, Ty),
     /// A load of a vector of this type, of the lanes that a mask has.
     MaskedLoad(Ty),
     /// A store of such a vector.
@@ -29,10 +28,10 @@ pub enum Intrinsic {
 // The intrinsics whose names go on with a type alike.
 #[derive(Clone, Copy, Debug, PartialEq, Eq)]
 enum Family {
-    // One or two numbers, or vectors of them.
-    MinimumMaximum,
-    // The lanes of a vector.
-    Reduction,
+    // This operator of two numbers, or of vectors of them.
+    MinimumMaximum(BinOp),
+    // This operator of the lanes of a vector.
+    Reduction(BinOp),
     MaskedLoad,
     MaskedStore,
     Lifetime,
@@ -40,19 +39,19 @@ enum Family {
 
 // How their names go on behind `llvm.`.
 static FAMILIES: [(&[u8], Family); 17] = [
-    (b"smin.", Family::MinimumMaximum),
-    (b"smax.", Family::MinimumMaximum),
-    (b"umin.", Family::MinimumMaximum),
-    (b"umax.", Family::MinimumMaximum),
-    (b"vector.reduce.add.", Family::Reduction),
-    (b"vector.reduce.mul.", Family::Reduction),
-    (b"vector.reduce.and.", Family::Reduction),
-    (b"vector.reduce.or.", Family::Reduction),
-    (b"vector.reduce.xor.", Family::Reduction),
-    (b"vector.reduce.smin.", Family::Reduction),
-    (b"vector.reduce.smax.", Family::Reduction),
-    (b"vector.reduce.umin.", Family::Reduction),
-    (b"vector.reduce.umax.", Family::Reduction),
+    (b"smin.", Family::MinimumMaximum(BinOp::SMin)),
+    (b"smax.", Family::MinimumMaximum(BinOp::SMax)),
+    (b"umin.", Family::MinimumMaximum(BinOp::UMin)),
+    (b"umax.", Family::MinimumMaximum(BinOp::UMax)),
+    (b"vector.reduce.add.", Family::Reduction(BinOp::Add)),
+    (b"vector.reduce.mul.", Family::Reduction(BinOp::Mul)),
+    (b"vector.reduce.and.", Family::Reduction(BinOp::And)),
+    (b"vector.reduce.or.", Family::Reduction(BinOp::Or)),
+    (b"vector.reduce.xor.", Family::Reduction(BinOp::Xor)),
+    (b"vector.reduce.smin.", Family::Reduction(BinOp::SMin)),
+    (b"vector.reduce.smax.", Family::Reduction(BinOp::SMax)),
+    (b"vector.reduce.umin.", Family::Reduction(BinOp::UMin)),
+    (b"vector.reduce.umax.", Family::Reduction(BinOp::UMax)),
     (b"masked.load.", Family::MaskedLoad),
     (b"masked.store.", Family::MaskedStore),
     (b"lifetime.start.", Family::Lifetime),
@@ -67,8 +66,10 @@ fn in_family(family: Family, text: &[u8]) -> Option<Intrinsic>
     ensures { option_map meant_in result ≡ in_family (family_in family) text.now }
 {
     match family {
-        Family::MinimumMaximum => Some(Intrinsic::MinimumMaximum(type_written(text)?)),
-        Family::Reduction => Some(Intrinsic::Reduction(vector_before(b"", text)?)),
+        Family::MinimumMaximum(operator) => {
+            Some(Intrinsic::MinimumMaximum(operator, type_written(text)?))
+        }
+        Family::Reduction(operator) => Some(Intrinsic::Reduction(operator, vector_before(b"", text)?)),
         Family::MaskedLoad => Some(Intrinsic::MaskedLoad(vector_before(b".p0", text)?)),
         Family::MaskedStore => Some(Intrinsic::MaskedStore(vector_before(b".p0", text)?)),
         Family::Lifetime => Some(Intrinsic::Lifetime),

@@ -2,8 +2,7 @@
 
 ghost use Rattle.std.specs.Prelude.{◌≡◌, map, filter_map};
 ghost use Rattle.std.specs.Option.{option_map};
-ghost use Rattle.ir_rules.specs.Breaches.{first};
-ghost use Rattle.ir_rules.specs.Intrinsics.{behind_front, width_before, vector_before, type_written};
+ghost use Rattle.ir_intrinsics.specs.Intrinsics.{first, behind_front, width_before, vector_before, type_written};
 ghost use Rattle.ir_intrinsics.specs.Means.{vector_in};
 
 use forms::find;
@@ -41,7 +40,7 @@ pub fn behind_front<'t>(front: &[u8], text: &'t [u8]) -> Option<&'t [u8]>
 }
 
 // The width that is written so, before an end.
-#[tactic(auto, unfolding(ir_rules::specs::Intrinsics::width_texts))]
+#[tactic(auto, unfolding(crate::specs::Intrinsics::width_texts))]
 fn width_before(end: &[u8], text: &[u8]) -> Option<u32>
     ensures { result ≡ width_before end.now text.now }
 {
@@ -72,7 +71,7 @@ fn first_vector(lanes: &[(&[u8], u32)], end: &[u8], text: &[u8]) -> Option<Ty>
 }
 
 /// The vector that is written so, before an end.
-#[tactic(auto, unfolding(ir_rules::specs::Intrinsics::lane_texts))]
+#[tactic(auto, unfolding(crate::specs::Intrinsics::lane_texts))]
 pub fn vector_before(end: &[u8], text: &[u8]) -> Option<Ty>
     ensures { result ≡ vector_before end.now text.now }
 {

@@ -7,7 +7,7 @@ ghost use Rattle.ir_types.specs.Grammar.{to_type, trunc, zext, sext, ptrtoint};
 ghost use Rattle.ir_reader_ops.specs.Seen.{operand_seen, inst_seen, definitions, Widens, Stays, InstUses};
 
 use crate::flags::{one_flag, two_flags};
-use crate::making::{applied, one_operand};
+use ir_making::{applied, one_operand};
 use crate::scope::Scope;
 use crate::typed::{pointer_value, typed_value};
 use forms::{Cursor, SyntaxFault};

@@ -10,7 +10,7 @@ ghost use Rattle.ir_types.specs.Grammar.{entry_of_phi, commas, marked, phi};
 ghost use Rattle.ir_reader_ops.specs.Split.{split_each, entry_at, entry_in, entries_in};
 ghost use Rattle.ir_reader_ops.specs.Seen.{inst_seen, definitions, Widens, Stays, OperandsUse, InstUses, operand_seen};
 
-use crate::making::{bare, one_label, one_operand};
+use ir_making::{bare, one_label, one_operand};
 use crate::operand::value_at;
 use crate::scope::Scope;
 use crate::value::comma_local;

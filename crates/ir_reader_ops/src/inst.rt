@@ -17,7 +17,7 @@ use crate::branches::{branch, give_back};
 use crate::calls::call_behind;
 use crate::casts::{ptrtoint, sext, trunc, zext};
 use crate::entries::phi;
-use crate::making::applied;
+use ir_making::applied;
 use crate::memory::{load, store};
 use crate::offset::getelementptr;
 use crate::scope::Scope;

@@ -12,7 +12,6 @@ mod flags;
 mod inst;
 mod keeping;
 mod lanes;
-mod making;
 mod memory;
 mod numbers;
 mod offset;

@@ -10,7 +10,7 @@ ghost use Rattle.ir_types.specs.Grammar.{alignment_of, alignment, align_or, load
 ghost use Rattle.ir_reader_ops.specs.Operands.{written_alignment};
 ghost use Rattle.ir_reader_ops.specs.Seen.{inst_seen, definitions, Widens, Stays, InstUses};
 
-use crate::making::{applied, one_operand, two_operands};
+use ir_making::{applied, one_operand, two_operands};
 use crate::numbers::saturated_number_of;
 use crate::scope::Scope;
 use crate::typed::{comma_pointer, typed_value};

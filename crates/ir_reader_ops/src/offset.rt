@@ -11,7 +11,7 @@ ghost use Rattle.ir_reader_ops.specs.Offsets.{next_index, steps_in, indexes_read
 
 use crate::constant::memory;
 use crate::flags::three_flags;
-use crate::making::{applied, one_operand};
+use ir_making::{applied, one_operand};
 use crate::scope::Scope;
 use crate::typed::{comma_pointer, index_value};
 use forms::{Cursor, SyntaxFault, TokenKind};

@@ -10,7 +10,7 @@ ghost use Rattle.ir_reader_ops.specs.Split.{labels_in, case_at, case_in, cases_i
 ghost use Rattle.ir_reader_ops.specs.Seen.{name_seen, inst_seen, definitions, Widens, AreSteady, Stays, OperandsUse, InstUses, operand_seen};
 
 use crate::branches::comma_target;
-use crate::making::{bare, one_label, one_operand};
+use ir_making::{bare, one_label, one_operand};
 use crate::numbers::{fits_width, number_at};
 use crate::scope::Scope;
 use crate::typed::index_value;

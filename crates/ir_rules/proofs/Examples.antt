@@ -18,7 +18,7 @@ use Rattle.ir_rules.specs.declared.fault.Breach.{Breach}
 use Rattle.ir_rules.specs.declared.fault.Subject.{Subject}
 use Rattle.ir_rules.specs.declared.fault.Subject.TheVariants.{Nothing, Local, Symbol, TypeName}
 use Rattle.ir_rules.specs.Breaches.{outside, inside}
-use Rattle.ir_rules.specs.Intrinsics.{families, lifetimes, width_texts, lane_texts}
+use Rattle.ir_intrinsics.specs.Intrinsics.{families, lifetimes, width_texts, lane_texts}
 use Rattle.ir_rules.specs.WellFormed.{early_breaches}
 
 -- ---- a text whose tokens are parted by spaces, as a module

@@ -4,14 +4,10 @@ use Rattle.forms.specs.Nested.{concat}
 use Rattle.ir_types.specs.declared.name.Name.{Name}
 use Rattle.ir_types.specs.Tree.{InstTree, FunctionTree, ModuleTree}
 use Rattle.ir_types.specs.Used.{insts_of}
+pub use Rattle.ir_intrinsics.specs.Intrinsics.{first}
 use Rattle.ir_rules.specs.declared.fault.Subject.{Subject}
 use Rattle.ir_rules.specs.declared.fault.Subject.TheVariants.{Nothing, Local}
 use Rattle.ir_rules.specs.declared.fault.Breach.{Breach}
-
--- the first of a list
-abbrev pub first : {A : Type 0} → List A → Option A
-first [] = None
-first (x ∷ xs) = Some x
 
 -- each of a list, behind its number, which counts from this one
 abbrev pub numbered_from : {A : Type 0} → ℕ → List A → List (ℕ × A)

@@ -1,6 +1,6 @@
 -- Rule: what is called is a function whose types are the call's, and a name that this project gives a meaning has the signature that goes with it
 -- and no body.
-use Rattle.std.specs.Prelude.{ℕ, Bool, true, false, not, ◌&&◌, slice_get, List, [], ◌∷◌, ◌++◌, map, take, length, Option, Some, None, if◌then◌else◌}
+use Rattle.std.specs.Prelude.{ℕ, Bool, true, false, not, ◌&&◌, List, [], ◌∷◌, ◌++◌, map, take, length, Option, Some, None, if◌then◌else◌}
 use Rattle.std.specs.List.{list_any}
 use Rattle.forms.specs.Nested.{concat}
 use Rattle.ir_types.specs.declared.name.Name.{Name}
@@ -8,15 +8,14 @@ use Rattle.ir_types.specs.declared.call.Callee.{Callee}
 use Rattle.ir_types.specs.declared.call.Signature.{Signature}
 use Rattle.ir_types.specs.declared.inst.Ty.{Ty}
 use Rattle.ir_types.specs.Names.{same_name}
-use Rattle.ir_types.specs.Kinds.{Kind, Call}
+use Rattle.ir_types.specs.Kinds.{Kind, Call, actual_types}
 use Rattle.ir_types.specs.Tree.{InstTree, ParamTree, BlockTree, FunctionTree, SymbolKindTree, variable, function, SymbolTree, ModuleTree}
 use Rattle.ir_rules.specs.declared.fault.Subject.{Subject}
 use Rattle.ir_rules.specs.declared.fault.Subject.TheVariants.{Symbol}
 use Rattle.ir_rules.specs.declared.fault.Breach.{Breach}
 use Rattle.ir_rules.specs.Breaches.{Found, outside, in_functions, in_insts}
 use Rattle.ir_rules.specs.Operands.{same_type}
-use Rattle.ir_rules.specs.Mismatch.{actual_types}
-use Rattle.ir_rules.specs.Intrinsics.{Signed, Meant, meant_by}
+use Rattle.ir_intrinsics.specs.Intrinsics.{Signed, Meant, meant_by}
 
 -- whether two lists of types are one
 abbrev pub same_types : List Ty → List Ty → Bool
@@ -48,14 +47,14 @@ has_signature f s = is_declared f.body && (not f.varargs && (same_type s.ret f.r
 abbrev pub may_mean : FunctionTree → Meant → Bool
 may_mean f meant = elim meant.signature [ Some s ↦ has_signature f s | None ↦ is_declared f.body ]
 
--- a symbol with a meaning is a function that may have it
-abbrev pub means_rightly : List FunctionTree → SymbolKindTree → Meant → Bool
-means_rightly fs (variable nodes writable) meant = false
-means_rightly fs (function place) meant = elim (slice_get fs place) [ Some f ↦ may_mean f meant | None ↦ true ]
+-- a symbol with a meaning is no variable, and a function of its name may have the meaning
+abbrev pub means_rightly : List FunctionTree → Name → SymbolKindTree → Meant → Bool
+means_rightly fs name (variable nodes writable) meant = false
+means_rightly fs name function meant = list_any (λ f. same_name name f.name && may_mean f meant) fs
 
 -- a symbol whose name has a meaning that it can't have
 abbrev pub misdeclared : List FunctionTree → SymbolTree → List Breach
-misdeclared fs s = elim (meant_by s.name) [ Some meant ↦ if means_rightly fs s.kind meant then [] else outside (Symbol s.name) ∷ [] | None ↦ [] ]
+misdeclared fs s = elim (meant_by s.name) [ Some meant ↦ if means_rightly fs s.name s.kind meant then [] else outside (Symbol s.name) ∷ [] | None ↦ [] ]
 
 -- ---- calls
 

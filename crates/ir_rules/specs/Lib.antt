@@ -5,7 +5,6 @@ pub mod Unknown
 pub mod Steps
 pub mod Operands
 pub mod Mismatch
-pub mod Intrinsics
 pub mod Callees
 pub mod Numbering
 pub mod Edges

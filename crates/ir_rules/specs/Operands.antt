@@ -84,7 +84,3 @@ abbrev pub fit : List Definition → List Ty → List OperandTree → Bool
 fit ds [] [] = true
 fit ds (t ∷ ts) (a ∷ args) = fits ds t a && fit ds ts args
 fit ds ts args = false
-
--- whether operands all have this type
-abbrev pub fit_all : List Definition → Ty → List OperandTree → Bool
-fit_all ds t args = list_all (fits ds t) args

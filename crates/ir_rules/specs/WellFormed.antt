@@ -1,9 +1,6 @@
--- Well-formed modules, and the first rule that another one breaks.
+-- Trees that keep the rules, and the first rule that another one breaks.
 use Rattle.std.specs.Prelude.{◌≡◌, ◌⊎◌, List, [], ◌++◌, map, Some}
-use Rattle.ir_types.specs.declared.module.Module.{Module}
 use Rattle.ir_types.specs.Tree.{ModuleTree}
-use Rattle.ir_types.specs.Denotes.{tree_of}
-use Rattle.ir_types.specs.Reads.{IsReadable}
 use Rattle.ir_rules.specs.declared.fault.Rule.{Rule}
 use Rattle.ir_rules.specs.declared.fault.Rule.TheVariants.{DuplicateName, UnknownName, TypeMismatch, UnknownCallee, Numbering, EntryHasPredecessor, PhiEdges, NotAvailable}
 use Rattle.ir_rules.specs.declared.fault.Breach.{Breach}
@@ -43,11 +40,6 @@ early_breaches m = type_breaches m ++ edge_breaches m
 pub record KeepsRules (m : ModuleTree) : Type 0 where
   pub early : early_breaches m ≡ []
   pub available : AllAvailable m
-
--- a well-formed module: some text reads as it, and it breaks no rule
-pub record IsWellFormed (m : Module) : Type 0 where
-  pub readable : IsReadable m
-  pub keeps : KeepsRules (tree_of m)
 
 -- a breach is the first of a list of all breaches
 abbrev pub FirstCause : List (Rule × Breach) → CheckFault → Type 0

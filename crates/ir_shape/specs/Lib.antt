@@ -1,3 +1,4 @@
 pub mod Shape
 pub mod Placed
 pub mod Narrow
+pub mod Modules

@@ -1,5 +1,5 @@
--- What is known of a tree that some text says, and what more of one that can be printed: no number in that is out of its type's range.
-use Rattle.std.specs.Prelude.{codes, Bool, true, false, ◌≡◌, ◌<◌, ◌^◌, ℕ, suc, List, [], ◌∷◌, length, map, replicate, Option, Some, None}
+-- The shape of a module's tree, and what more is known of one that can be printed: no number in that is out of its type's range.
+use Rattle.std.specs.Prelude.{codes, Bool, true, false, ◌≡◌, ◌<◌, ◌^◌, ℕ, suc, List, [], ◌∷◌, length, map, Option, Some, None}
 use Rattle.std.specs.List.{AllByRecursion, AllZip}
 use Rattle.forms.specs.declared.TokenKind.TheVariants.{Word}
 use Rattle.forms.specs.Form.{Form, Spells, either}
@@ -11,12 +11,12 @@ use Rattle.ir_types.specs.declared.name.Name.TheVariants.{Text, Number}
 use Rattle.ir_types.specs.declared.inst.Ty.{Ty}
 use Rattle.ir_types.specs.declared.inst.Ty.TheVariants.{Int, Ptr, Vector, Void}
 use Rattle.ir_types.specs.declared.inst.BinOp.{BinOp}
-use Rattle.ir_types.specs.declared.inst.BinOp.TheVariants.{Add, Sub, Mul, Shl, UDiv, SDiv, LShr, AShr, Or}
+use Rattle.ir_types.specs.declared.inst.BinOp.TheVariants.{Add, Sub, Mul, Shl, UDiv, SDiv, URem, SRem, LShr, AShr, And, Or, Xor, SMin, SMax, UMin, UMax}
 use Rattle.ir_types.specs.declared.inst.Flags.{Flags}
 use Rattle.ir_types.specs.declared.call.Actual.{Actual}
 use Rattle.ir_types.specs.declared.call.Callee.{Callee}
 use Rattle.ir_types.specs.declared.call.Signature.{Signature}
-use Rattle.ir_types.specs.Kinds.{Kind, Binary, Compare, Select, Freeze, Trunc, Zext, Sext, PtrToInt, Phi, Offset, Load, Store, Call, Extract, Insert, Shuffle, Jump, Branch, Switch, ReturnVoid, Return, Unreachable}
+use Rattle.ir_types.specs.Kinds.{Kind, Binary, Compare, Select, Freeze, Trunc, Zext, Sext, PtrToInt, Phi, Offset, Load, Store, Call, Extract, Insert, Shuffle, Jump, Branch, Switch, ReturnVoid, Return, Unreachable, operand_types}
 pub use Rattle.ir_types.specs.Types.{IsOneOf, widths, IsType}
 use Rattle.ir_types.specs.TypeNodes.{TypeNode, scalar, called, array, opening, closing}
 use Rattle.ir_types.specs.Collected.{collected}
@@ -97,31 +97,6 @@ IsTyped t a = IsType t × IsOperand t a
 abbrev pub IsTypedIn : Bool → Ty → OperandTree → Type 0
 IsTypedIn wide t a = IsType t × IsOperandIn wide t a
 
--- the types of so many operands: those of a phi's entries are the result's
-abbrev pub types_of_operands : Kind → Ty → ℕ → List Ty
-types_of_operands (Binary op flags) t n = t ∷ t ∷ []
-types_of_operands (Compare p of) t n = of ∷ of ∷ []
-types_of_operands (Select condition last) t n = condition ∷ t ∷ last ∷ []
-types_of_operands Freeze t n = t ∷ []
-types_of_operands (Trunc from nuw nsw) t n = from ∷ []
-types_of_operands (Zext from nneg) t n = from ∷ []
-types_of_operands (Sext from) t n = from ∷ []
-types_of_operands PtrToInt t n = Ptr ∷ []
-types_of_operands Phi t n = replicate n t
-types_of_operands (Offset nodes indexes inbounds nuw nusw) t n = Ptr ∷ map Int indexes
-types_of_operands (Load align) t n = Ptr ∷ []
-types_of_operands (Store of align) t n = of ∷ Ptr ∷ []
-types_of_operands (Call callee) t n = map (λ a. a.ty) callee.actuals
-types_of_operands (Extract of width) t n = of ∷ Int width ∷ []
-types_of_operands (Insert element width) t n = t ∷ element ∷ Int width ∷ []
-types_of_operands (Shuffle one other mask) t n = one ∷ other ∷ mask ∷ []
-types_of_operands Jump t n = []
-types_of_operands Branch t n = Int 1 ∷ []
-types_of_operands (Switch width cases) t n = Int width ∷ []
-types_of_operands ReturnVoid t n = []
-types_of_operands (Return of) t n = of ∷ []
-types_of_operands Unreachable t n = []
-
 -- how many labels an instruction with so many operands has
 abbrev pub label_count : Kind → ℕ → ℕ
 label_count Phi n = n
@@ -156,7 +131,7 @@ HasResult (Return u) t = t ≡ Void
 HasResult Unreachable t = t ≡ Void
 HasResult kind t = IsType t
 
--- the flags that an operator may have
+-- the flags that an operator may have; of the minima and maxima, which no instruction's word spells, there is no instruction
 abbrev pub HasFlags : BinOp → Flags → Type 0
 HasFlags Add f = f ≡ wrap_flags (f.nuw, f.nsw)
 HasFlags Sub f = f ≡ wrap_flags (f.nuw, f.nsw)
@@ -164,10 +139,17 @@ HasFlags Mul f = f ≡ wrap_flags (f.nuw, f.nsw)
 HasFlags Shl f = f ≡ wrap_flags (f.nuw, f.nsw)
 HasFlags UDiv f = f ≡ exact_flag f.exact
 HasFlags SDiv f = f ≡ exact_flag f.exact
+HasFlags URem f = f ≡ no_flags
+HasFlags SRem f = f ≡ no_flags
 HasFlags LShr f = f ≡ exact_flag f.exact
 HasFlags AShr f = f ≡ exact_flag f.exact
+HasFlags And f = f ≡ no_flags
 HasFlags Or f = f ≡ disjoint_flag f.disjoint
-HasFlags op f = f ≡ no_flags
+HasFlags Xor f = f ≡ no_flags
+HasFlags SMin f = ⊥
+HasFlags SMax f = ⊥
+HasFlags UMin f = ⊥
+HasFlags UMax f = ⊥
 
 -- the types that a call writes before the function's name, where it writes them
 abbrev pub IsSignature : Option Signature → Type 0
@@ -196,7 +178,7 @@ HasParts kind n = Unit {0}
 
 -- an instruction but for its result's name and its attachments, each of whose operands is so at its type
 pub record IsBodyOf (P : Ty → OperandTree → Type 0) (i : InstTree) : Type 0 where
-  pub args : AllZip P (types_of_operands i.kind i.ty (length i.args)) i.args
+  pub args : AllZip P (operand_types i.kind i.ty (length i.args)) i.args
   pub labels : AllByRecursion IsName i.labels
   pub count : length i.labels ≡ label_count i.kind (length i.args)
   pub result : HasResult i.kind i.ty
@@ -212,7 +194,7 @@ IsResult Void None = Unit {0}
 IsResult t None = ⊥
 IsResult t (Some n) = IsName n
 
--- an instruction that some text says, with its result's name where its type has a value: only a wide one has an operand that is out of range
+-- an instruction, with its result's name where its type has a value: only a wide one has an operand that is out of range
 pub record IsReadInst (i : InstTree) : Type 0 where
   pub body : IsBodyOf (IsTypedIn i.wide) i
   pub result : IsResult i.ty i.result
@@ -315,10 +297,10 @@ pub record IsModuleOf (P : InstTree → Type 0) (m : ModuleTree) : Type 0 where
   pub known : AllByRecursion (IsItemOf P) items
   pub says : collected items ≡ m
 
--- a module that some text says
-abbrev pub IsReadModule : ModuleTree → Type 0
-IsReadModule m = IsModuleOf IsReadInst m
+-- the tree has the shape of a module
+abbrev pub HasShape : ModuleTree → Type 0
+HasShape m = IsModuleOf IsReadInst m
 
 -- one that can be printed
-abbrev pub IsModule : ModuleTree → Type 0
-IsModule m = IsModuleOf IsInst m
+abbrev pub IsPrintable : ModuleTree → Type 0
+IsPrintable m = IsModuleOf IsInst m

@@ -1,5 +1,5 @@
 -- The module of some items: each group in the text's order.
-use Rattle.std.specs.Prelude.{ℕ, suc, List, [], ◌∷◌, ◌++◌, map, Option, Some, None}
+use Rattle.std.specs.Prelude.{List, [], ◌++◌, map, Option, Some, None}
 use Rattle.std.specs.List.{filter_map}
 use Rattle.ir_types.specs.TypeNodes.{TypeNode}
 use Rattle.ir_types.specs.Tree.{KeptTexts, FunctionTree, NamedTree, defined, opaque, TypeNameTree, variable, function, SymbolTree, ModuleTree, VariableTree, Item, head_line, comdat_line, type_item, variable_item, function_item, attribute_line, metadata_line}
@@ -45,10 +45,9 @@ as_metadata i = None
 abbrev pub symbol_of : VariableTree → SymbolTree
 symbol_of v = record { name = v.name; kind = variable v.ty v.writable; before = v.before; after = v.after }
 
--- those of functions from a place on
-abbrev pub symbols_from : ℕ → List FunctionTree → List SymbolTree
-symbols_from i [] = []
-symbols_from i (f ∷ fs) = record { name = f.name; kind = function i; before = []; after = [] } ∷ symbols_from (suc i) fs
+-- a function's
+abbrev pub symbol_of_function : FunctionTree → SymbolTree
+symbol_of_function f = record { name = f.name; kind = function; before = []; after = [] }
 
 -- ---- the module
 
@@ -56,7 +55,7 @@ abbrev pub collected : List (Item FunctionTree) → ModuleTree
 collected items = record {
   head = filter_map as_head items ++ filter_map as_comdat items;
   type_names = filter_map as_type items;
-  symbols = map symbol_of (filter_map as_variable items) ++ symbols_from 0 (filter_map as_function items);
+  symbols = map symbol_of (filter_map as_variable items) ++ map symbol_of_function (filter_map as_function items);
   functions = filter_map as_function items;
   tail = filter_map as_attributes items ++ filter_map as_metadata items;
 }

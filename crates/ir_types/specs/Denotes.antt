@@ -1,7 +1,7 @@
 -- Which tree a module denotes: each position replaced by what it names.
-use Rattle.std.specs.Prelude.{◌≡◌, ℕ, List, [], map, Option, Some, None}
+use Rattle.std.specs.Prelude.{◌≡◌, ℕ, List, [], length, map, Option, Some, None}
 use Rattle.std.specs.Option.{option_map}
-use Rattle.std.specs.List.{AllByRecursion, filter_map}
+use Rattle.std.specs.List.{AllByRecursion, filter_map, range_with_len}
 use Rattle.ir_types.specs.declared.name.Name.{Name}
 use Rattle.ir_types.specs.declared.name.ValueId.{ValueId}
 use Rattle.ir_types.specs.declared.inst.Operand.{Operand}
@@ -104,7 +104,7 @@ type_name_in m n = elim n.ty [ Defined id ↦ Some (record { name = n.name; ty =
 abbrev pub symbol_in : Module → Symbol → Option SymbolTree
 symbol_in m s = elim s.kind [
   | symbols.Variable id writable ↦ Some (record { name = s.name; kind = variable (nodes_in m id) writable; before = s.before; after = s.after })
-  | symbols.Function f ↦ Some (record { name = s.name; kind = function f.0; before = s.before; after = s.after })
+  | symbols.Function f ↦ Some (record { name = s.name; kind = function; before = s.before; after = s.after })
   | symbols.Missing ↦ None
 ]
 
@@ -120,6 +120,10 @@ tree_of m = record { head = m.head; type_names = filter_map (type_name_in m) m.t
 abbrev pub IsBare : Symbol → Type 0
 IsBare s = elim s.kind as (λ _. Type 0) [ symbols.Variable id writable ↦ Unit {0} | symbols.Function f ↦ Unit {0} | symbols.Missing ↦ (s.before ≡ []) × (s.after ≡ []) ]
 
+-- the place of the function that a symbol stands for
+abbrev pub function_place : Symbol → Option ℕ
+function_place s = elim s.kind [ symbols.Variable id writable ↦ None | symbols.Function f ↦ Some f.0 | symbols.Missing ↦ None ]
+
 -- the module says what the tree says
 pub record Denotes (m : Module) (tree : ModuleTree) : Type 0 where
   pub says : tree_of m ≡ tree
@@ -134,3 +138,5 @@ pub record Denotes (m : Module) (tree : ModuleTree) : Type 0 where
   pub symbols : map (λ (s : Symbol). s.name) m.symbols ≡ all_symbol_names tree
   -- nothing is kept with those
   pub bare : AllByRecursion IsBare m.symbols
+  -- the symbols of functions stand for the functions, one by one
+  pub functions : filter_map function_place m.symbols ≡ range_with_len 0 (length m.functions)

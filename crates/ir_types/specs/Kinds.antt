@@ -1,7 +1,9 @@
 -- What an instruction does, with names in the place of positions.
-use Rattle.std.specs.Prelude.{ℕ, Bool, List}
+use Rattle.std.specs.Prelude.{ℕ, Bool, List, [], ◌∷◌, map, replicate}
+use Rattle.ir_types.specs.declared.call.Actual.{Actual}
 use Rattle.ir_types.specs.declared.call.Callee.{Callee}
 use Rattle.ir_types.specs.declared.inst.Ty.{Ty}
+use Rattle.ir_types.specs.declared.inst.Ty.TheVariants.{Int, Ptr}
 use Rattle.ir_types.specs.declared.inst.BinOp.{BinOp}
 use Rattle.ir_types.specs.declared.inst.Flags.{Flags}
 use Rattle.ir_types.specs.declared.inst.Pred.{Pred}
@@ -31,3 +33,33 @@ pub data Kind : Type 0 where
   ReturnVoid : Kind
   Return : Ty → Kind
   Unreachable : Kind
+
+-- the types of the arguments that a call writes
+abbrev pub actual_types : Callee → List Ty
+actual_types callee = map (λ (a : Actual). a.ty) callee.actuals
+
+-- The types of an instruction's operands, in the text's order, by its kind and its result's type. Of a phi, and of no other, their number
+-- counts: each entry has the result's type.
+abbrev pub operand_types : Kind → Ty → (number : ℕ) → List Ty
+operand_types (Binary op flags) ty n = ty ∷ ty ∷ []
+operand_types (Compare p of) ty n = of ∷ of ∷ []
+operand_types (Select condition last) ty n = condition ∷ ty ∷ last ∷ []
+operand_types Freeze ty n = ty ∷ []
+operand_types (Trunc from nuw nsw) ty n = from ∷ []
+operand_types (Zext from nneg) ty n = from ∷ []
+operand_types (Sext from) ty n = from ∷ []
+operand_types PtrToInt ty n = Ptr ∷ []
+operand_types Phi ty n = replicate n ty
+operand_types (Offset nodes widths inbounds nuw nusw) ty n = Ptr ∷ map Int widths
+operand_types (Load align) ty n = Ptr ∷ []
+operand_types (Store of align) ty n = of ∷ Ptr ∷ []
+operand_types (Call callee) ty n = actual_types callee
+operand_types (Extract of width) ty n = of ∷ Int width ∷ []
+operand_types (Insert element width) ty n = ty ∷ element ∷ Int width ∷ []
+operand_types (Shuffle one other mask) ty n = one ∷ other ∷ mask ∷ []
+operand_types Jump ty n = []
+operand_types Branch ty n = Int 1 ∷ []
+operand_types (Switch width cases) ty n = Int width ∷ []
+operand_types ReturnVoid ty n = []
+operand_types (Return of) ty n = of ∷ []
+operand_types Unreachable ty n = []

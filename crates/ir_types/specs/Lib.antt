@@ -13,12 +13,3 @@ pub mod Collected
 pub mod Used
 pub mod Denotes
 pub mod Reads
-pub mod Values
-pub mod Memory
-pub mod State
-pub mod Meaning
-pub mod Runs
-pub mod Refines
-pub mod Fits
-pub mod Allows
-pub mod First

@@ -66,10 +66,10 @@ pub record TypeNameTree : Type 0 where
   pub name : Name
   pub ty : NamedTree
 
--- what a symbol is defined or declared as: a variable of a type, by its nodes, which may be written or not; or the function at a place
+-- what a symbol is defined or declared as: a variable of a type, by its nodes, which may be written or not; or a function
 pub data SymbolKindTree : Type 0 where
   variable : List TypeNode → Bool → SymbolKindTree
-  function : ℕ → SymbolKindTree
+  function : SymbolKindTree
 
 -- a symbol, with what is kept before and behind a variable's type
 pub record SymbolTree : Type 0 where
@@ -78,7 +78,8 @@ pub record SymbolTree : Type 0 where
   pub before : KeptTexts
   pub after : KeptTexts
 
--- a module. Names of types and symbols that are used, and not defined or declared, stand where they are used, and nowhere else.
+-- a module; of its symbols the variables stand first, and then the functions, in the order of `functions`. Names of types and symbols that are
+-- used, and not defined or declared, stand where they are used, and nowhere else.
 pub record ModuleTree : Type 0 where
   pub head : List KeptTexts
   pub type_names : List TypeNameTree

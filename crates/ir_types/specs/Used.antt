@@ -51,7 +51,7 @@ types_of_definition opaque = []
 -- the names of types that a variable uses
 abbrev pub types_of_symbol : SymbolKindTree → List Name
 types_of_symbol (variable nodes writable) = names_used nodes
-types_of_symbol (function place) = []
+types_of_symbol function = []
 
 -- the names of types that definitions, variables and instructions use
 abbrev pub types_used : ModuleTree → List Name

@@ -1,8 +1,8 @@
 // Copies of modules and of their parts.
 
 use crate::{
-    Actual, Allocation, Block, Callee, Function, Inst, InstKind, MemTy, Module, Operand, Outcome,
-    Param, Signature, Symbol, TypeName, Value,
+    Actual, Block, Callee, Function, Inst, InstKind, MemTy, Module, Operand, Param, Signature,
+    Symbol, TypeName,
 };
 use lists::Copies;
 use std::alloc::AllocError;
@@ -182,37 +182,6 @@ impl Copies for Module {
             symbols: self.symbols.copy()?,
             functions: self.functions.copy()?,
             tail: self.tail.copy()?,
-        })
-    }
-}
-
-impl Copies for Value {
-    fn copy(&self) -> Result<Self, AllocError> {
-        match self {
-            Value::Int(width, number) => Ok(Value::Int(*width, *number)),
-            Value::Ptr(pointer) => Ok(Value::Ptr(*pointer)),
-            Value::Poison => Ok(Value::Poison),
-            Value::Lanes(width, lanes) => Ok(Value::Lanes(*width, lanes.copy()?)),
-        }
-    }
-}
-
-impl Copies for Outcome {
-    fn copy(&self) -> Result<Self, AllocError> {
-        match self {
-            Outcome::Value(value) => Ok(Outcome::Value(value.copy()?)),
-            Outcome::Undefined => Ok(Outcome::Undefined),
-        }
-    }
-}
-
-impl Copies for Allocation {
-    fn copy(&self) -> Result<Self, AllocError> {
-        Ok(Allocation {
-            number: self.number,
-            base: self.base,
-            writable: self.writable,
-            bytes: self.bytes.copy()?,
         })
     }
 }

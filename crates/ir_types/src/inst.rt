@@ -16,7 +16,7 @@ pub enum Ty {
     Void,
 }
 
-/// A binary operator of integers. (LLVM's Language Reference, "Binary Operations" and "Bitwise Binary Operations".)
+/// A binary operator of integers. (LLVM's Language Reference, "Binary Operations", "Bitwise Binary Operations" and "Standard C/C++ Library Intrinsics".)
 #[derive(Clone, Copy, Debug, PartialEq, Eq)]
 pub enum BinOp {
     /// `add`: the sum.
@@ -45,6 +45,14 @@ pub enum BinOp {
     Or,
     /// `xor`: the bits that one alone has.
     Xor,
+    /// The least of two signed numbers. This one and the three behind it are no words of instructions: calls of names such as `llvm.smin.i32` mean them.
+    SMin,
+    /// The greatest of two signed numbers.
+    SMax,
+    /// The least of two unsigned numbers.
+    UMin,
+    /// The greatest of two unsigned numbers.
+    UMax,
 }
 
 /// The flags of a binary operator: where one of these is not kept to, the result is poison.

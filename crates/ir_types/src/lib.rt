@@ -1,5 +1,5 @@
-//! The types of a module of LLVM's textual IR, and in specs/ what they mean: which module a text reads as, how a module runs, and
-//! which other modules it allows.
+//! The types of a module of LLVM's textual IR, and in specs/ what a text says: the tree that it reads as, and the tree that a module
+//! denotes.
 #![tactic(auto)]
 
 mod call;
@@ -9,7 +9,6 @@ mod memory_type;
 mod module;
 mod name;
 mod opcode;
-mod value;
 
 pub use call::{Actual, Callee, Signature, TailKind};
 pub use inst::{BinOp, Flags, Inst, InstKind, Labels, Operand, Operands, Pred, Ty};
@@ -17,4 +16,3 @@ pub use memory_type::{Extent, MemTy, NamedType, TypeId, TypeName};
 pub use module::{Block, FuncId, Function, Kept, Module, Param, Symbol, SymbolKind};
 pub use name::{Name, Names, ValueId};
 pub use opcode::{Extra, ItemWord, Operation, Terminator};
-pub use value::{Allocation, Byte, Outcome, Pointer, Value};

@@ -1,7 +1,7 @@
 use Rattle.std.proofs.Common.{◌≡◌, Bool, true, ◌&&◌, List, map, sym, ap, ◌∙◌}
 use Rattle.ir_types.specs.declared.call.Actual.{Actual}
 use Rattle.ir_types.specs.Denotes.{tables_of}
-use Rattle.ir_rules.specs.Intrinsics.{meant_by}
+use Rattle.ir_intrinsics.specs.Intrinsics.{meant_by}
 use Rattle.ir_rules.specs.Operands.{fit}
 use Rattle.ir_rules.specs.Mismatch.{is_meant_right}
 use Rattle.ir_check_fits.specs.Sites.{locals_at, operand_at}

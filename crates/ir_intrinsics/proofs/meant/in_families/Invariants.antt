@@ -1,6 +1,6 @@
 use Rattle.std.proofs.Common.{◌≡◌, drop, map}
 use Rattle.std.specs.Prelude.{filter_map}
-use Rattle.ir_rules.specs.Breaches.{first}
+use Rattle.ir_intrinsics.specs.Intrinsics.{first}
 use Rattle.ir_intrinsics.specs.Means.{family_in, in_one}
 use Rattle.ir_intrinsics.proofs.meant.in_families.Given as goal
 

@@ -1,6 +1,6 @@
 use Rattle.std.proofs.Common.{◌≡◌, drop, map}
 use Rattle.std.specs.Prelude.{filter_map}
-use Rattle.ir_rules.specs.Breaches.{first}
+use Rattle.ir_intrinsics.specs.Intrinsics.{first}
 use Rattle.ir_intrinsics.specs.Means.{vector_in}
 use Rattle.ir_intrinsics.proofs.written.first_vector.Given as goal
 

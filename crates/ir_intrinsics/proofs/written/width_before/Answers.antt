@@ -1,5 +1,5 @@
 use Rattle.std.proofs.Common.{sym, ◌∙◌}
-use Rattle.ir_rules.specs.Intrinsics.{width_texts}
+use Rattle.ir_intrinsics.specs.Intrinsics.{width_texts}
 use Rattle.ir_intrinsics.proofs.Widths.{width_found, no_width}
 use Rattle.ir_intrinsics.proofs.written.width_before.Goals as goal
 

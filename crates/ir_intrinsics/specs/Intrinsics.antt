@@ -7,15 +7,21 @@ use Rattle.ir_types.specs.declared.name.Name.{Name}
 use Rattle.ir_types.specs.declared.name.Name.TheVariants.{Text, Number}
 use Rattle.ir_types.specs.declared.inst.Ty.{Ty}
 use Rattle.ir_types.specs.declared.inst.Ty.TheVariants.{Int, Ptr, Vector, Void}
+use Rattle.ir_types.specs.declared.inst.BinOp.{BinOp}
+use Rattle.ir_types.specs.declared.inst.BinOp.TheVariants.{Add, Mul, And, Or, Xor, SMin, SMax, UMin, UMax}
 use Rattle.ir_types.specs.Grammar.{bits_for, element_of}
-use Rattle.ir_rules.specs.Breaches.{first}
+
+-- the first of a list
+abbrev pub first : {A : Type 0} → List A → Option A
+first [] = None
+first (x ∷ xs) = Some x
 
 -- the functions with a meaning
 pub data Intrinsic : Type 0 where
-  -- the least or the greatest of two numbers, signed or unsigned
-  minimum_maximum : Intrinsic
-  -- one number from all lanes of a vector
-  reduction : Intrinsic
+  -- the least or the greatest of two numbers, signed or unsigned: this operator of them
+  minimum_maximum : BinOp → Intrinsic
+  -- one number from all lanes of a vector, by this operator
+  reduction : BinOp → Intrinsic
   masked_load : Intrinsic
   masked_store : Intrinsic
   -- where a variable's life begins or ends
@@ -24,19 +30,19 @@ pub data Intrinsic : Type 0 where
 -- how their names begin; behind that stand the types that they are about
 unfoldable pub families : List (List ℕ × Intrinsic)
 families =
-    (codes "llvm.smin.", minimum_maximum) ∷
-    (codes "llvm.smax.", minimum_maximum) ∷
-    (codes "llvm.umin.", minimum_maximum) ∷
-    (codes "llvm.umax.", minimum_maximum) ∷
-    (codes "llvm.vector.reduce.add.", reduction) ∷
-    (codes "llvm.vector.reduce.mul.", reduction) ∷
-    (codes "llvm.vector.reduce.and.", reduction) ∷
-    (codes "llvm.vector.reduce.or.", reduction) ∷
-    (codes "llvm.vector.reduce.xor.", reduction) ∷
-    (codes "llvm.vector.reduce.smin.", reduction) ∷
-    (codes "llvm.vector.reduce.smax.", reduction) ∷
-    (codes "llvm.vector.reduce.umin.", reduction) ∷
-    (codes "llvm.vector.reduce.umax.", reduction) ∷
+    (codes "llvm.smin.", minimum_maximum SMin) ∷
+    (codes "llvm.smax.", minimum_maximum SMax) ∷
+    (codes "llvm.umin.", minimum_maximum UMin) ∷
+    (codes "llvm.umax.", minimum_maximum UMax) ∷
+    (codes "llvm.vector.reduce.add.", reduction Add) ∷
+    (codes "llvm.vector.reduce.mul.", reduction Mul) ∷
+    (codes "llvm.vector.reduce.and.", reduction And) ∷
+    (codes "llvm.vector.reduce.or.", reduction Or) ∷
+    (codes "llvm.vector.reduce.xor.", reduction Xor) ∷
+    (codes "llvm.vector.reduce.smin.", reduction SMin) ∷
+    (codes "llvm.vector.reduce.smax.", reduction SMax) ∷
+    (codes "llvm.vector.reduce.umin.", reduction UMin) ∷
+    (codes "llvm.vector.reduce.umax.", reduction UMax) ∷
     (codes "llvm.masked.load.", masked_load) ∷
     (codes "llvm.masked.store.", masked_store) ∷
     (codes "llvm.lifetime.start.", lifetime) ∷
@@ -95,8 +101,8 @@ any_lifetime = record { intrinsic = lifetime; signature = None }
 
 -- the intrinsic of a family whose name goes on so
 abbrev pub in_family : Intrinsic → List ℕ → Option Meant
-in_family minimum_maximum text = type_written text >>= λ t. Some (meant minimum_maximum t (t ∷ t ∷ []))
-in_family reduction text = vector_before [] text >>= λ t. Some (meant reduction (element_of t) (t ∷ []))
+in_family (minimum_maximum op) text = type_written text >>= λ t. Some (meant (minimum_maximum op) t (t ∷ t ∷ []))
+in_family (reduction op) text = vector_before [] text >>= λ t. Some (meant (reduction op) (element_of t) (t ∷ []))
 in_family masked_load text = vector_before (codes ".p0") text >>= λ t. Some (meant masked_load t (Ptr ∷ Int 32 ∷ bits_for t ∷ t ∷ []))
 in_family masked_store text = vector_before (codes ".p0") text >>= λ t. Some (meant masked_store Void (t ∷ Ptr ∷ Int 32 ∷ bits_for t ∷ []))
 in_family lifetime text = Some any_lifetime

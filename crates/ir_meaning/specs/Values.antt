@@ -4,14 +4,14 @@ use Rattle.std.specs.List.{list_all}
 use Rattle.ir_types.specs.declared.inst.Ty.{Ty}
 use Rattle.ir_types.specs.declared.inst.Ty.TheVariants.{Int as IntTy, Ptr as PtrTy, Vector}
 use Rattle.ir_types.specs.declared.inst.BinOp.{BinOp}
-use Rattle.ir_types.specs.declared.inst.BinOp.TheVariants.{Add}
+use Rattle.ir_types.specs.declared.inst.BinOp.TheVariants.{Add, Sub, Mul, Shl, UDiv, SDiv, URem, SRem, LShr, AShr, And, Or, Xor, SMin, SMax, UMin, UMax}
 use Rattle.ir_types.specs.declared.inst.Flags.{Flags}
 use Rattle.ir_types.specs.declared.inst.Pred.{Pred}
 use Rattle.ir_types.specs.declared.inst.Pred.TheVariants.{Eq, Ne, Ugt, Uge, Ult, Ule, Sgt, Sge, Slt, Sle}
-use Rattle.ir_types.specs.declared.value.Outcome.{Outcome}
-use Rattle.ir_types.specs.declared.value.Outcome.TheVariants.{Value as Result}
-use Rattle.ir_types.specs.declared.value.Value.{Value}
-use Rattle.ir_types.specs.declared.value.Value.TheVariants.{Int, Ptr, Poison, Lanes}
+use Rattle.ir_meaning.specs.declared.value.Outcome.{Outcome}
+use Rattle.ir_meaning.specs.declared.value.Outcome.TheVariants.{Value as Result}
+use Rattle.ir_meaning.specs.declared.value.Value.{Value}
+use Rattle.ir_meaning.specs.declared.value.Value.TheVariants.{Int, Ptr, Poison, Lanes}
 
 -- ---- types of values
 
@@ -60,7 +60,22 @@ has_flag flags = (flags.nuw || flags.nsw) || (flags.exact || flags.disjoint)
 -- the result of a binary operator; none has a meaning yet but `add` without a flag
 abbrev pub combined : BinOp → Flags → Value → Value → Option Outcome
 combined Add flags x y = if has_flag flags then None else Some (Result (of_numbers sum x y))
-combined op flags x y = None
+combined Sub flags x y = None
+combined Mul flags x y = None
+combined Shl flags x y = None
+combined UDiv flags x y = None
+combined SDiv flags x y = None
+combined URem flags x y = None
+combined SRem flags x y = None
+combined LShr flags x y = None
+combined AShr flags x y = None
+combined And flags x y = None
+combined Or flags x y = None
+combined Xor flags x y = None
+combined SMin flags x y = None
+combined SMax flags x y = None
+combined UMin flags x y = None
+combined UMax flags x y = None
 
 -- a number of w bits that is read as signed, moved up by 2^(w-1), so that the least signed number comes to 0
 abbrev pub moved_up : (w x : ℕ) → ℕ

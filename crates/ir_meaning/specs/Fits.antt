@@ -2,9 +2,9 @@
 use Rattle.std.specs.Prelude.{◌≡◌, ◌≢◌, ℕ, ◌+◌, ◌<◌, ◌^◌, ◌⊎◌, Bool, false, IsTrue, List, [], length, AllPairs, Contains, Some, None}
 use Rattle.std.specs.List.{AllByRecursion}
 use Rattle.ir_types.specs.declared.name.Name.{Name}
-use Rattle.ir_types.specs.declared.module.Module.{Module}
-use Rattle.ir_types.specs.declared.value.Allocation.{Allocation}
-use Rattle.ir_types.specs.Memory.{Memory, IsByte}
+use Rattle.ir_types.specs.Tree.{ModuleTree}
+use Rattle.ir_meaning.specs.declared.value.Allocation.{Allocation}
+use Rattle.ir_meaning.specs.Memory.{Memory, IsByte}
 
 -- a variable of a module: its name, its size in bytes, and whether it is constant
 pub record Variable : Type 0 where
@@ -14,7 +14,7 @@ pub record Variable : Type 0 where
 
 -- The variables of a module to which a memory is fitted: none yet, as no instruction with a meaning touches memory. So what is said of memories
 -- that fit, and of allowing, is said of modules without variables, or as if they had none.
-abbrev pub variables_of : Module → List Variable
+abbrev pub variables_of : ModuleTree → List Variable
 variables_of m = []
 
 -- an allocation of bytes that touches neither 0 nor 2^64
@@ -39,7 +39,7 @@ pub record HasVariable (memory : Memory) (v : Variable) : Type 0 where
 
 -- The memory fits the module. Of the module only the variables count, by name, size and whether they are constant. So a memory that
 -- fits a module fits one with more declared functions, whose names have pointers without an allocation like all others.
-pub record Fits (m : Module) (memory : Memory) : Type 0 where
+pub record Fits (m : ModuleTree) (memory : Memory) : Type 0 where
   pub allocations : AllByRecursion IsAllocation memory.allocations
   pub apart : AllPairs AreApart memory.allocations
   pub addresses : (name : Name) → (memory.symbols name).address < 2 ^ 64

@@ -1,10 +1,10 @@
 -- Memories.
 use Rattle.std.specs.Prelude.{ℕ, ◌+◌, ◌<◌, ◌^◌, Bool, true, false, if◌then◌else◌, nat_eq, ◌&&◌, List, [], ◌∷◌, length, Option, Some, None}
 use Rattle.ir_types.specs.declared.name.Name.{Name}
-use Rattle.ir_types.specs.declared.value.Pointer.{Pointer}
-use Rattle.ir_types.specs.declared.value.Byte.{Byte}
-use Rattle.ir_types.specs.declared.value.Byte.TheVariants.{Number, Poison, Part}
-use Rattle.ir_types.specs.declared.value.Allocation.{Allocation}
+use Rattle.ir_meaning.specs.declared.value.Pointer.{Pointer}
+use Rattle.ir_meaning.specs.declared.value.Byte.{Byte}
+use Rattle.ir_meaning.specs.declared.value.Byte.TheVariants.{Number, Poison, Part}
+use Rattle.ir_meaning.specs.declared.value.Allocation.{Allocation}
 
 -- allocations, and for each name the pointer that a symbol of this name stands for
 pub record Memory : Type 0 where

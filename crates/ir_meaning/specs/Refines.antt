@@ -4,16 +4,16 @@ use Rattle.std.specs.Prelude.{◌≡◌, ℕ, ◌<◌, ◌^◌, List, take, drop
 use Rattle.std.specs.List.{AllZip}
 use Rattle.ir_types.specs.declared.name.Name.{Name}
 use Rattle.ir_types.specs.declared.inst.Ty.{Ty}
-use Rattle.ir_types.specs.declared.value.Pointer.{Pointer}
-use Rattle.ir_types.specs.declared.value.Byte.{Byte}
-use Rattle.ir_types.specs.declared.value.Byte.TheVariants.{Poison as PoisonByte, Part}
-use Rattle.ir_types.specs.declared.value.Value.{Value}
-use Rattle.ir_types.specs.declared.value.Value.TheVariants.{Ptr, Poison, Lanes}
-use Rattle.ir_types.specs.declared.value.Allocation.{Allocation}
-use Rattle.ir_types.specs.Values.{HasType, Typed}
-use Rattle.ir_types.specs.Memory.{Memory, IsByte, pointer_of}
-use Rattle.ir_types.specs.State.{Event}
-use Rattle.ir_types.specs.Runs.{Observation, Undefined, Going, Returned}
+use Rattle.ir_meaning.specs.declared.value.Pointer.{Pointer}
+use Rattle.ir_meaning.specs.declared.value.Byte.{Byte}
+use Rattle.ir_meaning.specs.declared.value.Byte.TheVariants.{Poison as PoisonByte, Part}
+use Rattle.ir_meaning.specs.declared.value.Value.{Value}
+use Rattle.ir_meaning.specs.declared.value.Value.TheVariants.{Ptr, Poison, Lanes}
+use Rattle.ir_meaning.specs.declared.value.Allocation.{Allocation}
+use Rattle.ir_meaning.specs.Values.{HasType, Typed}
+use Rattle.ir_meaning.specs.Memory.{Memory, IsByte, pointer_of}
+use Rattle.ir_meaning.specs.State.{Event, Ended}
+use Rattle.ir_meaning.specs.Runs.{Observation, Undefined, Going, Returned}
 
 -- a pointer refines itself, and that of the same address without an allocation
 pub data PointerRefines : Pointer → Pointer → Type 0 where
@@ -72,8 +72,14 @@ pub data ResultRefines : Option Typed → Option Typed → Type 0 where
   no_result : ResultRefines None None
   result : {v w : Typed} → TypedRefines v w → ResultRefines (Some v) (Some w)
 
--- every observation refines that the run is undefined; else both go on, or both have returned, and events, value and memory refine
+-- runs that have returned, with values, memories and events that refine
+pub record EndRefines (here other : Ended) : Type 0 where
+  pub value : ResultRefines here.value other.value
+  pub memory : MemoryRefines here.memory other.memory
+  pub events : AllZip EventRefines here.events other.events
+
+-- every observation refines that the run is undefined; else both go on, with events that refine, or both have returned
 pub data Refines : Observation → Observation → Type 0 where
   of_undefined : {o : Observation} → Refines o Undefined
   going : {es fs : List Event} → AllZip EventRefines es fs → Refines (Going es) (Going fs)
-  returned : {es fs : List Event} {v w : Option Typed} {m n : Memory} → AllZip EventRefines es fs → ResultRefines v w → MemoryRefines m n → Refines (Returned es v m) (Returned fs w n)
+  returned : {e f : Ended} → EndRefines e f → Refines (Returned e) (Returned f)

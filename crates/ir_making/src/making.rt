@@ -2,7 +2,7 @@
 
 ghost use Rattle.std.specs.Prelude.{◌≡◌, ◌∷◌, [], None, false, List, IfOk};
 ghost use Rattle.ir_types.specs.declared.inst.InstKind.TheVariants.{Binary};
-ghost use Rattle.ir_reader_ops.specs.Making.{bare};
+ghost use Rattle.ir_making.specs.Making.{bare};
 
 use ir_types::{BinOp, Flags, Inst, InstKind, Labels, Operand, Operands, Ty, ValueId};
 use lists::{Few, Texts};

@@ -1,0 +1,9 @@
+pub mod Values
+pub mod Memory
+pub mod State
+pub mod Meaning
+pub mod Runs
+pub mod Refines
+pub mod Fits
+pub mod Allows
+pub mod First
