@@ -1,15 +1,10 @@
--- What some text says can be printed where no instruction is wide.
-use Rattle.std.proofs.Common.{◌≡◌, Bool, true, false, List, [], ◌∷◌, map, sym, subst}
+-- What has the shape of a module can be printed where no instruction is wide.
+use Rattle.std.proofs.Common.{◌≡◌, Bool, true, false, List, [], ◌∷◌, sym, subst}
 use Rattle.std.specs.List.{AllByRecursion, AllZip, filter_map}
 use Rattle.ir_types.specs.declared.inst.Ty.{Ty}
-use Rattle.ir_types.specs.declared.module.Block.{Block}
-use Rattle.ir_types.specs.declared.module.Function.{Function}
-use Rattle.ir_types.specs.declared.module.Module.{Module}
-use Rattle.ir_types.specs.declared.name.Name.{Name}
 use Rattle.ir_types.specs.Collected.{as_function}
-use Rattle.ir_types.specs.Denotes.{Tables, tables_of, inst_in, block_in, function_in, tree_of}
 use Rattle.ir_types.specs.Tree.{OperandTree, local, number, null, poison, lanes, global, out_of_range, InstTree, BlockTree, FunctionTree, ModuleTree, Item, head_line, comdat_line, type_item, variable_item, function_item, attribute_line, metadata_line}
-use Rattle.ir_shape.specs.Shape.{IsOperand, IsOperandIn, IsTyped, IsTypedIn, IsReadInst, IsInst, IsBlockOf, IsBlock, IsFunctionOf, IsFunction, IsItemOf, IsItem, IsReadModule, IsModule}
+use Rattle.ir_shape.specs.Shape.{IsOperand, IsOperandIn, IsTyped, IsTypedIn, IsReadInst, IsInst, IsBlockOf, IsBlock, IsFunctionOf, IsFunction, IsItemOf, IsItem, HasShape, IsPrintable}
 use Rattle.ir_shape.specs.Narrow.{IsNarrowInst, IsNarrowBlock, IsNarrowFunction, IsNarrow}
 
 -- ---- instructions
@@ -41,23 +36,17 @@ narrow_inst i h e = record {
   narrow = e;
 }
 
--- ---- trees
-
-abbrev IsNarrowTree : BlockTree → Type 0
-IsNarrowTree b = AllByRecursion (λ (i : InstTree). i.wide ≡ false) b.insts
-
-abbrev AreNarrow : FunctionTree → Type 0
-AreNarrow f = AllByRecursion IsNarrowTree f.body
+-- ---- blocks, functions and items
 
 -- what holds of each by two things that are known of it
-by_both : {A : Type 0} (P Q R : A → Type 0) → ((a : A) → P a → Q a → R a) → (xs : List A) → AllByRecursion P xs → AllByRecursion Q xs → AllByRecursion R xs
+pub by_both : {A : Type 0} (P Q R : A → Type 0) → ((a : A) → P a → Q a → R a) → (xs : List A) → AllByRecursion P xs → AllByRecursion Q xs → AllByRecursion R xs
 by_both P Q R so [] h g = tt
 by_both P Q R so (x ∷ xs) h g = (so x h.0 g.0, by_both P Q R so xs h.1 g.1)
 
-narrow_block : (b : BlockTree) → IsBlockOf IsReadInst b → IsNarrowTree b → IsBlock b
-narrow_block b h n = record { name = h.name; insts = by_both IsReadInst (λ (i : InstTree). i.wide ≡ false) IsInst narrow_inst b.insts h.insts n; ending = h.ending }
+narrow_block : (b : BlockTree) → IsBlockOf IsReadInst b → IsNarrowBlock b → IsBlock b
+narrow_block b h n = record { name = h.name; insts = by_both IsReadInst IsNarrowInst IsInst narrow_inst b.insts h.insts n; ending = h.ending }
 
-narrow_function : (f : FunctionTree) → IsFunctionOf IsReadInst f → AreNarrow f → IsFunction f
+narrow_function : (f : FunctionTree) → IsFunctionOf IsReadInst f → IsNarrowFunction f → IsFunction f
 narrow_function f h n = record {
   name = h.name;
   before = h.before;
@@ -65,10 +54,10 @@ narrow_function f h n = record {
   params = h.params;
   fixed = h.fixed;
   after = h.after;
-  blocks = by_both (IsBlockOf IsReadInst) IsNarrowTree IsBlock narrow_block f.body h.blocks n;
+  blocks = by_both (IsBlockOf IsReadInst) IsNarrowBlock IsBlock narrow_block f.body h.blocks n;
 }
 
-narrow_items : (items : List (Item FunctionTree)) → AllByRecursion (IsItemOf IsReadInst) items → AllByRecursion AreNarrow (filter_map as_function items) → AllByRecursion IsItem items
+narrow_items : (items : List (Item FunctionTree)) → AllByRecursion (IsItemOf IsReadInst) items → AllByRecursion IsNarrowFunction (filter_map as_function items) → AllByRecursion IsItem items
 narrow_items [] h n = tt
 narrow_items (head_line xs ∷ items) h n = (h.0, narrow_items items h.1 n)
 narrow_items (comdat_line xs ∷ items) h n = (h.0, narrow_items items h.1 n)
@@ -80,22 +69,10 @@ narrow_items (metadata_line xs ∷ items) h n = (h.0, narrow_items items h.1 n)
 
 -- ---- modules
 
--- what holds of the images by what is known of each element
-of_images : {A B : Type 0} (P : A → Type 0) (Q : B → Type 0) (f : A → B) → ((a : A) → P a → Q (f a)) → (xs : List A) → AllByRecursion P xs → AllByRecursion Q (map f xs)
-of_images P Q f so [] h = tt
-of_images P Q f so (x ∷ xs) h = (so x h.0, of_images P Q f so xs h.1)
-
-block_tree : (t : Tables) (names : List Name) (b : Block) → IsNarrowBlock b → IsNarrowTree (block_in t names b)
-block_tree t names b h = of_images IsNarrowInst (λ (i : InstTree). i.wide ≡ false) (inst_in t names) (λ i e. e) b.insts h
-
-function_tree : (t : Tables) (f : Function) → IsNarrowFunction f → AreNarrow (function_in t f)
-function_tree t f h = of_images IsNarrowBlock IsNarrowTree (block_in t f.names) (block_tree t f.names) f.body h
-
-pub module_narrow : (m : Module) → IsReadModule (tree_of m) → IsNarrow m → IsModule (tree_of m)
-module_narrow m h n =
-    let trees : AllByRecursion AreNarrow (tree_of m).functions = of_images IsNarrowFunction AreNarrow (function_in (tables_of m)) (function_tree (tables_of m)) m.functions n in
-    record {
-      items = h.items;
-      known = narrow_items h.items h.known (subst (λ (t : ModuleTree). AllByRecursion AreNarrow t.functions) (sym h.says) trees);
-      says = h.says;
-    }
+-- A tree with the shape of a module can be printed where no instruction is wide.
+pub tree_narrow : (m : ModuleTree) → HasShape m → IsNarrow m → IsPrintable m
+tree_narrow m h n = record {
+  items = h.items;
+  known = narrow_items h.items h.known (subst (λ (t : ModuleTree). AllByRecursion IsNarrowFunction t.functions) (sym h.says) n);
+  says = h.says;
+}

@@ -1,9 +1,9 @@
--- In a module whose tree has the shape, each position is one of its list.
-use Rattle.std.proofs.Common.{◌≡◌, ◌+◌, ◌<◌, ◌≤◌, ℕ, zero, suc, Bool, List, [], ◌∷◌, ◌++◌, length, Option, Some, None, ap, ◌∙◌, subst, arith}
+-- In a module each position is one of its list.
+use Rattle.std.proofs.Common.{◌≡◌, ◌+◌, ◌<◌, ◌≤◌, ℕ, zero, suc, Bool, List, [], ◌∷◌, ◌++◌, length, Option, Some, None, sym, subst, zero-add, arith}
 use Rattle.std.specs.Prelude.{map, IfSome}
 use Rattle.std.specs.Option.{option_map}
-use Rattle.std.specs.List.{AllByRecursion, AllZip, filter_map, cons_option}
-use Rattle.std.proofs.lemmas.List.{length-append, length-map}
+use Rattle.std.specs.List.{AllByRecursion, AllZip, filter_map, cons_option, range_with_len}
+use Rattle.std.proofs.lemmas.List.{length-append}
 use Rattle.text_lex.proofs.Lexed.{each_append}
 use Rattle.ir_types.specs.declared.name.Name.{Name}
 use Rattle.ir_types.specs.declared.name.ValueId.{ValueId}
@@ -27,16 +27,15 @@ use Rattle.ir_types.specs.declared.memory_type.MemTy.{MemTy}
 use Rattle.ir_types.specs.declared.memory_type.NamedType.{NamedType}
 use Rattle.ir_types.specs.declared.memory_type.NamedType.TheVariants.{Defined, Opaque, Missing}
 use Rattle.ir_types.specs.declared.memory_type.TypeName.{TypeName}
-use Rattle.ir_types.specs.Denotes.{name_in, Tables, operand_in, kind_in, inst_in, block_in, param_in, function_in, type_names_of, type_name_in, symbol_in, tables_of, tree_of}
-use Rattle.ir_types.specs.Collected.{as_type, as_variable, as_function, of_definition, symbol_of, symbols_from}
+use Rattle.ir_types.specs.Denotes.{name_in, Tables, operand_in, kind_in, inst_in, block_in, param_in, function_in, type_names_of, type_name_in, symbol_in, tables_of, function_place}
+use Rattle.ir_types.specs.Collected.{as_type, as_variable, as_function, of_definition, symbol_of, symbol_of_function}
 use Rattle.ir_types.specs.Names.{name_at}
-use Rattle.ir_types.specs.Types.{AreTypes}
 use Rattle.ir_types.specs.TypeNodes.{TypeNode, nodes_at, nodes_from, all_nodes, type_nodes}
 use Rattle.ir_types.specs.Tree.{FunctionTree, NamedTree, defined, opaque, SymbolKindTree, variable, function, ModuleTree, Item, head_line, comdat_line, type_item, variable_item, function_item, attribute_line, metadata_line}
-use Rattle.ir_types.specs.Reads.{IsReadable}
-use Rattle.ir_shape.specs.Shape.{IsName, IsNameThere, IsOperandIn, IsTypedIn, IsResult, HasParts, IsReadInst, IsBlockOf, IsParam, IsFunctionOf, IsDefinition, IsItemOf, IsReadModule}
+use Rattle.ir_shape.specs.Shape.{IsName, IsNameThere, IsOperandIn, IsTypedIn, IsResult, HasParts, IsReadInst, IsBlockOf, IsParam, IsFunctionOf, IsDefinition, IsItemOf}
+use Rattle.ir_shape.specs.Modules.{IsModule}
 use Rattle.ir_shape.specs.Placed.{IsPlace, IsOperandPlaced, IsInstPlaced, IsKindPlaced, IsBlockPlaced, IsParamPlaced, IsFunctionPlaced, IsNamedPlaced, IsSymbolPlaced, IsPlaced}
-use Rattle.ir_shape.proofs.Known.{readable_known}
+use Rattle.ir_shape.proofs.Narrowed.{by_both}
 use Rattle.ir_shape.proofs.Names.{within_names}
 use Rattle.ir_shape.proofs.Sure.{IsThere}
 
@@ -151,10 +150,10 @@ abbrev HasNode : NamedTree → Type 0
 HasNode (defined nodes) = 0 < length nodes
 HasNode opaque = Unit {0}
 
--- a variable's type has a node, and a function is one of so many
-abbrev HasPlace : ℕ → SymbolKindTree → Type 0
-HasPlace n (variable nodes writable) = 0 < length nodes
-HasPlace n (function i) = i < n
+-- a variable's type has a node
+abbrev HasPlace : SymbolKindTree → Type 0
+HasPlace (variable nodes writable) = 0 < length nodes
+HasPlace function = Unit {0}
 
 definition_known : (t : Option (List TypeNode)) → IsDefinition t → HasNode (of_definition t)
 definition_known None h = tt
@@ -170,19 +169,24 @@ types_known (function_item f ∷ items) h = types_known items h.1
 types_known (attribute_line xs ∷ items) h = types_known items h.1
 types_known (metadata_line xs ∷ items) h = types_known items h.1
 
-variables_known : (n : ℕ) (items : List (Item FunctionTree)) → AllByRecursion (IsItemOf IsReadInst) items → AllByRecursion (λ s. HasPlace n s.kind) (map symbol_of (filter_map as_variable items))
-variables_known n [] h = tt
-variables_known n (head_line xs ∷ items) h = variables_known n items h.1
-variables_known n (comdat_line xs ∷ items) h = variables_known n items h.1
-variables_known n (type_item name t ∷ items) h = variables_known n items h.1
-variables_known n (variable_item v ∷ items) h = (h.0.ty.some, variables_known n items h.1)
-variables_known n (function_item f ∷ items) h = variables_known n items h.1
-variables_known n (attribute_line xs ∷ items) h = variables_known n items h.1
-variables_known n (metadata_line xs ∷ items) h = variables_known n items h.1
+variables_known : (items : List (Item FunctionTree)) → AllByRecursion (IsItemOf IsReadInst) items → AllByRecursion (λ s. HasPlace s.kind) (map symbol_of (filter_map as_variable items))
+variables_known [] h = tt
+variables_known (head_line xs ∷ items) h = variables_known items h.1
+variables_known (comdat_line xs ∷ items) h = variables_known items h.1
+variables_known (type_item name t ∷ items) h = variables_known items h.1
+variables_known (variable_item v ∷ items) h = (h.0.ty.some, variables_known items h.1)
+variables_known (function_item f ∷ items) h = variables_known items h.1
+variables_known (attribute_line xs ∷ items) h = variables_known items h.1
+variables_known (metadata_line xs ∷ items) h = variables_known items h.1
 
-functions_placed : (n i : ℕ) (fs : List FunctionTree) → i + length fs ≤ n → AllByRecursion (λ s. HasPlace n s.kind) (symbols_from i fs)
-functions_placed n i [] le = tt
-functions_placed n i (f ∷ fs) le = (omega arith, functions_placed n (suc i) fs (omega arith))
+functions_placed : (fs : List FunctionTree) → AllByRecursion (λ s. HasPlace s.kind) (map symbol_of_function fs)
+functions_placed [] = tt
+functions_placed (f ∷ fs) = (tt, functions_placed fs)
+
+-- numbers that count on from one are below where they end
+below_end : (a n : ℕ) → AllByRecursion (λ (i : ℕ). i < a + n) (range_with_len a n)
+below_end a zero = tt
+below_end a (suc n) = (omega arith, subst (λ (e : ℕ). AllByRecursion (λ (i : ℕ). i < e) (range_with_len (a + 1) n)) (omega arith) (below_end (a + 1) n))
 
 -- ---- positions in a module
 
@@ -191,24 +195,30 @@ named_placed m n (Defined id) h = type_placed (type_names_of m) m.types id h
 named_placed m n Opaque h = tt
 named_placed m n Missing h = tt
 
-symbol_placed : (m : Module) (s : Symbol) (k : SymbolKind) → IsThere (λ x. HasPlace (length m.functions) x.kind) (symbol_in m (record s { kind = k })) → IsSymbolPlaced m k
-symbol_placed m s (Variable id writable) h = type_placed (type_names_of m) m.types id h
-symbol_placed m s (symbols.Function f) h = h
-symbol_placed m s symbols.Missing h = tt
+-- what is known of a symbol: of a variable by the tree, and of a function by its place
+abbrev IsVariablePlaced : Module → Symbol → Type 0
+IsVariablePlaced m s = IsThere (λ x. HasPlace x.kind) (symbol_in m s)
 
-pub module_placed : (m : Module) → IsReadModule (tree_of m) → AreTypes (type_names_of m) 0 m.types → IsPlaced m
-module_placed m h t =
-    let fs = filter_map as_function h.items in
+abbrev IsPlaceBelow : ℕ → Symbol → Type 0
+IsPlaceBelow n s = IsThere (λ (i : ℕ). i < n) (function_place s)
+
+symbol_placed : (m : Module) (s : Symbol) (k : SymbolKind) → IsVariablePlaced m (record s { kind = k }) → IsPlaceBelow (length m.functions) (record s { kind = k }) → IsSymbolPlaced m k
+symbol_placed m s (Variable id writable) h g = type_placed (type_names_of m) m.types id h
+symbol_placed m s (symbols.Function f) h g = g
+symbol_placed m s symbols.Missing h g = tt
+
+-- In a module each position is one of its list.
+pub module_placed : (m : Module) → IsModule m → IsPlaced m
+module_placed m is =
+    let h = is.shape in
     let n = length m.functions in
-    let as_long : length fs ≡ n = ap (λ (t : ModuleTree). length t.functions) h.says ∙ length-map m.functions (function_in (tables_of m)) in
-    let places = each_append (λ s. HasPlace n s.kind) (map symbol_of (filter_map as_variable h.items)) _ (variables_known n h.items h.known) (functions_placed n 0 fs (omega arith)) in
+    let fs = filter_map as_function h.items in
+    let kinds = each_append (λ s. HasPlace s.kind) (map symbol_of (filter_map as_variable h.items)) _ (variables_known h.items h.known) (functions_placed fs) in
+    let variables = each_there (λ s. HasPlace s.kind) (IsVariablePlaced m) (symbol_in m) (λ s k. k) m.symbols (subst (λ (t : ModuleTree). AllByRecursion (λ s. HasPlace s.kind) t.symbols) h.says kinds) in
+    let places = each_there (λ (i : ℕ). i < n) (IsPlaceBelow n) function_place (λ s k. k) m.symbols (subst (AllByRecursion (λ (i : ℕ). i < n)) (sym is.denotes.functions) (subst (λ (e : ℕ). AllByRecursion (λ (i : ℕ). i < e) (range_with_len 0 n)) (zero-add n) (below_end 0 n))) in
     record {
       functions = each (IsFunctionOf IsReadInst) (IsFunctionPlaced (tables_of m)) (function_in (tables_of m)) (function_placed (tables_of m)) m.functions (subst (λ (t : ModuleTree). AllByRecursion (IsFunctionOf IsReadInst) t.functions) h.says (functions_known h.items h.known));
-      types = t;
+      types = is.denotes.types;
       named = each_there (λ t. HasNode t.ty) (λ (n : TypeName). IsNamedPlaced m.types n.ty) (type_name_in m) (λ n. named_placed m n.name n.ty) m.type_names (subst (λ (t : ModuleTree). AllByRecursion (λ n. HasNode n.ty) t.type_names) h.says (types_known h.items h.known));
-      symbols = each_there (λ s. HasPlace n s.kind) (λ (s : Symbol). IsSymbolPlaced m s.kind) (symbol_in m) (λ s. symbol_placed m s s.kind) m.symbols (subst (λ (t : ModuleTree). AllByRecursion (λ s. HasPlace n s.kind) t.symbols) h.says places);
+      symbols = by_both (IsVariablePlaced m) (IsPlaceBelow n) (λ (s : Symbol). IsSymbolPlaced m s.kind) (λ s. symbol_placed m s s.kind) m.symbols variables places;
     }
-
--- In a module that some text reads as, each position is one of its list.
-pub readable_placed : (m : Module) → IsReadable m → IsPlaced m
-readable_placed m r = module_placed m (readable_known m r) r.1.denotes.types
