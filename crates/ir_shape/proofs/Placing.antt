@@ -27,12 +27,12 @@ use Rattle.ir_types.specs.declared.memory_type.MemTy.{MemTy}
 use Rattle.ir_types.specs.declared.memory_type.NamedType.{NamedType}
 use Rattle.ir_types.specs.declared.memory_type.NamedType.TheVariants.{Defined, Opaque, Missing}
 use Rattle.ir_types.specs.declared.memory_type.TypeName.{TypeName}
-use Rattle.ir_types.specs.Denotes.{name_in, Tables, operand_in, kind_in, inst_in, block_in, param_in, function_in, type_names_of, type_name_in, symbol_in, tables_of, function_place}
+use Rattle.ir_types.specs.Denotes.{name_in, Tables, operand_in, kind_in, inst_in, block_in, param_in, function_in, type_names_of, type_name_in, symbol_in, tables_of, tree_of, function_place}
 use Rattle.ir_types.specs.Collected.{as_type, as_variable, as_function, of_definition, symbol_of, symbol_of_function}
 use Rattle.ir_types.specs.Names.{name_at}
 use Rattle.ir_types.specs.TypeNodes.{TypeNode, nodes_at, nodes_from, all_nodes, type_nodes}
 use Rattle.ir_types.specs.Tree.{FunctionTree, NamedTree, defined, opaque, SymbolKindTree, variable, function, ModuleTree, Item, head_line, comdat_line, type_item, variable_item, function_item, attribute_line, metadata_line}
-use Rattle.ir_shape.specs.Shape.{IsName, IsNameThere, IsOperandIn, IsTypedIn, IsResult, HasParts, IsReadInst, IsBlockOf, IsParam, IsFunctionOf, IsDefinition, IsItemOf}
+use Rattle.ir_shape.specs.Shape.{IsName, IsNameThere, IsOperandIn, IsTypedIn, IsResult, HasParts, IsReadInst, IsBlockOf, IsParam, IsFunctionOf, IsDefinition, IsItemOf, HasShape}
 use Rattle.ir_shape.specs.Modules.{IsModule}
 use Rattle.ir_shape.specs.Placed.{IsPlace, IsOperandPlaced, IsInstPlaced, IsKindPlaced, IsBlockPlaced, IsParamPlaced, IsFunctionPlaced, IsNamedPlaced, IsSymbolPlaced, IsPlaced}
 use Rattle.ir_shape.proofs.Narrowed.{by_both}
@@ -145,6 +145,10 @@ functions_known (function_item f ∷ items) h = (h.0, functions_known items h.1)
 functions_known (attribute_line xs ∷ items) h = functions_known items h.1
 functions_known (metadata_line xs ∷ items) h = functions_known items h.1
 
+-- the functions of a tree with the shape of a module have that of a function
+pub shaped_functions : (m : ModuleTree) → HasShape m → AllByRecursion (IsFunctionOf IsReadInst) m.functions
+shaped_functions m h = subst (λ (t : ModuleTree). AllByRecursion (IsFunctionOf IsReadInst) t.functions) h.says (functions_known h.items h.known)
+
 -- what is defined has a node
 abbrev HasNode : NamedTree → Type 0
 HasNode (defined nodes) = 0 < length nodes
@@ -217,7 +221,7 @@ module_placed m is =
     let variables = each_there (λ s. HasPlace s.kind) (IsVariablePlaced m) (symbol_in m) (λ s k. k) m.symbols (subst (λ (t : ModuleTree). AllByRecursion (λ s. HasPlace s.kind) t.symbols) h.says kinds) in
     let places = each_there (λ (i : ℕ). i < n) (IsPlaceBelow n) function_place (λ s k. k) m.symbols (subst (AllByRecursion (λ (i : ℕ). i < n)) (sym is.denotes.functions) (subst (λ (e : ℕ). AllByRecursion (λ (i : ℕ). i < e) (range_with_len 0 n)) (zero-add n) (below_end 0 n))) in
     record {
-      functions = each (IsFunctionOf IsReadInst) (IsFunctionPlaced (tables_of m)) (function_in (tables_of m)) (function_placed (tables_of m)) m.functions (subst (λ (t : ModuleTree). AllByRecursion (IsFunctionOf IsReadInst) t.functions) h.says (functions_known h.items h.known));
+      functions = each (IsFunctionOf IsReadInst) (IsFunctionPlaced (tables_of m)) (function_in (tables_of m)) (function_placed (tables_of m)) m.functions (shaped_functions (tree_of m) h);
       types = is.denotes.types;
       named = each_there (λ t. HasNode t.ty) (λ (n : TypeName). IsNamedPlaced m.types n.ty) (type_name_in m) (λ n. named_placed m n.name n.ty) m.type_names (subst (λ (t : ModuleTree). AllByRecursion (λ n. HasNode n.ty) t.type_names) h.says (types_known h.items h.known));
       symbols = by_both (IsVariablePlaced m) (IsPlaceBelow n) (λ (s : Symbol). IsSymbolPlaced m s.kind) (λ s. symbol_placed m s s.kind) m.symbols variables places;

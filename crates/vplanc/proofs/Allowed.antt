@@ -1,22 +1,18 @@
--- What is printed of a file is what the file's module allows.
-use Rattle.std.proofs.Common.{◌≡◌, ◌+◌, ◌≤◌, ℕ, List, ◌++◌, IfSome, arith}
+-- What is printed of a file is what the file's tree allows.
+use Rattle.std.proofs.Common.{◌+◌, ◌≤◌, ℕ, List, ◌++◌, IfSome, arith}
 use Rattle.std.specs.declared.option.Option.{Option}
 use Rattle.std.specs.declared.option.Option.TheVariants.{None, Some}
-use Rattle.ir_types.specs.declared.module.Module.{Module}
-use Rattle.ir_types.specs.Allows.{Allows, factor_of}
-use Rattle.ir_types.specs.Reads.{Reads, SameModule}
-use Rattle.ir_shape.proofs.Placing.{readable_placed}
-use Rattle.ir_laws.proofs.Composed.{allowing-grows}
-use Rattle.ir_laws.proofs.AlikeAllows.{allowed}
-use Rattle.ir_laws.proofs.Readings.{one_reading, reads-too}
+use Rattle.ir_types.specs.Tree.{ModuleTree}
+use Rattle.ir_meaning.specs.Allows.{Allows, factor_of}
+use Rattle.ir_run_laws.proofs.Composed.{allowing-grows}
+use Rattle.ir_run_laws.proofs.Composed.{allows-itself}
 use Rattle.vplanc.specs.declared.answer.Status.{Status}
 use Rattle.vplanc.specs.declared.answer.Status.TheVariants.{Done, BadWords, Text, Check, ReadFault, WriteFault, Memory}
 use Rattle.vplanc.specs.Answers.{TookAll, OutHolds, OutLeft, IsAllowed, TookAllowed, AllowedLeft}
 
--- two texts that read as one module allow whatever modules they read as
-text-allows : (text printed : List ℕ) (meant m n : Module) → Reads text meant → Reads printed meant → Reads text m → Reads printed n → Allows m n (factor_of n)
-text-allows text printed meant m n a b r s =
-    allowing-grows m n 1 (factor_of n) (omega arith) (allowed m n (readable_placed m (text, r)) (readable_placed n (printed, s)) (one_reading text m n r (reads-too text meant n a (one_reading printed meant n b s))))
+-- a tree allows itself with the factor of a printed one
+tree-allows : (tree : ModuleTree) → Allows tree tree (factor_of tree)
+tree-allows tree = allowing-grows tree tree 1 (factor_of tree) (omega arith) (allows-itself tree)
 
 took-allowed : (told before now : Option (List ℕ)) → TookAll told before now → TookAllowed told before now
 took-allowed None before now t = tt
@@ -25,11 +21,7 @@ took-allowed (Some text) (Some old) now t =
     let p = t.is_printed in (
       t.printed,
       t.taken,
-      record {
-        file_reads = (p.meant, p.file_reads.2.reads);
-        print_reads = (p.meant, p.text_reads);
-        allows = λ m n first r s. text-allows text t.printed p.meant m n p.file_reads.2.reads p.text_reads r s;
-      },
+      record { file = p.meant; print = p.meant; file_reads = p.file_reads.2.reads; print_reads = p.print_reads; allows = λ first. tree-allows p.meant },
     )
 
 -- the same for any words

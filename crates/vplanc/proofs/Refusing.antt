@@ -15,15 +15,14 @@ use Rattle.text_lex.specs.declared.fault.Count.{Count}
 use Rattle.text_lex.specs.Fault.{IsLeftOutAt, HasNoneLeftOut}
 use Rattle.text_lex.proofs.Unique.{lexes_unique, stops_lexes}
 use Rattle.ir_limits.specs.Limits.{limit_passed}
-use Rattle.ir_types.specs.declared.module.Module.{Module}
-use Rattle.ir_types.specs.Denotes.{tree_of}
+use Rattle.ir_types.specs.Tree.{ModuleTree}
 use Rattle.ir_rules.specs.declared.fault.Rule.{Rule}
 use Rattle.ir_rules.specs.declared.fault.Breach.{Breach}
 use Rattle.ir_rules.specs.declared.fault.CheckFault.{CheckFault}
 use Rattle.ir_rules.specs.declared.fault.CheckFault.TheVariants.{Broken, Memory as CheckMemory}
 use Rattle.ir_rules.specs.WellFormed.{KeepsRules, Cause as BreachCause}
 use Rattle.ir_check.proofs.Causes.{verdict}
-use Rattle.ir_laws.proofs.Readings.{one_numbering, one_reading}
+use Rattle.ir_text_laws.proofs.Readings.{one_numbering, one_reading}
 use Rattle.ir_reader.specs.Refusal.{IsRefusal}
 use Rattle.vplanc.specs.declared.answer.Which.TheVariants.{Module as TheModule, Out}
 use Rattle.vplanc.specs.declared.answer.Status.{Status}
@@ -78,7 +77,7 @@ not-over text ok count n r =
 not-broken : (text : List ℕ) → IsAccepted text → (rule : Rule) (names : List ℕ) (place : ℕ) → IsBroken text rule names place → ⊥
 not-broken text ok rule names place b =
     let same = one_reading text ok.meant b.read_as ok.reads.reads b.reads.reads in
-    verdict (tree_of b.read_as) rule b.breach (subst KeepsRules (same.first.says ∙ sym same.second.says) ok.keeps) b.cause
+    verdict b.read_as rule b.breach (subst KeepsRules same ok.keeps) b.cause
 
 -- an accepted file, with no fault, is printed, or memory is short
 accepted-done : (text : List ℕ) (before now last out_before out_now : ℕ) (status : Status) → FileCause (Some text) before now last status → WriteCause out_before out_now status → IsAccepted text → ¬ Rose before now → ¬ Rose out_before out_now → (status ≡ Done) ⊎ (status ≡ Memory)
@@ -106,14 +105,14 @@ pub completes : (command : Option (List ℕ)) (told : List ℕ → Option (List 
 completes None told before now l ob on status cause write = tt
 completes (Some file) told before now l ob on status cause write = file-completes (told file) (before file) (now file) l ob on status cause write
 
--- ---- a module that breaks a rule
+-- ---- a tree that breaks a rule
 
--- the module that a file reads as breaks a rule, and that is the answer
-broken-text : (told : Option (List ℕ)) (m : Module) (rule : Rule) (breach : Breach) → IsMeant told m → BreachCause (tree_of m) (Broken rule breach) → IfSome told (λ text. IsBroken text rule (breach_text breach) breach.place)
+-- the tree that a file reads as breaks a rule, and that is the answer
+broken-text : (told : Option (List ℕ)) (m : ModuleTree) (rule : Rule) (breach : Breach) → IsMeant told m → BreachCause m (Broken rule breach) → IfSome told (λ text. IsBroken text rule (breach_text breach) breach.place)
 broken-text None m rule breach meant cause = tt
 broken-text (Some text) m rule breach meant cause = record { nothing_left_out = meant.1; read_as = m; reads = meant.2; breach = breach; cause = cause; names_are = refl; place_is = refl }
 
-pub refused-module : (told : Option (List ℕ)) (before now last : ℕ) (m : Module) (fault : CheckFault) (s : Status) → IsMeant told m → last ≤ longest → BreachCause (tree_of m) fault → IsCheckStatus fault s → IsBeforeOut s × FileCause told before now last s
-refused-module told b n last m (Broken rule breach) s meant short cause (inl is) = subst (λ x. IsBeforeOut x × FileCause told b n last x) (sym is) (tt, (short, broken-text told m rule breach meant cause))
-refused-module told b n last m (Broken rule breach) s meant short cause (inr is) = subst (λ x. IsBeforeOut x × FileCause told b n last x) (sym is) (tt, tt)
-refused-module told b n last m CheckMemory s meant short cause is = subst (λ x. IsBeforeOut x × FileCause told b n last x) (sym is) (tt, tt)
+pub refused-tree : (told : Option (List ℕ)) (before now last : ℕ) (m : ModuleTree) (fault : CheckFault) (s : Status) → IsMeant told m → last ≤ longest → BreachCause m fault → IsCheckStatus fault s → IsBeforeOut s × FileCause told before now last s
+refused-tree told b n last m (Broken rule breach) s meant short cause (inl is) = subst (λ x. IsBeforeOut x × FileCause told b n last x) (sym is) (tt, (short, broken-text told m rule breach meant cause))
+refused-tree told b n last m (Broken rule breach) s meant short cause (inr is) = subst (λ x. IsBeforeOut x × FileCause told b n last x) (sym is) (tt, tt)
+refused-tree told b n last m CheckMemory s meant short cause is = subst (λ x. IsBeforeOut x × FileCause told b n last x) (sym is) (tt, tt)

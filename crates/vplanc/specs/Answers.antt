@@ -6,18 +6,16 @@ use Rattle.std.specs.declared.option.Option.TheVariants.{None, Some}
 use Rattle.vplan_io.specs.Causes.{Rose, longest, and_then}
 use Rattle.vplan_io.specs.declared.LoadFault.{LoadFault}
 use Rattle.vplan_io.specs.declared.LoadFault.TheVariants.{Failed as LoadFailed, TooLong, Memory as LoadMemory}
-use Rattle.text_lex.specs.Layout.{text_of}
 use Rattle.text_lex.specs.declared.fault.TextFault.{TextFault}
 use Rattle.text_lex.specs.declared.fault.TextFault.TheVariants.{BadToken, LeftOut, TextLimit, NoReading, CountLimit, Memory as TextMemory}
 use Rattle.text_lex.specs.declared.fault.Count.{Count}
 use Rattle.text_lex.specs.declared.fault.Count.TheVariants.{Functions, Blocks, Instructions, Name as NameBytes}
 use Rattle.text_lex.specs.Fault.{HasNoneLeftOut}
-use Rattle.ir_types.specs.declared.module.Module.{Module}
 use Rattle.ir_types.specs.declared.name.Name.{Name}
-use Rattle.ir_types.specs.Denotes.{tree_of}
 use Rattle.ir_types.specs.Reads.{Reads}
-use Rattle.ir_types.specs.Allows.{Allows, factor_of}
-use Rattle.ir_types.specs.First.{HasMeaning}
+use Rattle.ir_types.specs.Tree.{ModuleTree}
+use Rattle.ir_meaning.specs.Allows.{Allows, factor_of}
+use Rattle.ir_meaning.specs.First.{HasMeaning}
 use Rattle.type_printer.specs.Texts.{name_text}
 use Rattle.ir_rules.specs.declared.fault.Rule.{Rule}
 use Rattle.ir_rules.specs.declared.fault.Rule.TheVariants as rules
@@ -28,7 +26,6 @@ use Rattle.ir_rules.specs.declared.fault.CheckFault.{CheckFault}
 use Rattle.ir_rules.specs.declared.fault.CheckFault.TheVariants.{Broken, Memory as CheckMemory}
 use Rattle.ir_rules.specs.WellFormed.{KeepsRules, Cause as BreachCause}
 use Rattle.ir_reader.specs.Refusal.{IsRefusal, IsWithinLimits}
-use Rattle.ir_printer.specs.Print.{module_pieces}
 use Rattle.vplanc.specs.declared.answer.Which.{Which}
 use Rattle.vplanc.specs.declared.answer.Which.TheVariants.{Module as TheModule, Out}
 use Rattle.vplanc.specs.declared.answer.Status.{Status}
@@ -117,25 +114,25 @@ line_of (ReadFault which) = line (codes "read fault: " ++ name_of which)
 line_of (WriteFault which) = line (codes "write fault: " ++ name_of which)
 line_of Memory = line (codes "memory")
 
--- a text within the limit that has no token that is left out, and reads as a well-formed module within the limits
+-- a text within the limit that has no token that is left out, and reads as a tree within the limits that breaks no rule
 pub record IsAccepted (text : List ℕ) : Type 0 where
   pub short : length text ≤ longest
   pub nothing_left_out : HasNoneLeftOut text
-  pub meant : Module
+  pub meant : ModuleTree
   pub reads : IsWithinLimits text meant
-  pub keeps : KeepsRules (tree_of meant)
+  pub keeps : KeepsRules meant
 
--- the module that the file reads as, where the file is told
-abbrev pub IsMeant : Option (List ℕ) → Module → Type 0
-IsMeant told m = IfSome told (λ text. (length text ≤ longest) × HasNoneLeftOut text × IsWithinLimits text m)
+-- the tree that the file reads as, where the file is told
+abbrev pub IsMeant : Option (List ℕ) → ModuleTree → Type 0
+IsMeant told tree = IfSome told (λ text. (length text ≤ longest) × HasNoneLeftOut text × IsWithinLimits text tree)
 
--- the text reads as a module that breaks this rule first, in this function, of this name, and at this place
+-- the text reads as a tree that breaks this rule first, in this function, of this name, and at this place
 pub record IsBroken (text : List ℕ) (rule : Rule) (names : List ℕ) (place : ℕ) : Type 0 where
   pub nothing_left_out : HasNoneLeftOut text
-  pub read_as : Module
+  pub read_as : ModuleTree
   pub reads : IsWithinLimits text read_as
   pub breach : Breach
-  pub cause : BreachCause (tree_of read_as) (Broken rule breach)
+  pub cause : BreachCause read_as (Broken rule breach)
   pub names_are : names ≡ breach_text breach
   pub place_is : place ≡ breach.place
 
@@ -144,13 +141,12 @@ abbrev pub IsCheckStatus : CheckFault → Status → Type 0
 IsCheckStatus (Broken rule breach) status = (status ≡ Check rule (breach_text breach) breach.place) ⊎ (status ≡ Memory)
 IsCheckStatus CheckMemory status = status ≡ Memory
 
--- what is printed of a file: the text of a well-formed module that the file reads as, which reads as that module too
+-- what is printed of a file: a text that reads as the tree that the file reads as, which breaks no rule
 pub record IsPrinted (told : Option (List ℕ)) (printed : List ℕ) : Type 0 where
-  pub meant : Module
+  pub meant : ModuleTree
   pub file_reads : IsMeant told meant
-  pub keeps : KeepsRules (tree_of meant)
-  pub text_reads : Reads printed meant
-  pub exact : printed ≡ text_of (module_pieces meant)
+  pub keeps : KeepsRules meant
+  pub print_reads : Reads printed meant
 
 -- The causes of the answers that speak of the file: what is told of it, its count of faults before and now, and the last load's length.
 abbrev pub FileCause : Option (List ℕ) → (before now last : ℕ) → Status → Type 0
@@ -243,12 +239,15 @@ abbrev pub OutLeft : Option (List ℕ) → (List ℕ → Option (List ℕ)) → 
 OutLeft None told before now status = now ≡ before
 OutLeft (Some file) told before now status = OutHolds (told file) before now status
 
--- Of a file's text and what was printed of it: both read as a module, and whichever modules these are, the first, where it is of i1 and i32
--- alone and has no variable, allows the second, with one more than the number of the second's instructions as the factor.
+-- Of a file's text and what was printed of it: the file reads as a tree, the print reads as a tree, and the first, where it is of i1 and i32
+-- alone and has no variable, allows the second, with one more than the number of the second's instructions as the factor. (A text reads as
+-- one tree at most.)
 pub record IsAllowed (text printed : List ℕ) : Type 0 where
-  pub file_reads : (m : Module) × Reads text m
-  pub print_reads : (n : Module) × Reads printed n
-  pub allows : (m n : Module) → HasMeaning m → Reads text m → Reads printed n → Allows m n (factor_of n)
+  pub file : ModuleTree
+  pub print : ModuleTree
+  pub file_reads : Reads text file
+  pub print_reads : Reads printed print
+  pub allows : HasMeaning file → Allows file print (factor_of print)
 
 -- where the file and `out` are told, `out` took a text that the file's allows
 abbrev pub TookAllowed : (told before now : Option (List ℕ)) → Type 0

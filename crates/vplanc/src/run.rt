@@ -2,7 +2,8 @@
 
 ghost use Rattle.std.specs.Prelude.{◌≡◌, ◌≤◌, ◌↔◌, ℕ, List, None, map, take, string_bytes, IfOk, OnOk, IfErr};
 ghost use Rattle.vplan_io.specs.Causes.{Rose, longest, and_then};
-ghost use Rattle.ir_types.specs.Reads.{Reads, IsReadable};
+ghost use Rattle.ir_types.specs.Denotes.{tree_of};
+ghost use Rattle.ir_shape.specs.Modules.{IsModule};
 ghost use Rattle.vplanc.specs.declared.answer.Status.TheVariants.{Done, BadWords};
 ghost use Rattle.vplanc.specs.Words.{command_of};
 ghost use Rattle.vplanc.specs.Answers.{Cause, FileCause, WriteCause, OutHolds, OutLeft, IsMeant, IsPrinted, IsAccepted, IsBeforeOut, AllowedLeft, Delivered, Completes, line_of};
@@ -22,8 +23,8 @@ use vplan_io::{Files, Sink, put_text};
 fn module_in<F: Files>(alloc: Global, file: &str, files: &mut F) -> Result<Module, Status>
     ensures told { F.told files.new ≡ F.told files.old }
     ensures later { (name : List ℕ) → F.faults files.old name ≤ F.faults files.new name }
-    ensures meant { IfOk result (IsMeant (F.told files.old file.now)) }
-    ensures readable { IfOk result (λ m. IsReadable m) }
+    ensures meant { IfOk result (λ m. IsMeant (F.told files.old file.now) (tree_of m)) }
+    ensures is_module { IfOk result IsModule }
     ensures short { OnOk result (F.last files.new ≤ longest) }
     ensures refused { IfErr result (λ s. IsBeforeOut s × FileCause (F.told files.old file.now) (F.faults files.old file.now) (F.faults files.new file.now) (F.last files.new) s) }
 {
@@ -36,7 +37,7 @@ fn module_in<F: Files>(alloc: Global, file: &str, files: &mut F) -> Result<Modul
 fn checked_in<F: Files>(alloc: Global, file: &str, files: &mut F) -> Result<Checked, Status>
     ensures told { F.told files.new ≡ F.told files.old }
     ensures later { (name : List ℕ) → F.faults files.old name ≤ F.faults files.new name }
-    ensures meant { IfOk result (IsMeant (F.told files.old file.now)) }
+    ensures meant { IfOk result (λ m. IsMeant (F.told files.old file.now) (tree_of m)) }
     ensures short { OnOk result (F.last files.new ≤ longest) }
     ensures refused { IfErr result (λ s. IsBeforeOut s × FileCause (F.told files.old file.now) (F.faults files.old file.now) (F.faults files.new file.now) (F.last files.new) s) }
 {
@@ -121,8 +122,8 @@ pub fn run<F: Files, O: Sink, N: Sink>(
     ensures write { WriteCause (O.faults out.old) (O.faults out.new) result }
     ensures complete { Completes (command_of (map string_bytes words.now)) (F.told files.old) (λ name. Rose (F.faults files.old name) (F.faults files.new name)) (Rose (O.faults out.old) (O.faults out.new)) result }
 
-    // What the sinks took. Before `out` has its turn it is as it was, and so are the notes where all is done. Where all is done, the module
-    // that the file reads as allows the module that `out` took.
+    // What the sinks took. Before `out` has its turn it is as it was, and so are the notes where all is done. Where all is done, the file
+    // reads as a tree, what `out` took reads as a tree, and the first allows the second.
     ensures out { OutLeft (command_of (map string_bytes words.now)) (F.told files.old) (O.taken out.old) (O.taken out.new) result }
     ensures allowed { AllowedLeft (command_of (map string_bytes words.now)) (F.told files.old) (O.taken out.old) (O.taken out.new) result }
     ensures untouched { IsBeforeOut result → out.new ≡ out.old }
