@@ -415,7 +415,7 @@ two_values = pair value (after_mark Comma value)
 
 -- two values with the type of both
 abbrev pub both_at : Definitions → Ty × (WrittenValue × WrittenValue) → Option (Ty × (OperandTree × OperandTree))
-both_at defs x = operand_at defs x.0 x.1.0 >>= λ a. operand_at defs x.0 x.1.1 >>= λ b. Some (x.0, (a, b))
+both_at ds x = operand_at ds x.0 x.1.0 >>= λ a. operand_at ds x.0 x.1.1 >>= λ b. Some (x.0, (a, b))
 
 -- T V, V
 unfoldable pub typed_pair : Definitions → Form (Ty × (OperandTree × OperandTree))
@@ -574,7 +574,7 @@ entry_of_phi = between LeftBracket RightBracket (pair value (after_mark Comma lo
 -- the operands of a phi's entries at its type
 abbrev pub entries_at : Definitions → Ty → List (WrittenValue × Name) → Option (List OperandTree)
 entries_at defs t [] = Some []
-entries_at defs t (e ∷ es) = operand_at defs t e.0 >>= λ a. entries_at defs t es >>= λ more. Some (a ∷ more)
+entries_at defs t (e ∷ es) = operand_at defs t e.0 >>= λ a. entries_at defs t es >>= λ bs. Some (a ∷ bs)
 
 -- a phi: its operands at its type, and a label for each
 abbrev pub phi_tree : Definitions → Ty × List (WrittenValue × Name) → Option InstTree
