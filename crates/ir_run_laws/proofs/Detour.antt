@@ -1,5 +1,5 @@
 -- A block put before another is allowed at a toll, by a simulation that owes the other's entry.
-use Rattle.std.proofs.Common.{◌≡◌, ℕ, zero, suc, ◌+◌, ◌*◌, ◌≤◌, ◌<◌, Bool, true, false, cond, IsFalse, if◌then◌else◌, ◌&&◌, List, [], ◌∷◌, Some, None, codes, refl, ap, sym, ◌∙◌, subst, replicate, inl, true≢false, arith, bytes_eq, Contains}
+use Rattle.std.proofs.Common.{◌≡◌, ℕ, zero, suc, ◌+◌, ◌*◌, ◌≤◌, Bool, true, false, cond, IsFalse, if◌then◌else◌, ◌&&◌, List, [], ◌∷◌, Some, None, codes, refl, ap, sym, ◌∙◌, subst, replicate, inl, true≢false, arith, bytes_eq, Contains}
 use Rattle.std.proofs.lemmas.List.{length-replicate}
 use Rattle.std.proofs.lemmas.Slice.Eq.{bytes_eq-Decides}
 use Rattle.ir_types.specs.declared.name.Name.{Name}
@@ -9,7 +9,7 @@ use Rattle.ir_types.specs.Tree.{number, BlockTree, FunctionTree}
 use Rattle.ir_making.specs.Trees.{f, jump, ret, block, function_named}
 use Rattle.ir_meaning.specs.declared.value.Value.{Value}
 use Rattle.ir_meaning.specs.Memory.{Memory}
-use Rattle.ir_meaning.specs.State.{World, Ended, State, Live, Over, no_values}
+use Rattle.ir_meaning.specs.State.{World, Ended, State, Over, no_values}
 use Rattle.ir_meaning.specs.Meaning.{step, start, function_of}
 use Rattle.ir_meaning.specs.Runs.{run, seen, observed}
 use Rattle.ir_meaning.specs.Refines.{Refines}

@@ -4,14 +4,13 @@ use Rattle.std.proofs.lemmas.Bool.{eq-eqb, lt-ltb}
 use Rattle.std.proofs.lemmas.Nat.{mod_below, pow_pos}
 use Rattle.std.specs.List.{AllZip}
 use Rattle.ir_types.specs.declared.name.Name.{Name}
-use Rattle.ir_types.specs.declared.call.Callee.{Callee}
 use Rattle.ir_types.specs.declared.inst.Ty.{Ty}
 use Rattle.ir_types.specs.declared.inst.Ty.TheVariants.{Int as IntTy, Ptr as PtrTy, Vector, Void}
 use Rattle.ir_types.specs.declared.inst.BinOp.{BinOp}
 use Rattle.ir_types.specs.declared.inst.BinOp.TheVariants.{Add}
 use Rattle.ir_types.specs.declared.inst.Flags.{Flags}
 use Rattle.ir_types.specs.declared.inst.Pred.{Pred}
-use Rattle.ir_types.specs.Kinds.{Kind, Binary, Compare, Phi, Call, Jump, Branch, Return, ReturnVoid, operand_types, actual_types}
+use Rattle.ir_types.specs.Kinds.{Kind, Binary, Compare, Call, Jump, Branch, Return, ReturnVoid, operand_types, actual_types}
 use Rattle.ir_types.specs.Tree.{ModuleTree}
 use Rattle.ir_intrinsics.specs.Intrinsics.{meant_by}
 use Rattle.ir_meaning.specs.declared.value.Outcome.TheVariants.{Value as Result}
@@ -19,9 +18,9 @@ use Rattle.ir_meaning.specs.declared.value.Value.{Value}
 use Rattle.ir_meaning.specs.declared.value.Value.TheVariants.{Int, Ptr, Poison, Lanes}
 use Rattle.ir_meaning.specs.Values.{HasType, Typed, of_numbers, sum, has_flag, holds, truth}
 use Rattle.ir_meaning.specs.Memory.{Memory}
-use Rattle.ir_meaning.specs.Meaning.{gives, Calls, Waits, effect_of, branched, with_types, called}
+use Rattle.ir_meaning.specs.Meaning.{gives, Calls, Waits, effect_of, branched, with_types}
 use Rattle.ir_meaning.specs.Refines.{ValueRefines, same_value, of_poison, of_pointer, of_lanes, MemoryRefines, TypedRefines, no_result, result as a_result}
-use Rattle.ir_run_laws.specs.Respect.{OperandsRefine, result_type, CallRefines, given, EffectRefines, passes, goes, calls, leaves, of_fails, waits}
+use Rattle.ir_run_laws.specs.Respect.{OperandsRefine, result_type, given, EffectRefines, passes, goes, calls, leaves, of_fails, waits}
 
 -- a relation of two lists
 abbrev Between : Type 1

@@ -1,5 +1,5 @@
 -- Small modules, to try the definitions on.
-use Rattle.std.specs.Prelude.{true, ◌≡◌, ℕ, ◌+◌, codes, List, [], ◌∷◌, map, Option, Some, None}
+use Rattle.std.specs.Prelude.{true, ◌≡◌, ℕ, ◌+◌, codes, List, [], ◌∷◌, map, Option, Some}
 use Rattle.ir_types.specs.declared.name.Name.{Name}
 use Rattle.ir_types.specs.declared.name.Name.TheVariants.{Text, Number}
 use Rattle.ir_types.specs.declared.inst.Ty.{Ty}
