@@ -1,0 +1,5 @@
+pub mod Examples
+pub mod Courses
+pub mod Respect
+pub mod Tolls
+pub mod Simulation
