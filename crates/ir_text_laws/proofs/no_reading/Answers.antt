@@ -1,5 +1,5 @@
-use Rattle.ir_laws.proofs.Readings.{stopped, unspelled, unnumbered}
-use Rattle.ir_laws.proofs.texts.no_reading.Goals as goal
+use Rattle.ir_text_laws.proofs.Readings.{stopped, unspelled, unnumbered}
+use Rattle.ir_text_laws.proofs.no_reading.Goals as goal
 
 pub returns-clause-stopped : goal.returns-clause-stopped
 returns-clause-stopped c = stopped

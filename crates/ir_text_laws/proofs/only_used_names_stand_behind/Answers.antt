@@ -1,5 +1,5 @@
-use Rattle.ir_laws.proofs.Behind.{missing_types, missing_symbols}
-use Rattle.ir_laws.proofs.texts.only_used_names_stand_behind.Goals as goal
+use Rattle.ir_text_laws.proofs.Behind.{missing_types, missing_symbols}
+use Rattle.ir_text_laws.proofs.only_used_names_stand_behind.Goals as goal
 
 pub returns-clause-types : goal.returns-clause-types
 returns-clause-types c = missing_types

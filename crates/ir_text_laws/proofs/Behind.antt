@@ -1,5 +1,5 @@
 -- In a module's lists names that are only used stand behind those that are defined or declared.
-use Rattle.std.proofs.Common.{◌≡◌, ◌≢◌, ℕ, zero, suc, ◌<◌, ◌≤◌, ◌+◌, Bool, true, false, cond, ◌||◌, List, [], ◌∷◌, ◌++◌, map, length, Option, Some, None, refl, sym, ap, ◌∙◌, subst, arith, append_assoc}
+use Rattle.std.proofs.Common.{◌≡◌, ◌≢◌, ℕ, zero, suc, ◌<◌, ◌≤◌, Bool, true, false, cond, ◌||◌, List, [], ◌∷◌, ◌++◌, map, length, Option, Some, None, refl, sym, ap, ◌∙◌, subst, arith, append_assoc}
 use Rattle.std.specs.Prelude.{slice_get}
 use Rattle.std.specs.List.{filter_map, cons_option, list_any, AllByRecursion}
 use Rattle.std.proofs.lemmas.List.{length-map}
@@ -20,7 +20,6 @@ use Rattle.ir_types.specs.declared.module.Module.{Module}
 use Rattle.ir_types.specs.Tree.{TypeNameTree, SymbolTree, ModuleTree}
 use Rattle.ir_types.specs.Used.{with_unknown, types_used, symbols_used}
 use Rattle.ir_types.specs.Denotes.{type_names_of, type_name_in, symbol_in, Denotes}
-use Rattle.ir_types.specs.Reads.{SameModule}
 
 -- how many of some names are known
 abbrev known_among : List Name → List Name → ℕ
@@ -170,10 +169,10 @@ missing_types m tree d i n at =
     let h = lists_stand (λ (n : TypeName). n.name) (type_name_in m) (λ (t : TypeNameTree). t.name) (λ x y e. type_named m x.name x.ty y e) m.type_names tree.type_names (types_used tree) (ap (λ (t : ModuleTree). t.type_names) d.says) d.type_names i n at in
     (λ lt e. h.0 lt (ap (λ (t : NamedType). type_name_in m (record n { ty = t })) e), λ le. is_missing_type m n.name n.ty (h.1 le))
 
--- ---- modules that are the same have the same names
+-- ---- modules that denote one tree have the same names
 
-pub one_list_of_types : (m n : Module) → SameModule m n → type_names_of m ≡ type_names_of n
-one_list_of_types m n s = s.first.type_names ∙ sym s.second.type_names
+pub one_list_of_types : (m n : Module) (tree : ModuleTree) → Denotes m tree → Denotes n tree → type_names_of m ≡ type_names_of n
+one_list_of_types m n tree d e = d.type_names ∙ sym e.type_names
 
-pub one_list_of_symbols : (m n : Module) → SameModule m n → map (λ (s : Symbol). s.name) m.symbols ≡ map (λ (s : Symbol). s.name) n.symbols
-one_list_of_symbols m n s = s.first.symbols ∙ sym s.second.symbols
+pub one_list_of_symbols : (m n : Module) (tree : ModuleTree) → Denotes m tree → Denotes n tree → map (λ (s : Symbol). s.name) m.symbols ≡ map (λ (s : Symbol). s.name) n.symbols
+one_list_of_symbols m n tree d e = d.symbols ∙ sym e.symbols

@@ -1,5 +1,5 @@
-use Rattle.ir_laws.proofs.Behind.{one_list_of_types, one_list_of_symbols}
-use Rattle.ir_laws.proofs.texts.same_modules_have_the_same_names.Goals as goal
+use Rattle.ir_text_laws.proofs.Behind.{one_list_of_types, one_list_of_symbols}
+use Rattle.ir_text_laws.proofs.same_modules_have_the_same_names.Goals as goal
 
 pub returns-clause-types : goal.returns-clause-types
 returns-clause-types c = one_list_of_types

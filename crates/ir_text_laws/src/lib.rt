@@ -1,4 +1,5 @@
-// What texts read as.
+//! Laws on what texts read as, as functions with empty bodies.
+#![tactic(auto)]
 
 ghost use Rattle.std.specs.Prelude.{◌≡◌, ◌≢◌, ◌<◌, ◌≤◌, ℕ, List, map, length, slice_get, Some, None};
 ghost use Rattle.forms.specs.Form.{Lexeme};
@@ -11,33 +12,21 @@ ghost use Rattle.ir_types.specs.declared.module.Module.{Module};
 ghost use Rattle.ir_types.specs.Denotes.{type_names_of, Denotes};
 ghost use Rattle.ir_types.specs.Grammar.{SpellsModule};
 ghost use Rattle.ir_types.specs.Numbered.{numbered_module};
-ghost use Rattle.ir_types.specs.Reads.{Reads, SameModule, IsReadable};
+ghost use Rattle.ir_types.specs.Reads.{Reads};
 ghost use Rattle.ir_types.specs.Tree.{WrittenFunction, Item, ModuleTree};
 
-/// A text reads as at most one module, up to the positions of local names and of types, and has at most one list of items.
+/// A text reads as at most one tree, and has at most one list of items.
 pub fn one_reading()
-    ensures module { (text : List ℕ) (m n : Module) → Reads text m → Reads text n → SameModule m n }
-    ensures items { (text : List ℕ) (m n : Module) (r : Reads text m) (s : Reads text n) → r.numbered ≡ s.numbered }
+    ensures tree { (text : List ℕ) (t u : ModuleTree) → Reads text t → Reads text u → t ≡ u }
+    ensures items { (text : List ℕ) (t u : ModuleTree) (r : Reads text t) (s : Reads text u) → r.numbered ≡ s.numbered }
 {}
 
-/// What a text reads as, it reads as with the local names and types in other positions too.
-pub fn positions_are_free()
-    ensures { (text : List ℕ) (m n : Module) → Reads text m → SameModule m n → Reads text n }
-{}
-
-/// No module is read where at some place there is no token, or where the tokens spell no module, or where a thing without a
+/// No tree is read where at some place there is no token, or where the tokens spell no module, or where a thing without a
 /// name finds no number.
 pub fn no_reading()
-    ensures stopped { (text : List ℕ) (place : ℕ) (m : Module) → StopsAt text place → Reads text m → ⊥ }
-    ensures unspelled { (text : List ℕ) (tokens : List Lexeme) (m : Module) → Lexes text tokens → ((written : List (Item WrittenFunction)) → SpellsModule written tokens → ⊥) → Reads text m → ⊥ }
-    ensures unnumbered { (text : List ℕ) (tokens : List Lexeme) (written : List (Item WrittenFunction)) (m : Module) → Lexes text tokens → SpellsModule written tokens → numbered_module written ≡ None → Reads text m → ⊥ }
-{}
-
-/// Being the same module goes both ways and from one to the next, and a module that some text reads as is the same as itself.
-pub fn same_module_is_an_equivalence()
-    ensures symmetric { (m n : Module) → SameModule m n → SameModule n m }
-    ensures transitive { (m n k : Module) → SameModule m n → SameModule n k → SameModule m k }
-    ensures reflexive { (m : Module) → IsReadable m → SameModule m m }
+    ensures stopped { (text : List ℕ) (place : ℕ) (t : ModuleTree) → StopsAt text place → Reads text t → ⊥ }
+    ensures unspelled { (text : List ℕ) (tokens : List Lexeme) (t : ModuleTree) → Lexes text tokens → ((written : List (Item WrittenFunction)) → SpellsModule written tokens → ⊥) → Reads text t → ⊥ }
+    ensures unnumbered { (text : List ℕ) (tokens : List Lexeme) (written : List (Item WrittenFunction)) (t : ModuleTree) → Lexes text tokens → SpellsModule written tokens → numbered_module written ≡ None → Reads text t → ⊥ }
 {}
 
 /// A text has at most one list of tokens.
@@ -61,8 +50,8 @@ pub fn only_used_names_stand_behind()
     ensures symbols { (m : Module) (tree : ModuleTree) → Denotes m tree → (i : ℕ) (s : Symbol) → slice_get m.symbols i ≡ Some s → (i < length tree.symbols → s.kind ≢ Missing) × (length tree.symbols ≤ i → s.kind ≡ Missing) }
 {}
 
-/// Modules that are the same have the same names of types and of symbols, in the same order.
+/// Modules that denote one tree have the same names of types and of symbols, in the same order.
 pub fn same_modules_have_the_same_names()
-    ensures types { (m n : Module) → SameModule m n → type_names_of m ≡ type_names_of n }
-    ensures symbols { (m n : Module) → SameModule m n → map (λ (s : Symbol). s.name) m.symbols ≡ map (λ (s : Symbol). s.name) n.symbols }
+    ensures types { (m n : Module) (tree : ModuleTree) → Denotes m tree → Denotes n tree → type_names_of m ≡ type_names_of n }
+    ensures symbols { (m n : Module) (tree : ModuleTree) → Denotes m tree → Denotes n tree → map (λ (s : Symbol). s.name) m.symbols ≡ map (λ (s : Symbol). s.name) n.symbols }
 {}

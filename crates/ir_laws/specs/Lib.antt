@@ -1,5 +1,0 @@
-pub mod Examples
-pub mod Courses
-pub mod Respect
-pub mod Tolls
-pub mod Simulation
