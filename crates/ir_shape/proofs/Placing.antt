@@ -1,5 +1,5 @@
 -- In a module each position is one of its list.
-use Rattle.std.proofs.Common.{◌≡◌, ◌+◌, ◌<◌, ◌≤◌, ℕ, zero, suc, Bool, List, [], ◌∷◌, ◌++◌, length, Option, Some, None, sym, subst, zero-add, arith}
+use Rattle.std.proofs.Common.{◌≡◌, ◌+◌, ◌<◌, ℕ, zero, suc, Bool, List, [], ◌∷◌, ◌++◌, length, Option, Some, None, sym, subst, zero-add, arith}
 use Rattle.std.specs.Prelude.{map, IfSome}
 use Rattle.std.specs.Option.{option_map}
 use Rattle.std.specs.List.{AllByRecursion, AllZip, filter_map, cons_option, range_with_len}
@@ -35,6 +35,7 @@ use Rattle.ir_types.specs.Tree.{FunctionTree, NamedTree, defined, opaque, Symbol
 use Rattle.ir_shape.specs.Shape.{IsName, IsNameThere, IsOperandIn, IsTypedIn, IsResult, HasParts, IsReadInst, IsBlockOf, IsParam, IsFunctionOf, IsDefinition, IsItemOf, HasShape}
 use Rattle.ir_shape.specs.Modules.{IsModule}
 use Rattle.ir_shape.specs.Placed.{IsPlace, IsOperandPlaced, IsInstPlaced, IsKindPlaced, IsBlockPlaced, IsParamPlaced, IsFunctionPlaced, IsNamedPlaced, IsSymbolPlaced, IsPlaced}
+use Rattle.ir_shape.proofs.Memory.{has_node}
 use Rattle.ir_shape.proofs.Narrowed.{by_both}
 use Rattle.ir_shape.proofs.Names.{within_names}
 use Rattle.ir_shape.proofs.Sure.{IsThere}
@@ -100,7 +101,7 @@ operands_placed wide t names [] (a ∷ args) h = absurd h
 operands_placed wide t names (ty ∷ ts) (a ∷ args) h = (operand_placed wide t names ty a h.0.1, operands_placed wide t names ts args h.1)
 
 kind_placed : (t : Tables) (k : InstKind) (n : ℕ) → HasParts (kind_in t k) n → IsKindPlaced t k
-kind_placed t (Offset id widths inbounds nuw nusw) n h = type_placed t.type_names t.types id h.0.some
+kind_placed t (Offset id widths inbounds nuw nusw) n h = type_placed t.type_names t.types id (has_node _ h.0)
 kind_placed t k n h = tt
 
 result_placed : (names : List Name) (t : Ty) (o : Option ValueId) → IsResult t (option_map (name_in names) o) → IfSome o (IsPlace names)
@@ -161,7 +162,7 @@ HasPlace function = Unit {0}
 
 definition_known : (t : Option (List TypeNode)) → IsDefinition t → HasNode (of_definition t)
 definition_known None h = tt
-definition_known (Some nodes) h = h.some
+definition_known (Some nodes) h = has_node nodes h
 
 types_known : (items : List (Item FunctionTree)) → AllByRecursion (IsItemOf IsReadInst) items → AllByRecursion (λ t. HasNode t.ty) (filter_map as_type items)
 types_known [] h = tt
@@ -178,7 +179,7 @@ variables_known [] h = tt
 variables_known (head_line xs ∷ items) h = variables_known items h.1
 variables_known (comdat_line xs ∷ items) h = variables_known items h.1
 variables_known (type_item name t ∷ items) h = variables_known items h.1
-variables_known (variable_item v ∷ items) h = (h.0.ty.some, variables_known items h.1)
+variables_known (variable_item v ∷ items) h = (has_node v.ty h.0.ty, variables_known items h.1)
 variables_known (function_item f ∷ items) h = variables_known items h.1
 variables_known (attribute_line xs ∷ items) h = variables_known items h.1
 variables_known (metadata_line xs ∷ items) h = variables_known items h.1
