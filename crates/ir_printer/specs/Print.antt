@@ -20,8 +20,7 @@ use Rattle.ir_types.specs.declared.call.TailKind.{TailKind}
 use Rattle.ir_types.specs.declared.call.TailKind.TheVariants.{Unmarked, Tail, MustTail, NoTail}
 use Rattle.ir_types.specs.Kinds.{Kind, Binary, Compare, Select, Freeze, Trunc, Zext, Sext, PtrToInt, Phi, Offset, Load, Store, Call, Extract, Insert, Shuffle, Jump, Branch, Switch, ReturnVoid, Return, Unreachable, operand_types}
 use Rattle.ir_types.specs.Grammar.{width_of, element_of}
-use Rattle.ir_types.specs.TypeNodes.{TypeNode}
-use Rattle.ir_types.specs.Tree.{KeptTexts, OperandTree, local, number, null, poison, lanes, global, out_of_range, InstTree, BlockTree, ParamTree, FunctionTree, NamedTree, defined, opaque, TypeNameTree, SymbolKindTree, variable, function, SymbolTree, ModuleTree}
+use Rattle.ir_types.specs.Tree.{KeptTexts, OperandTree, local, number, null, poison, lanes, global, out_of_range, InstTree, BlockTree, ParamTree, FunctionTree, NamedTree, defined, opaque, TypeNameTree, SymbolKindTree, variable, function, SymbolTree, ModuleTree, VariableTree}
 use Rattle.type_printer.specs.Texts.{signed_text}
 use Rattle.type_printer.specs.MemoryPieces.{node_pieces}
 use Rattle.type_printer.specs.Pieces.{token, word, comma, equal, left_paren, right_paren, left_bracket, right_bracket, left_brace, right_brace, less, greater, blank, line_feed, indent, each_behind, separated, with_commas, local_token, global_token, label_token, width_word, type_pieces}
@@ -36,6 +35,11 @@ dots = lexeme (token kinds.Dots (codes "..."))
 abbrev pub comma_before : ℕ → List Piece
 comma_before zero = []
 comma_before (suc i) = comma ∷ blank ∷ []
+
+-- what is printed for the one that there may be
+abbrev pub for_one : {A B : Type 0} → (A → List B) → Option A → List B
+for_one f None = []
+for_one f (Some a) = f a
 
 -- ---- values
 
@@ -383,13 +387,13 @@ variable_word true = codes "global"
 variable_word false = codes "constant"
 
 -- @name = K global M ..
-abbrev pub variable_pieces : SymbolTree → List TypeNode → Bool → List Piece
-variable_pieces s nodes writable =
-    lexeme (global_token s.name) ∷ blank ∷ equal ∷ blank ∷ (kept_then_blank s.before ++ (word (variable_word writable) ∷ blank ∷ (node_pieces nodes ++ (kept_behind [] s.after ++ (line_feed ∷ [])))))
+abbrev pub variable_pieces : VariableTree → List Piece
+variable_pieces v =
+    lexeme (global_token v.name) ∷ blank ∷ equal ∷ blank ∷ (kept_then_blank v.before ++ (word (variable_word v.writable) ∷ blank ∷ (node_pieces v.ty ++ (kept_behind [] v.after ++ (line_feed ∷ [])))))
 
 -- of the symbols only variables are printed by themselves
 abbrev pub symbol_kind_pieces : SymbolTree → SymbolKindTree → List Piece
-symbol_kind_pieces s (variable nodes writable) = variable_pieces s nodes writable
+symbol_kind_pieces s (variable nodes writable) = variable_pieces (record { name = s.name; before = s.before; writable = writable; ty = nodes; after = s.after })
 symbol_kind_pieces s function = []
 
 -- a symbol: its line where it is a variable
