@@ -13,9 +13,9 @@ use Rattle.ir_types.specs.declared.inst.Ty.{Ty}
 use Rattle.ir_types.specs.declared.module.Block.{Block}
 use Rattle.ir_types.specs.declared.module.Function.{Function}
 use Rattle.ir_types.specs.Denotes.{Tables, param_in, block_in, function_in}
-use Rattle.ir_types.specs.Tree.{OperandTree, InstTree}
+use Rattle.ir_types.specs.Tree.{OperandTree, InstTree, FunctionTree}
 use Rattle.type_printer.specs.Pieces.{word, local_token, global_token, line_feed, separated, with_commas, type_pieces}
-use Rattle.ir_printer.specs.Print.{for_one, signature_pieces, arguments_of, call_pieces, opening_pieces, operands_pieces, ending_pieces, result_pieces, inst_pieces, block_pieces, kept_then_blank, blank_then_kept, params_pieces, function_word, head_pieces, body_pieces, parting, functions_behind, definition_pieces}
+use Rattle.ir_printer.specs.Print.{for_one, signature_pieces, arguments_of, call_pieces, opening_pieces, operands_pieces, ending_pieces, result_pieces, inst_pieces, block_pieces, kept_then_blank, blank_then_kept, params_pieces, function_word, head_pieces, body_pieces, function_pieces, parting, functions_behind, definition_pieces}
 
 -- a word is appended where there is room
 pub word_appended : {T E : Type 0} (out w : List ℕ) {out1 : List ℕ} (r : Result T E) → out1 ≡ cond (is_ok r) (out ++ w) out → OnOk r (out1 ≡ out ++ text_of (word w ∷ []))
@@ -54,6 +54,11 @@ pub body_text : (t : Tables) (ns : List Name) (bs : List Block) → eqb (length 
 body_text t ns [] e = absurd cc
 body_text t ns (b ∷ bs) e = simp (text_of-append, append_assoc)
 
+-- a head, and the blocks behind it
+pub function_appended : {T E : Type 0} (f : FunctionTree) (out out2 : List ℕ) {out1 : List ℕ} (r : Result T E) → out1 ≡ out ++ text_of (head_pieces f) → OnOk r (out2 ≡ out1 ++ text_of (body_pieces f.body)) → OnOk r (out2 ≡ out ++ text_of (function_pieces f))
+unfolding function_pieces
+function_appended f out out2 r e g = rw (text_of-append (head_pieces f) (body_pieces f.body)) (more_appended out (text_of (head_pieces f)) (text_of (body_pieces f.body)) out2 r e g)
+
 -- behind what parts them from a text stand the functions
 pub functions_text : {A : Type 0} (f : A → List Piece) (text out1 out2 : List ℕ) (xs : List A) → 0 < length xs → out1 ≡ text ++ text_of (parting text) → out2 ≡ out1 ++ text_of (separated (line_feed ∷ []) (map f xs))
     → out2 ≡ text ++ text_of (functions_behind text (map f xs))
@@ -75,6 +80,10 @@ one_printed f xs i x out out1 whole lt e e1 so_far =
     let step : text_of (flat_map f (drop i xs)) ≡ text_of (f x) ++ text_of (flat_map f (drop (i + 1) xs)) =
     ap (λ (ys : List _). text_of (flat_map f ys)) from ∙ text_of-append (f x) _ in
     rw e1 (append_assoc out (text_of (f x)) _ ∙ sym (ap (λ (t : List ℕ). out ++ t) step) ∙ so_far)
+
+-- none is left
+pub all_printed : {A : Type 0} (f : A → List Piece) (xs : List A) (i : ℕ) (out whole : List ℕ) → length xs ≤ i → out ++ text_of (flat_map f (drop i xs)) ≡ whole → out ≡ whole
+all_printed f xs i out whole le so_far = sym (append-nil out) ∙ sym (ap (λ (ys : List _). out ++ text_of (flat_map f ys)) (drop_all i xs le)) ∙ so_far
 
 -- ---- of what there may be
 

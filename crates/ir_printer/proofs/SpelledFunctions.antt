@@ -33,7 +33,7 @@ pub param_writes : EachWrites parameter written_param param_pieces IsParam
 unfolding parameter param_pieces
 param_writes = record { one = λ p h. mapped_writes (p.ty, (p.kept, Some p.name)) _ refl (both (type_writes p.ty h.ty) (both (spaced_kept h.kept_texts) (spaced (there_writes (local_writes p.name h.name))))) }
 
-params_say : (params : List ParamTree) (further : Bool) → AllByRecursion IsParam params → Says dotted_parameters (map written_param f.params, further) (tokens_of (params_pieces params further))
+params_say : (params : List ParamTree) (further : Bool) → AllByRecursion IsParam params → Says dotted_parameters (map written_param params, further) (tokens_of (params_pieces params further))
 unfolding dotted_parameters
 params_say params further h = (dotted_write param_writes params further h).says
 

@@ -134,10 +134,9 @@ fn word_of_function(function: &Function) -> &'static [u8]
 
 // Appends what stands before the blocks.
 fn put_head(out: &mut Vec<u8>, function: &Function) -> Result<(), AllocError>
-    ghost tables: { Tables }
     requires { AllByRecursion IsParam
         (map (param_in function.now.names) function.now.params) }
-    ensures { OnOk result (out.new.items ≡ out.old.items
+    ensures { (tables : Tables) → OnOk result (out.new.items ≡ out.old.items
         ++ text_of (head_pieces (function_in tables function.now))) }
 {
     out.extend_from_slice(word_of_function(function))?;
@@ -175,7 +174,6 @@ fn put_body(
     Ok(())
 }
 
-#[tactic(auto, unfolding(crate::specs::Print::function_pieces), using(type_printer::proofs::Appended::text_of_both, std::proofs::lemmas::Grind::common_steps))]
 fn put_function(
     alloc: Global,
     out: &mut Vec<u8>,

@@ -39,7 +39,7 @@ fn put_stepped_type(
 }
 
 // Appends the operands of an instruction with their types.
-#[tactic(auto, using(crate::proofs::Operands::all_alike, ir_shape::proofs::Placing::memory_placed, type_printer::proofs::Appended::text_of_both, std::proofs::lemmas::Grind::common_steps))]
+#[tactic(auto, using(crate::proofs::Operands::all_alike, type_printer::proofs::Appended::text_of_both, std::proofs::lemmas::Grind::common_steps))]
 fn put_operands_of(
     alloc: Global,
     out: &mut Vec<u8>,
@@ -117,9 +117,8 @@ fn put_align(out: &mut Vec<u8>, align: u64) -> Result<(), AllocError>
 // Appends the type of a cast, an alignment, what is kept behind a call, or labels.
 #[tactic(auto, using(crate::proofs::Operands::first_type, type_printer::proofs::Appended::text_of_both, std::proofs::lemmas::Grind::common_steps))]
 fn put_ending(out: &mut Vec<u8>, names: &Names, inst: &Inst) -> Result<(), AllocError>
-    ghost tables: { Tables }
-    requires { IsBody (inst_in tables names.now inst.now) }
-    ensures { OnOk result (out.new.items ≡ out.old.items
+    requires { (tables : Tables) × IsBody (inst_in tables names.now inst.now) }
+    ensures { (tables : Tables) → OnOk result (out.new.items ≡ out.old.items
         ++ text_of (ending_pieces (kind_in tables inst.now.kind) inst.now.ty
         (map (name_in names.now) inst.now.labels))) }
 {
@@ -175,7 +174,6 @@ fn put_result(
 }
 
 /// Appends an instruction and a line feed.
-#[tactic(auto, using(crate::proofs::Appended::inst_text, std::proofs::lemmas::Grind::common_steps))]
 pub(crate) fn put_inst(
     alloc: Global,
     out: &mut Vec<u8>,

@@ -108,8 +108,7 @@ fn put_call_words(out: &mut Vec<u8>, tail: TailKind) -> Result<(), AllocError>
 
 /// Appends the word of an instruction, with its flags or its predicate.
 pub(crate) fn put_opening(out: &mut Vec<u8>, kind: &InstKind) -> Result<(), AllocError>
-    ghost tables: { Tables }
-    ensures { OnOk result (out.new.items ≡ out.old.items
+    ensures { (tables : Tables) → OnOk result (out.new.items ≡ out.old.items
         ++ text_of (opening_pieces (kind_in tables kind.now))) }
 {
     match kind {

@@ -103,7 +103,7 @@ operands_placed wide t names ts [] h = tt
 operands_placed wide t names [] (a ∷ args) h = absurd h
 operands_placed wide t names (ty ∷ ts) (a ∷ args) h = (operand_placed wide t names ty a h.0.1, operands_placed wide t names ts args h.1)
 
-kind_placed : (t : Tables) (k : InstKind) (n : ℕ) → HasParts (kind_in t k) n → IsKindPlaced t k
+pub kind_placed : (t : Tables) (k : InstKind) (n : ℕ) → HasParts (kind_in t k) n → IsKindPlaced t k
 kind_placed t (Offset id widths inbounds nuw nusw) n h = memory_placed t.type_names t.types id h.0
 kind_placed t k n h = tt
 
