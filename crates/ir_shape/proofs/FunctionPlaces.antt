@@ -91,10 +91,9 @@ module _ (fs : List Function) where
       let name : f.name ≡ n = cc in
       let rest : filter_map function_place ss ≡ range_with_len (length before + 1) (length left) = cc in
       let others : filter_map function_name ss ≡ names left = cc in
-      let got : slice_get fs i ≡ Some f = ap (λ xs. slice_get xs i) (sym joined) ∙ ap (slice_get (before ++ f ∷ left)) here ∙ got_behind before f left in
-      (
+      let got : slice_get fs i ≡ Some f = ap (λ xs. slice_get xs i) (sym joined) ∙ ap (slice_get (before ++ f ∷ left)) here ∙ got_behind before f left in (
         ap (option_map (λ (g : Function). g.name)) got ∙ ap Some name,
-        so (before ++ f ∷ []) left (append_assoc before (f ∷ []) left ∙ joined) (rest ∙ ap (λ k. range_with_len k (length left)) (sym (length-append before (f ∷ [])))) others
+        so (before ++ f ∷ []) left (append_assoc before (f ∷ []) left ∙ joined) (rest ∙ ap (λ k. range_with_len k (length left)) (sym (length-append before (f ∷ [])))) others,
       )
 
   counted : (ss : List Symbol) → Counted ss
