@@ -3,7 +3,7 @@ use Rattle.std.proofs.Common.{◌≡◌, List, [], ◌∷◌, Option, Some, None
 use Rattle.std.specs.Prelude.{Contains}
 use Rattle.ir_types.specs.declared.module.Module.{Module}
 use Rattle.ir_types.specs.Tree.{FunctionTree, ModuleTree}
-use Rattle.ir_types.specs.Reads.{IsReadable, SameModule}
+use Rattle.ir_types.specs.Reads.{IsModule, SameModule}
 use Rattle.ir_rules.specs.declared.fault.Rule.{Rule}
 use Rattle.ir_rules.specs.declared.fault.Breach.{Breach}
 use Rattle.ir_rules.specs.declared.fault.CheckFault.TheVariants.{Broken}
@@ -65,5 +65,5 @@ cause_is_one m r s b c (inr x) (inr y) =
     (x.0 ∙ sym y.0, x.1.first.breach ∙ (used ∙ sym y.1.first.breach))
 
 -- well-formedness is about what a module says
-pub same_is_well_formed : (m n : Module) → IsWellFormed m → SameModule m n → IsReadable n → IsWellFormed n
+pub same_is_well_formed : (m n : Module) → IsWellFormed m → SameModule m n → IsModule n → IsWellFormed n
 same_is_well_formed m n w s readable = record { readable = readable; keeps = subst KeepsRules (s.first.says ∙ sym s.second.says) w.keeps }

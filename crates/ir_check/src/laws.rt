@@ -4,7 +4,7 @@ ghost use Rattle.std.specs.Prelude.{◌≡◌};
 ghost use Rattle.ir_types.specs.declared.module.Module.{Module};
 ghost use Rattle.ir_types.specs.Tree.{ModuleTree};
 ghost use Rattle.ir_types.specs.Denotes.{tree_of};
-ghost use Rattle.ir_types.specs.Reads.{IsReadable, SameModule};
+ghost use Rattle.ir_types.specs.Reads.{IsModule, SameModule};
 ghost use Rattle.ir_shape.specs.Narrow.{IsNarrow};
 ghost use Rattle.ir_rules.specs.declared.fault.Rule.{Rule};
 ghost use Rattle.ir_rules.specs.declared.fault.Breach.{Breach};
@@ -30,5 +30,5 @@ pub fn one_cause()
 /// A module that says the same as a well-formed one is well-formed too, where some text reads as it.
 #[tactic(auto, using(crate::proofs::Causes::same_is_well_formed))]
 pub fn same_module_is_well_formed()
-    ensures { (m n : Module) → IsWellFormed m → SameModule m n → IsReadable n → IsWellFormed n }
+    ensures { (m n : Module) → IsWellFormed m → SameModule m n → IsModule n → IsWellFormed n }
 {}

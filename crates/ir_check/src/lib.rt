@@ -3,7 +3,7 @@
 
 ghost use Rattle.std.specs.Prelude.{◌≡◌, IfErr, IfOk, MatchResult};
 ghost use Rattle.ir_types.specs.Denotes.{tree_of};
-ghost use Rattle.ir_types.specs.Reads.{IsReadable};
+ghost use Rattle.ir_shape.specs.Modules.{IsModule};
 ghost use Rattle.ir_rules.specs.WellFormed.{KeepsRules, IsWellFormed, Cause};
 
 mod laws;
@@ -65,7 +65,7 @@ impl Checked {
 ///
 /// The first rule that is broken, and of it the first breach; and where there was no memory for the checks.
 fn keeps_rules(alloc: Global, m: &Module) -> Result<(), CheckFault>
-    requires { IsReadable m.now }
+    requires { IsModule m.now }
     ensures { MatchResult result (λ _. KeepsRules (tree_of m.now)) (Cause (tree_of m.now)) }
 {
     check_types(alloc, m)?;
@@ -81,7 +81,7 @@ fn keeps_rules(alloc: Global, m: &Module) -> Result<(), CheckFault>
 /// The first rule that is broken, and of it the first breach, through the types, the symbols, and then each function's head and instructions
 /// in the text's order; and where there was no memory for the checks. The module comes back as it was.
 pub fn check(alloc: Global, m: Module) -> Result<Checked, (Module, CheckFault)>
-    requires { IsReadable m }
+    requires { IsModule m }
     ensures ok { IfOk result (λ checked. (checked ≡ m) × KeepsRules (tree_of m)) }
     ensures err { IfErr result (λ refused. (refused.0 ≡ m) × Cause (tree_of m) refused.1) }
 {

@@ -13,7 +13,7 @@ use Rattle.ir_types.specs.Kinds.{Kind, Binary, Compare, Select, Freeze, Trunc, Z
 use Rattle.ir_types.specs.Tree.{InstTree, FunctionTree, SymbolTree, TypeNameTree, ModuleTree}
 use Rattle.ir_types.specs.Denotes.{Tables, tables_of, function_in, symbol_in, tree_of}
 use Rattle.ir_types.specs.Collected.{symbol_of, symbols_from, as_variable, as_function}
-use Rattle.ir_types.specs.Reads.{IsReadable}
+use Rattle.ir_shape.specs.Modules.{IsModule}
 use Rattle.ir_rules.specs.declared.fault.Breach.{Breach}
 use Rattle.ir_rules.specs.declared.fault.Subject.TheVariants.{Symbol as SymbolSubject, TypeName as TypeSubject}
 use Rattle.ir_rules.specs.Breaches.{first, outside, inside, in_insts, in_functions}
@@ -100,7 +100,7 @@ functions_first m once =
 
 -- ---- no two functions have one name
 
-pub once_each : (m : Module) → IsReadable m → duplicate_names (tree_of m) ≡ [] → Apart (function_names m.functions)
+pub once_each : (m : Module) → IsModule m → duplicate_names (tree_of m) ≡ [] → Apart (function_names m.functions)
 once_each m readable distinct =
     let r = readable.1 in
     let variables = map symbol_of (filter_map as_variable r.numbered) in

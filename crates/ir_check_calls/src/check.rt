@@ -2,7 +2,7 @@
 
 ghost use Rattle.std.specs.Prelude.{◌≡◌, [], filter_map, IfOk};
 ghost use Rattle.ir_types.specs.Denotes.{tree_of};
-ghost use Rattle.ir_types.specs.Reads.{IsReadable};
+ghost use Rattle.ir_shape.specs.Modules.{IsModule};
 ghost use Rattle.ir_rules.specs.Breaches.{first};
 ghost use Rattle.ir_rules.specs.Duplicates.{duplicate_names};
 ghost use Rattle.ir_rules.specs.Callees.{unknown_callees};
@@ -46,7 +46,7 @@ fn first_miscalled(
 ///
 /// Where memory is short.
 pub fn unknown_callee(alloc: Global, m: &Module) -> Result<Option<Breach>, AllocError>
-    requires readable { IsReadable m.now }
+    requires is_module { IsModule m.now }
     requires distinct { duplicate_names (tree_of m.now) ≡ [] }
     ensures { IfOk result (λ found. found ≡ first (unknown_callees (tree_of m.now))) }
 {

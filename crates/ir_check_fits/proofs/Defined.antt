@@ -19,7 +19,7 @@ use Rattle.ir_types.specs.Tree.{TypeNameTree}
 use Rattle.ir_types.specs.Offsets.{Definitions, nodes_of_name}
 use Rattle.ir_types.specs.Denotes.{type_name_in, tree_of}
 use Rattle.ir_types.specs.Used.{types_used}
-use Rattle.ir_types.specs.Reads.{IsReadable}
+use Rattle.ir_shape.specs.Modules.{IsModule}
 use Rattle.ir_types.proofs.NameAt.{name_got}
 use Rattle.ir_sizes.specs.Definitions.{names_in, defined_nodes, AreDefinitions}
 use Rattle.ir_sizes.proofs.Within.{same_name_is}
@@ -189,7 +189,7 @@ module _ (m : Module) where
       of k n h first Opaque is = found m.type_names k n h (λ none. cc) (apart k n h first)
       of k n h first Missing is = not_found (trees m.type_names) n.name (missing_unknown used e k n h is) ∙ rw is refl
 
-pub readable_definitions : (m : Module) → IsReadable m → AreDefinitions m.types m.type_names (type_definitions (tree_of m))
-readable_definitions m readable =
-    let denotes = readable.1.denotes in
+pub module_definitions : (m : Module) → IsModule m → AreDefinitions m.types m.type_names (type_definitions (tree_of m))
+module_definitions m is =
+    let denotes = is.denotes in
     are_definitions m (types_used (tree_of m)) (subst (λ tree. names_in m.type_names ≡ map (λ (t : TypeNameTree). t.name) tree.type_names ++ unknown (map (λ (t : TypeNameTree). t.name) tree.type_names) (types_used tree)) (sym denotes.says) denotes.type_names)

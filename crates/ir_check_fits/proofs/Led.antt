@@ -13,7 +13,7 @@ use Rattle.ir_types.specs.declared.memory_type.Extent.{Extent}
 use Rattle.ir_types.specs.declared.memory_type.Extent.TheVariants.{NoSize}
 use Rattle.ir_types.specs.declared.module.Module.{Module}
 use Rattle.ir_types.specs.Denotes.{tree_of}
-use Rattle.ir_types.specs.Reads.{IsReadable}
+use Rattle.ir_shape.specs.Modules.{IsModule}
 use Rattle.ir_types.specs.TypeNodes.{TypeNode}
 use Rattle.ir_types.specs.Tree.{OperandTree, local, number, null, poison, lanes, global, out_of_range}
 use Rattle.ir_types.specs.Offsets.{Definitions, small_size, unnamed, stepped_into, counted, scaled}
@@ -206,8 +206,8 @@ module _ (types : List MemTy) (names : List TypeName) (extents : List Extent) (s
 -- ---- in a module
 
 -- what is prepared of a module that some text reads as
-pub readable_prepared : (m : Module) → IsReadable m → (steps : StepLists) → AreSteps m.types m.type_names m.extents steps → ArePrepared m.types m.type_names m.extents steps
-readable_prepared m readable steps are = record { types_are = readable.1.denotes.types; extents_are = readable.1.denotes.extents; steps_are = are }
+pub module_prepared : (m : Module) → IsModule m → (steps : StepLists) → AreSteps m.types m.type_names m.extents steps → ArePrepared m.types m.type_names m.extents steps
+module_prepared m is steps are = record { types_are = is.denotes.types; extents_are = is.denotes.extents; steps_are = are }
 
 pub size_agrees : (m : Module) (steps : StepLists) → AreModuleSteps m steps → (id : TypeId) → is_sized_at m.extents id ≡ has_size (type_definitions (tree_of m)) (nodes_in m.types m.type_names id)
 size_agrees m steps are id = ap is_some (small_agrees m.types m.type_names m.extents (type_definitions (tree_of m)) are.prepared.types_are are.prepared.extents_are are.definitions id)

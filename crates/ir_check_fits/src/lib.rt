@@ -3,7 +3,7 @@
 
 ghost use Rattle.std.specs.Prelude.{◌≡◌, IfOk};
 ghost use Rattle.ir_types.specs.Denotes.{tree_of};
-ghost use Rattle.ir_types.specs.Reads.{IsReadable};
+ghost use Rattle.ir_shape.specs.Modules.{IsModule};
 ghost use Rattle.ir_rules.specs.Breaches.{first};
 ghost use Rattle.ir_rules.specs.Mismatch.{type_mismatches};
 
@@ -24,7 +24,7 @@ mod symbols;
 
 use functions::in_functions;
 use ir_rules::{Breach, Subject};
-use ir_shape::readable_is_placed;
+use ir_shape::module_is_placed;
 use ir_types::Module;
 use std::alloc::{AllocError, Global};
 use steps::TypeSteps;
@@ -36,10 +36,10 @@ use symbols::any_sizeless;
 ///
 /// Where there is no memory.
 pub fn mismatch(alloc: Global, m: &Module) -> Result<Option<Breach>, AllocError>
-    requires readable { IsReadable m.now }
+    requires is_module { IsModule m.now }
     ensures { IfOk result (λ found. found ≡ first (type_mismatches (tree_of m.now))) }
 {
-    readable_is_placed();
+    module_is_placed();
     let types = TypeSteps::new(alloc, m)?;
     if any_sizeless(&types, m.symbols.as_slice()) {
         return Ok(Some(Breach {

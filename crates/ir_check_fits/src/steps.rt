@@ -114,7 +114,7 @@ impl<'m> TypeSteps<'m> {
     ghost use Rattle.std.specs.Prelude.{◌≡◌, List, map, zip, IfOk};
     ghost use Rattle.ir_types.specs.declared.name.Name.{Name};
     ghost use Rattle.ir_types.specs.Denotes.{Tables, operand_in, nodes_in, tree_of};
-    ghost use Rattle.ir_types.specs.Reads.{IsReadable};
+    ghost use Rattle.ir_shape.specs.Modules.{IsModule};
     ghost use Rattle.ir_rules.specs.Steps.{type_definitions, has_size, is_stepped};
 
     /// Of a module that some text reads as.
@@ -123,7 +123,7 @@ impl<'m> TypeSteps<'m> {
     ///
     /// Where there is no memory.
     pub fn new(alloc: Global, whole: &'m Module) -> Result<TypeSteps<'m>, AllocError>
-        requires { IsReadable whole.now }
+        requires { IsModule whole.now }
         ensures { IfOk result (λ s. s ≡ whole.now) }
     {
         let steps = steps_of(

@@ -16,10 +16,10 @@ use Rattle.ir_types.specs.declared.module.Function.{Function}
 use Rattle.ir_types.specs.declared.module.Module.{Module}
 use Rattle.ir_types.specs.Denotes.{Tables, name_in, type_name_in, symbol_in, function_in, tables_of, tree_of}
 use Rattle.ir_types.specs.Names.{IsTable, has_name}
-use Rattle.ir_types.specs.Reads.{IsReadable}
+use Rattle.ir_shape.specs.Modules.{IsModule}
 use Rattle.ir_types.specs.Tree.{FunctionTree, TypeNameTree, SymbolTree}
 use Rattle.ir_shape.specs.Placed.{IsFunctionPlaced}
-use Rattle.ir_shape.proofs.Placing.{readable_placed}
+use Rattle.ir_shape.proofs.Placing.{module_placed}
 use Rattle.ir_rules.specs.declared.fault.Subject.{Subject}
 use Rattle.ir_rules.specs.declared.fault.Subject.TheVariants as subjects
 use Rattle.ir_rules.specs.declared.fault.Breach.{Breach}
@@ -144,17 +144,17 @@ module _ (m : Module) where
 
 -- ---- in a module
 
-functions_right : (m : Module) → IsReadable m → first_of repeated_in m.functions ≡ first (in_functions repeated_locals (tree_of m))
+functions_right : (m : Module) → IsModule m → first_of repeated_in m.functions ≡ first (in_functions repeated_locals (tree_of m))
 functions_right m r =
     let t = tables_of m in
-    same_firsts (IsSound t) repeated_in (λ f. first (map (inside f.name) (repeated_locals (function_in t f)))) (in_function t) m.functions (all_sound t m.functions r.1.denotes.tables (readable_placed m r).functions)
+    same_firsts (IsSound t) repeated_in (λ f. first (map (inside f.name) (repeated_locals (function_in t f)))) (in_function t) m.functions (all_sound t m.functions r.denotes.tables (module_placed m r).functions)
     ∙ sym (first_concat (λ (f : FunctionTree). map (inside f.name) (repeated_locals f)) (map (function_in t) m.functions) ∙ first_of_mapped (function_in t) (λ (f : FunctionTree). first (map (inside f.name) (repeated_locals f))) m.functions)
 
 -- the first of some names, said of each
 said_of : (S : Name → Subject) (o : Option Name) (names : List Name) → o ≡ first names → option_map (λ n. outside (S n)) o ≡ first (map (λ n. outside (S n)) names)
 said_of S o names e = ap (option_map (λ n. outside (S n))) e ∙ sym (first_map (λ n. outside (S n)) names)
 
-pub in_module : (m : Module) → IsReadable m → first_repeated m ≡ first (duplicate_names (tree_of m))
+pub in_module : (m : Module) → IsModule m → first_repeated m ≡ first (duplicate_names (tree_of m))
 in_module m r =
     let types = map (λ n. outside (subjects.TypeName n)) (repeated (names_there m m.type_names)) in
     let globals = map (λ n. outside (subjects.Symbol n)) (repeated (symbols_there m m.symbols)) in

@@ -26,7 +26,7 @@ use Rattle.ir_types.specs.Tree.{ModuleTree, TypeNameTree, SymbolTree}
 use Rattle.ir_types.specs.TypeNodes.{TypeNode, called, closing, nodes_at, nodes_from, all_nodes, type_nodes, as_called, names_used}
 use Rattle.ir_types.specs.Types.{IsTypeAt, AreTypes}
 use Rattle.ir_types.specs.Used.{with_unknown, types_used, symbols_used}
-use Rattle.ir_laws.proofs.Behind.{missing_types, missing_symbols}
+use Rattle.ir_text_laws.proofs.Behind.{missing_types, missing_symbols}
 use Rattle.ir_rules.specs.declared.fault.Subject.{Subject}
 use Rattle.ir_rules.specs.declared.fault.Subject.TheVariants as subjects
 use Rattle.ir_rules.specs.Breaches.{first}

@@ -11,10 +11,10 @@ use Rattle.ir_types.specs.declared.name.ValueId.{ValueId}
 use Rattle.ir_types.specs.declared.module.Function.{Function}
 use Rattle.ir_types.specs.declared.module.Module.{Module}
 use Rattle.ir_types.specs.Denotes.{Tables, name_in, function_in, tables_of, tree_of}
-use Rattle.ir_types.specs.Reads.{IsReadable}
+use Rattle.ir_shape.specs.Modules.{IsModule}
 use Rattle.ir_types.specs.Tree.{FunctionTree}
 use Rattle.ir_shape.specs.Placed.{IsFunctionPlaced}
-use Rattle.ir_shape.proofs.Placing.{readable_placed}
+use Rattle.ir_shape.proofs.Placing.{module_placed}
 use Rattle.ir_rules.specs.declared.fault.Subject.TheVariants.{Local}
 use Rattle.ir_rules.specs.declared.fault.Breach.{Breach}
 use Rattle.ir_rules.specs.Breaches.{first, Found, behind_those, inside}
@@ -115,8 +115,8 @@ in_function t f h = misnumbered_right f [] None (of_function f) (definitions_of 
 
 -- ---- in a module
 
-pub in_module : (m : Module) → IsReadable m → first_of misnumbered_in m.functions ≡ first (misnumbered_names (tree_of m))
+pub in_module : (m : Module) → IsModule m → first_of misnumbered_in m.functions ≡ first (misnumbered_names (tree_of m))
 in_module m r =
     let t = tables_of m in
-    same_firsts (IsFunctionPlaced t) misnumbered_in (λ f. first (map (inside f.name) (misnumbered (function_in t f)))) (in_function t) m.functions (readable_placed m r).functions
+    same_firsts (IsFunctionPlaced t) misnumbered_in (λ f. first (map (inside f.name) (misnumbered (function_in t f)))) (in_function t) m.functions (module_placed m r).functions
     ∙ sym (first_concat (λ (f : FunctionTree). map (inside f.name) (misnumbered f)) (map (function_in t) m.functions) ∙ first_of_mapped (function_in t) (λ (f : FunctionTree). first (map (inside f.name) (misnumbered f))) m.functions)

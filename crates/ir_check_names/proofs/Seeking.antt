@@ -13,11 +13,11 @@ use Rattle.ir_types.specs.declared.module.Function.{Function}
 use Rattle.ir_types.specs.declared.module.Module.{Module}
 use Rattle.ir_types.specs.Denotes.{nodes_in, type_name_in, symbol_in, function_in, tables_of, tree_of, Denotes}
 use Rattle.ir_types.specs.Names.{has_name}
-use Rattle.ir_types.specs.Reads.{IsReadable}
+use Rattle.ir_shape.specs.Modules.{IsModule}
 use Rattle.ir_types.specs.Tree.{FunctionTree, TypeNameTree, SymbolTree, ModuleTree}
 use Rattle.ir_types.specs.TypeNodes.{names_used}
 use Rattle.ir_types.specs.Used.{types_of_definition, types_of_symbol}
-use Rattle.ir_shape.proofs.Placing.{readable_placed}
+use Rattle.ir_shape.proofs.Placing.{module_placed}
 use Rattle.ir_rules.specs.declared.fault.Subject.TheVariants as subjects
 use Rattle.ir_rules.specs.declared.fault.Breach.{Breach}
 use Rattle.ir_rules.specs.Breaches.{first, outside, inside, in_functions}
@@ -32,12 +32,12 @@ use Rattle.ir_check_names.proofs.Doubled.{IsSound, all_sound}
 use Rattle.ir_check_names.proofs.Lacking.{first_unmet, type_known, symbol_known, symbols_marked, type_right}
 use Rattle.ir_check_names.proofs.Using.{locals_marked, function_right}
 
-module _ (m : Module) (r : IsReadable m) where
+module _ (m : Module) (r : IsModule m) where
   abbrev tree : ModuleTree
   tree = tree_of m
 
   denoted : Denotes m (tree_of m)
-  denoted = subst (λ (tree : ModuleTree). Denotes m tree) (sym r.1.denotes.says) r.1.denotes
+  denoted = subst (λ (tree : ModuleTree). Denotes m tree) (sym r.denotes.says) r.1.denotes
 
   abbrev missing : List (Option ℕ)
   missing = missing_names m.type_names [] m.types
@@ -47,7 +47,7 @@ module _ (m : Module) (r : IsReadable m) where
 
   -- the first name in a type
   in_type : (k : Known) → k.types ≡ (known_in (tree_of m)).types → (id : TypeId) → option_map (type_subject m.type_names) (missing_at missing id) ≡ first_unmet k (map subjects.TypeName (names_used (nodes_in m id)))
-  in_type k e id = type_right k m.type_names (λ i n at. ap (has_name n.name) e ∙ type_known m (tree_of m) denoted i n at) m.types id (readable_placed m r).types
+  in_type k e id = type_right k m.type_names (λ i n at. ap (has_name n.name) e ∙ type_known m (tree_of m) denoted i n at) m.types id (module_placed m r).types
 
   -- ---- in heads
 
@@ -106,7 +106,7 @@ module _ (m : Module) (r : IsReadable m) where
   functions_right =
       let t = tables_of m in
       let found = λ (f : FunctionTree). map (inside f.name) (unknown_uses (tree_of m) f) in
-      same_firsts (IsSound t) (unknown_in m marks missing) (λ f. first (found (function_in t f))) in_function m.functions (all_sound t m.functions denoted.tables (readable_placed m r).functions)
+      same_firsts (IsSound t) (unknown_in m marks missing) (λ f. first (found (function_in t f))) in_function m.functions (all_sound t m.functions denoted.tables (module_placed m r).functions)
       ∙ sym (first_concat found (map (function_in t) m.functions) ∙ first_of_mapped (function_in t) (λ (f : FunctionTree). first (found f)) m.functions)
 
   -- ---- in a module

@@ -3,7 +3,7 @@
 ghost use Rattle.std.specs.Prelude.{◌≡◌, ◌++◌, ◌∷◌, [], false, length, replicate, IfOk};
 ghost use Rattle.ir_types.specs.Denotes.{tree_of};
 ghost use Rattle.ir_types.specs.Names.{has_name};
-ghost use Rattle.ir_types.specs.Reads.{IsReadable};
+ghost use Rattle.ir_shape.specs.Modules.{IsModule};
 ghost use Rattle.ir_rules.specs.Breaches.{first};
 ghost use Rattle.ir_rules.specs.Duplicates.{duplicate_names};
 ghost use Rattle.ir_check_names.specs.Choice.{first_of};
@@ -121,7 +121,7 @@ fn first_repeated(alloc: Global, m: &Module) -> Result<Option<Breach>, AllocErro
 ///
 /// Where there is no memory; so it is said of a function of 2^32 instructions or more, too.
 pub fn duplicate_name(alloc: Global, m: &Module) -> Result<Option<Breach>, AllocError>
-    requires readable { IsReadable m.now }
+    requires is_module { IsModule m.now }
     ensures { IfOk result (λ found. found ≡ first (duplicate_names (tree_of m.now))) }
 {
     first_repeated(alloc, m)

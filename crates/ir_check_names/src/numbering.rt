@@ -2,7 +2,7 @@
 
 ghost use Rattle.std.specs.Prelude.{◌≡◌, IfOk, None};
 ghost use Rattle.ir_types.specs.Denotes.{tree_of};
-ghost use Rattle.ir_types.specs.Reads.{IsReadable};
+ghost use Rattle.ir_shape.specs.Modules.{IsModule};
 ghost use Rattle.ir_rules.specs.Breaches.{first};
 ghost use Rattle.ir_rules.specs.Numbering.{misnumbered_names};
 ghost use Rattle.ir_check_names.specs.Choice.{first_of};
@@ -80,7 +80,7 @@ fn misnumbered_in_functions(
 ///
 /// Where there is no memory; so it is said of a function of 2^32 instructions or more, too.
 pub fn misnumbered(alloc: Global, m: &Module) -> Result<Option<Breach>, AllocError>
-    requires readable { IsReadable m.now }
+    requires is_module { IsModule m.now }
     ensures { IfOk result (λ found. found ≡ first (misnumbered_names (tree_of m.now))) }
 {
     misnumbered_in_functions(alloc, m.functions.as_slice())

@@ -2,7 +2,7 @@
 
 ghost use Rattle.std.specs.Prelude.{◌≡◌, IfOk};
 ghost use Rattle.ir_types.specs.Denotes.{tree_of};
-ghost use Rattle.ir_types.specs.Reads.{IsReadable};
+ghost use Rattle.ir_shape.specs.Modules.{IsModule};
 ghost use Rattle.ir_types.specs.declared.module.Symbol.{Symbol};
 ghost use Rattle.ir_types.specs.declared.memory_type.TypeName.{TypeName};
 ghost use Rattle.ir_rules.specs.Breaches.{first};
@@ -142,7 +142,7 @@ fn first_unknown(alloc: Global, m: &Module) -> Result<Option<Breach>, AllocError
 ///
 /// Where there is no memory; so it is said of a function of 2^32 instructions or more, too.
 pub fn unknown_name(alloc: Global, m: &Module) -> Result<Option<Breach>, AllocError>
-    requires readable { IsReadable m.now }
+    requires is_module { IsModule m.now }
     ensures { IfOk result (λ found. found ≡ first (unknown_names (tree_of m.now))) }
 {
     first_unknown(alloc, m)

@@ -12,10 +12,10 @@ use Rattle.ir_types.specs.declared.module.Function.{Function}
 use Rattle.ir_types.specs.declared.module.Module.{Module}
 use Rattle.ir_types.specs.Names.{IsTable, same_name, has_name}
 use Rattle.ir_types.specs.Denotes.{Tables, function_in, tables_of, tree_of}
-use Rattle.ir_types.specs.Reads.{IsReadable}
+use Rattle.ir_shape.specs.Modules.{IsModule}
 use Rattle.ir_types.specs.Tree.{InstTree, BlockTree, FunctionTree, TypeNameTree, SymbolTree, ModuleTree}
 use Rattle.ir_shape.specs.Placed.{IsFunctionPlaced}
-use Rattle.ir_shape.proofs.Placing.{readable_placed}
+use Rattle.ir_shape.proofs.Placing.{module_placed}
 use Rattle.ir_rules.specs.declared.fault.Rule.TheVariants.{DuplicateName, UnknownName, TypeMismatch, UnknownCallee, Numbering}
 use Rattle.ir_rules.specs.declared.fault.Subject.TheVariants.{Symbol, TypeName as TypeOf}
 use Rattle.ir_rules.specs.Breaches.{Found, behind_those, inside, outside, in_functions}
@@ -300,8 +300,8 @@ each_ready t (f ∷ fs) p n a w =
     (record { tables = t; placed = p.0; table = n.0; labels = labels_once (function_in t f) once; results = results_once (function_in t f) once }, each_ready t fs p.1 n.1 a.1 w.1)
 
 -- Each function of a module that breaks no earlier rule is ready.
-pub all_ready : (m : Module) → IsReadable m → early_breaches (tree_of m) ≡ [] → AllByRecursion IsReady m.functions
+pub all_ready : (m : Module) → IsModule m → early_breaches (tree_of m) ≡ [] → AllByRecursion IsReady m.functions
 all_ready m r e =
-    each_ready (tables_of m) m.functions (readable_placed m r).functions r.1.denotes.tables
+    each_ready (tables_of m) m.functions (module_placed m r).functions r.denotes.tables
     (none_in repeated_locals (tree_of m).functions (no_repeated (tree_of m) (no_duplicates (tree_of m) e)))
     (none_in misnumbered (tree_of m).functions (no_misnumbered (tree_of m) e))

@@ -2,7 +2,7 @@
 ghost use Rattle.std.specs.Prelude.{◌≡◌, ◌<◌, [], IfOk, length};
 ghost use Rattle.std.specs.Option.{MatchOption};
 ghost use Rattle.ir_types.specs.Denotes.{tree_of};
-ghost use Rattle.ir_types.specs.Reads.{IsReadable};
+ghost use Rattle.ir_shape.specs.Modules.{IsModule};
 ghost use Rattle.ir_rules.specs.Available.{AllAvailable, IsFirstUnavailable};
 ghost use Rattle.ir_rules.specs.WellFormed.{early_breaches};
 ghost use Rattle.ir_check_paths.specs.Known.{IsReady};
@@ -20,7 +20,7 @@ use std::alloc::{AllocError, Global};
 ///
 /// Where there is no memory; so it is said of an instruction whose number has more than 32 bits, too.
 pub fn unavailable(alloc: Global, m: &Module) -> Result<Option<Breach>, AllocError>
-    requires readable { IsReadable m.now }
+    requires is_module { IsModule m.now }
     requires early { early_breaches (tree_of m.now) ≡ [] }
     ensures { IfOk result (λ found. MatchOption found (AllAvailable (tree_of m.now)) (IsFirstUnavailable (tree_of m.now))) }
 {

@@ -3,7 +3,7 @@
 
 ghost use Rattle.std.specs.Prelude.{◌≡◌, [], Some, None, IfErr, OnOk};
 ghost use Rattle.ir_types.specs.Denotes.{tree_of};
-ghost use Rattle.ir_types.specs.Reads.{IsReadable};
+ghost use Rattle.ir_shape.specs.Modules.{IsModule};
 ghost use Rattle.ir_shape.specs.Narrow.{IsNarrow};
 ghost use Rattle.ir_rules.specs.declared.fault.Breach.{Breach};
 ghost use Rattle.ir_rules.specs.declared.fault.CheckFault.TheVariants.{Broken};
@@ -39,7 +39,7 @@ pub fn kept(rule: Rule, found: Option<Breach>) -> Result<(), CheckFault>
 /// instructions in the text's order; and where there was no memory for the checks.
 #[tactic(auto, using(crate::proofs::Narrowed::narrow, crate::proofs::Firsts::none_first, crate::proofs::Firsts::next_rule, crate::proofs::Firsts::broken))]
 pub fn check_types(alloc: Global, m: &Module) -> Result<(), CheckFault>
-    requires { IsReadable m.now }
+    requires { IsModule m.now }
     ensures ok { OnOk result (type_breaches (tree_of m.now) ≡ []) }
     ensures narrow { OnOk result (IsNarrow m.now) }
     ensures err { IfErr result (TypeCause (tree_of m.now)) }

@@ -3,7 +3,7 @@ use Rattle.std.proofs.Common.{◌≡◌, ℕ, List, [], ◌∷◌, ◌++◌, len
 use Rattle.std.specs.Prelude.{IfOk}
 use Rattle.std.specs.declared.alloc.AllocError.{AllocError}
 use Rattle.std.specs.Option.{option_map}
-use Rattle.std.specs.List.{AllByRecursion, filter_map, cons_option}
+use Rattle.std.specs.List.{AllByRecursion, filter_map, cons_option, range_with_len}
 use Rattle.std.proofs.Math.Seq.{drop-append_seam}
 use Rattle.std.proofs.lemmas.List.{map-append, length-map, append-nil}
 use Rattle.std.proofs.lemmas.List.Elements.{filter_map-append}
@@ -26,9 +26,9 @@ use Rattle.ir_types.specs.Names.{IsTable, unknown}
 use Rattle.ir_types.specs.Tree.{KeptTexts, TypeNameTree, SymbolTree, FunctionTree, ModuleTree, Item}
 use Rattle.ir_types.specs.Offsets.{Definitions, definitions_in}
 use Rattle.ir_types.specs.Skimmed.{Skimmed}
-use Rattle.ir_types.specs.Denotes.{Tables, type_names_of, type_name_in, tables_of, function_in, IsBare, Denotes}
+use Rattle.ir_types.specs.Denotes.{Tables, type_names_of, type_name_in, tables_of, function_in, IsBare, function_place, Denotes}
 use Rattle.ir_types.specs.Used.{types_of, insts_of, all_insts, all_type_names, all_symbol_names}
-use Rattle.ir_types.specs.Collected.{as_head, as_comdat, as_type, as_variable, as_function, as_attributes, as_metadata, symbol_of, symbols_from, collected}
+use Rattle.ir_types.specs.Collected.{as_head, as_comdat, as_type, as_variable, as_function, as_attributes, as_metadata, symbol_of, symbol_of_function, collected}
 use Rattle.ir_limits.specs.Mentioned.{in_items}
 use Rattle.ir_limits.specs.Limits.{first_long, passed_by, limit_passed}
 use Rattle.type_reader.specs.TypeTable.{names_of, missing_entry}
@@ -41,15 +41,15 @@ use Rattle.item_reader.specs.Parts.{variable_of}
 use Rattle.ir_reader.specs.declared.gather.Gathered.{Gathered}
 use Rattle.ir_reader.specs.declared.longs.ItemLong.{ItemLong}
 use Rattle.ir_reader.specs.Gathered.{definition_of, skimmed_of, function_among, long_among, Holds}
-use Rattle.ir_reader.specs.Trees.{symbol_over, variable_symbol, function_symbols, missing_symbol}
+use Rattle.ir_reader.specs.Trees.{symbol_over, variable_symbol, function_named, missing_symbol}
 use Rattle.ir_reader.specs.Typed.{all_symbols, ArePrepared}
-use Rattle.ir_reader.specs.Reading.{functions_read, filled_items, IsModule, GivesModule}
+use Rattle.ir_reader.specs.Reading.{functions_read, filled_items, IsBuilt, GivesModule}
 use Rattle.ir_reader.proofs.Filling.{put, filled_is}
 use Rattle.ir_reader.proofs.Groups as groups
 use Rattle.ir_reader.proofs.Usage.{type_names_are, symbol_names_are}
 use Rattle.ir_reader.proofs.Bare.{all_there, none_said, missing_named, same_named, bare_behind}
 use Rattle.ir_reader.proofs.Outlines.{names_read}
-use Rattle.ir_reader.proofs.Symbolic.{symbols_named}
+use Rattle.ir_reader.proofs.Symbolic.{symbols_named, missing_places}
 
 -- ---- lists of which some stand for nothing
 
@@ -154,13 +154,13 @@ module _ (g : Gathered) (items : List (Item Skimmed)) (h : Holds g items) (old t
       ∙ append-nil (filter_map over symbols)
       ∙ all_there over symbols (all_symbols g.variables.items g.functions.items) symbols_are
 
-  symbol_trees : all_symbols g.variables.items g.functions.items ≡ map symbol_of (filter_map as_variable numbered) ++ symbols_from 0 (filter_map as_function numbered)
+  symbol_trees : all_symbols g.variables.items g.functions.items ≡ map symbol_of (filter_map as_variable numbered) ++ map symbol_of_function (filter_map as_function numbered)
   symbol_trees =
       let vs = g.variables.items in
       let variables : map variable_symbol vs ≡ map symbol_of (filter_map as_variable numbered) = symbols_of_variables vs ∙ ap (map symbol_of) (h.variables ∙ sym (groups.variables items trees)) in
-      let functions : function_symbols 0 (map (λ (s : FunctionSource). s.name) g.functions.items) ≡ symbols_from 0 (filter_map as_function numbered) =
-      ap (function_symbols 0) (sym same_names) ∙ sym (symbols_named 0 trees) ∙ ap (symbols_from 0) (sym all_functions) in
-      ap (λ (l : List SymbolTree). l ++ function_symbols 0 (map (λ (s : FunctionSource). s.name) g.functions.items)) variables
+      let functions : map function_named (map (λ (s : FunctionSource). s.name) g.functions.items) ≡ map symbol_of_function (filter_map as_function numbered) =
+      ap (map function_named) (sym same_names) ∙ sym (symbols_named trees) ∙ ap (map symbol_of_function) (sym all_functions) in
+      ap (λ (l : List SymbolTree). l ++ map function_named (map (λ (s : FunctionSource). s.name) g.functions.items)) variables
       ∙ ap (λ (l : List SymbolTree). map symbol_of (filter_map as_variable numbered) ++ l) functions
 
   -- ---- names that are only used
@@ -189,6 +189,15 @@ module _ (g : Gathered) (items : List (Item Skimmed)) (h : Holds g items) (old t
   all_bare : AllByRecursion IsBare all
   all_bare = bare_behind (names_of t.entries) t.types symbols (all_symbols g.variables.items g.functions.items) symbols_are used
 
+  all_places : filter_map function_place all ≡ range_with_len 0 (length fs)
+  all_places =
+      let count : length g.functions.items ≡ length fs = sym (length-map g.functions.items (λ (s : FunctionSource). s.name)) ∙ ap length (sym same_names) ∙ length-map trees (λ (f : FunctionTree). f.name) ∙ length-map fs (function_in (tables_in t)) in
+      filter_map-append function_place symbols (map missing_symbol used)
+      ∙ ap (λ (l : List ℕ). filter_map function_place symbols ++ l) (missing_places used)
+      ∙ append-nil (filter_map function_place symbols)
+      ∙ p.places
+      ∙ ap (range_with_len 0) count
+
   denotes : (head tail : List KeptTexts) → head ≡ g.head.items ++ g.comdats.items → tail ≡ g.attributes.items ++ g.metadata.items → AreTables t → AllByRecursion (λ (f : Function). IsTable f.names) fs → Denotes (module_over t head all fs tail) (collected numbered)
   denotes head tail a b are tables =
       let m = module_over t head all fs tail in
@@ -205,6 +214,7 @@ module _ (g : Gathered) (items : List (Item Skimmed)) (h : Holds g items) (old t
         type_names = all_type_names_are;
         symbols = all_symbol_names_are;
         bare = all_bare;
+        functions = all_places;
       }
 
   limit : passed_by trees (long_among g.longs.items trees) ≡ limit_passed numbered
@@ -215,7 +225,7 @@ module _ (g : Gathered) (items : List (Item Skimmed)) (h : Holds g items) (old t
 
   -- the module that is made of all
   pub module_is : (head tail : List KeptTexts) (passed : Option (Count × ℕ)) → head ≡ g.head.items ++ g.comdats.items → tail ≡ g.attributes.items ++ g.metadata.items → AreTables t → AllByRecursion (λ (f : Function). IsTable f.names) fs → passed ≡ passed_by trees (long_among g.longs.items trees)
-      → IsModule (filled_items items) (module_over t head all fs tail) passed
+      → IsBuilt (filled_items items) (module_over t head all fs tail) passed
   module_is head tail passed a b are tables c = record { items = numbered; are = filled; denotes = denotes head tail a b are tables; limit = c ∙ limit }
 
 -- Where a function is not read, no items are.
@@ -232,8 +242,8 @@ refused view g items old symbols Memory h p e = tt
 
 -- the same module, whose lists are named otherwise
 pub module_so : (items_are : Option (List (Item FunctionTree))) (t : TableLists) (head tail : List KeptTexts) (symbols symbols1 : List Symbol) (fs fs1 : List Function) (types : List MemTy) (extents : List Extent) (names : List TypeName) (passed : Option (Count × ℕ))
-    → types ≡ t.types → extents ≡ t.extents → names ≡ t.entries → symbols1 ≡ symbols → fs1 ≡ fs → IsModule items_are (module_over t head symbols fs tail) passed
-    → IsModule items_are (record { head = head; types = types; extents = extents; type_names = names; symbols = symbols1; functions = fs1; tail = tail }) passed
+    → types ≡ t.types → extents ≡ t.extents → names ≡ t.entries → symbols1 ≡ symbols → fs1 ≡ fs → IsBuilt items_are (module_over t head symbols fs tail) passed
+    → IsBuilt items_are (record { head = head; types = types; extents = extents; type_names = names; symbols = symbols1; functions = fs1; tail = tail }) passed
 module_so items_are t head tail symbols symbols1 fs fs1 types extents names passed a b c d e h = rw (a, b, c, d, e) h
 
 -- the first limit, where the tables are these

@@ -1,5 +1,5 @@
 -- Names that are used, one thing's behind another's.
-use Rattle.std.proofs.Common.{◌≡◌, ℕ, suc, List, [], ◌∷◌, ◌++◌, map, refl, sym, ap, ◌∙◌, append_assoc}
+use Rattle.std.proofs.Common.{◌≡◌, List, [], ◌∷◌, ◌++◌, map, refl, sym, ap, ◌∙◌, append_assoc}
 use Rattle.std.proofs.lemmas.List.{append-nil, map-append, map_push}
 use Rattle.forms.specs.Nested.{concat}
 use Rattle.ir_types.specs.declared.name.Name.{Name}
@@ -13,7 +13,7 @@ use Rattle.type_reader.proofs.Uses.{uses_both}
 use Rattle.item_reader.specs.declared.part.Definition.{Definition}
 use Rattle.item_reader.specs.declared.part.Variable.{Variable}
 use Rattle.ir_reader.specs.Gathered.{definition_of}
-use Rattle.ir_reader.specs.Trees.{variable_symbol, function_symbols}
+use Rattle.ir_reader.specs.Trees.{variable_symbol, function_named}
 use Rattle.ir_reader.specs.Typed.{definition_uses, variable_uses, names_before_functions}
 use Rattle.ir_reader.proofs.Groups.{type_tree}
 
@@ -58,26 +58,26 @@ named_definitions : (ds : List Definition) → map (λ (n : TypeNameTree). n.nam
 named_definitions [] = refl
 named_definitions (d ∷ ds) = ap (λ (l : List Name). d.name ∷ l) (named_definitions ds)
 
-functions_use : (i : ℕ) (ns : List Name) → concat (map (λ (s : SymbolTree). types_of_symbol s.kind) (function_symbols i ns)) ≡ []
-functions_use i [] = refl
-functions_use i (n ∷ ns) = functions_use (suc i) ns
+functions_use : (ns : List Name) → concat (map (λ (s : SymbolTree). types_of_symbol s.kind) (map function_named ns)) ≡ []
+functions_use [] = refl
+functions_use (n ∷ ns) = functions_use ns
 
-each_symbol : (vs : List Variable) (i : ℕ) (ns : List Name) → concat (map (λ (s : SymbolTree). types_of_symbol s.kind) (map variable_symbol vs ++ function_symbols i ns)) ≡ concat (map variable_uses vs)
-each_symbol [] i ns = functions_use i ns
-each_symbol (v ∷ vs) i ns = ap (λ (l : List Name). variable_uses v ++ l) (each_symbol vs i ns)
+each_symbol : (vs : List Variable) (ns : List Name) → concat (map (λ (s : SymbolTree). types_of_symbol s.kind) (map variable_symbol vs ++ map function_named ns)) ≡ concat (map variable_uses vs)
+each_symbol [] ns = functions_use ns
+each_symbol (v ∷ vs) ns = ap (λ (l : List Name). variable_uses v ++ l) (each_symbol vs ns)
 
 -- of these definitions, variables and names of functions
-module _ (ds : List Definition) (vs : List Variable) (fs : List Name) (m : ModuleTree) (types : m.type_names ≡ map type_tree (map definition_of ds)) (symbols : m.symbols ≡ map variable_symbol vs ++ function_symbols 0 fs) where
+module _ (ds : List Definition) (vs : List Variable) (fs : List Name) (m : ModuleTree) (types : m.type_names ≡ map type_tree (map definition_of ds)) (symbols : m.symbols ≡ map variable_symbol vs ++ map function_named fs) where
   -- the names of types that are known before functions are read, and those that instructions use
   pub type_names_are : (known names : List Name) → known ≡ names_before_functions ds vs → names ≡ with_unknown known (types_of (all_insts m)) → names ≡ all_type_names m
   type_names_are known names e d =
       let defined : map (λ (n : TypeNameTree). n.name) m.type_names ≡ map (λ (d : Definition). d.name) ds = ap (map (λ (n : TypeNameTree). n.name)) types ∙ named_definitions ds in
       let first : concat (map (λ (n : TypeNameTree). types_of_definition n.ty) m.type_names) ≡ concat (map definition_uses ds) = ap (λ (l : List TypeNameTree). concat (map (λ (n : TypeNameTree). types_of_definition n.ty) l)) types ∙ ap concat (each_definition ds) in
-      let next : concat (map (λ (s : SymbolTree). types_of_symbol s.kind) m.symbols) ≡ concat (map variable_uses vs) = ap (λ (l : List SymbolTree). concat (map (λ (s : SymbolTree). types_of_symbol s.kind) l)) symbols ∙ each_symbol vs 0 fs in
+      let next : concat (map (λ (s : SymbolTree). types_of_symbol s.kind) m.symbols) ≡ concat (map variable_uses vs) = ap (λ (l : List SymbolTree). concat (map (λ (s : SymbolTree). types_of_symbol s.kind) l)) symbols ∙ each_symbol vs fs in
       let last = types_of (all_insts m) in
       let all = unknown_further (map (λ (d : Definition). d.name) ds) known names (concat (map definition_uses ds) ++ concat (map variable_uses vs)) last e d in
       rw (defined, first, next) (all ∙ ap (with_unknown (map (λ (d : Definition). d.name) ds)) (append_assoc (concat (map definition_uses ds)) (concat (map variable_uses vs)) last))
 
   -- the same of symbols
-  pub symbol_names_are : (known names : List Name) → known ≡ map (λ (s : SymbolTree). s.name) (map variable_symbol vs ++ function_symbols 0 fs) → names ≡ with_unknown known (symbols_of (operands_of (all_insts m))) → names ≡ all_symbol_names m
+  pub symbol_names_are : (known names : List Name) → known ≡ map (λ (s : SymbolTree). s.name) (map variable_symbol vs ++ map function_named fs) → names ≡ with_unknown known (symbols_of (operands_of (all_insts m))) → names ≡ all_symbol_names m
   symbol_names_are known names e d = d ∙ ap (λ (l : List Name). with_unknown l (symbols_of (operands_of (all_insts m)))) (e ∙ ap (map (λ (s : SymbolTree). s.name)) (sym symbols))

@@ -56,7 +56,7 @@ GivesItems ts g rest (Err Memory) = Unit {0}
 -- ---- the module
 
 -- these items were read, the module is what they are collected to, and this is the first limit that they pass
-pub record IsModule (items_are : Option (List (Item FunctionTree))) (m : Module) (passed : Option (Count × ℕ)) : Type 0 where
+pub record IsBuilt (items_are : Option (List (Item FunctionTree))) (m : Module) (passed : Option (Count × ℕ)) : Type 0 where
   pub items : List (Item FunctionTree)
   pub are : items_are ≡ Some items
   pub denotes : Denotes m (collected items)
@@ -64,6 +64,6 @@ pub record IsModule (items_are : Option (List (Item FunctionTree))) (m : Module)
 
 -- the module of the items that are read, and the first limit that it passes; or none are read, or there was no memory
 abbrev pub GivesModule : Option (List (Item FunctionTree)) → Result (Module × Option (Count × ℕ)) SyntaxFault → Type 0
-GivesModule items_are (Ok x) = IsModule items_are x.0 x.1
+GivesModule items_are (Ok x) = IsBuilt items_are x.0 x.1
 GivesModule items_are (Err (NoReading place)) = items_are ≡ None
 GivesModule items_are (Err Memory) = Unit {0}

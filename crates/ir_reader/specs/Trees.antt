@@ -1,5 +1,5 @@
 -- What is made of a module's parts, as parts of its tree, over a list of names and a list of types.
-use Rattle.std.specs.Prelude.{ℕ, suc, List, [], ◌∷◌, Option, Some, None}
+use Rattle.std.specs.Prelude.{ℕ, ◌+◌, List, [], ◌∷◌, Option, Some, None}
 use Rattle.std.specs.Option.{option_map}
 use Rattle.ir_types.specs.declared.name.Name.{Name}
 use Rattle.ir_types.specs.declared.module.Symbol.{Symbol}
@@ -35,7 +35,7 @@ defined_as d = Some (option_map nodes_of d.ty)
 abbrev pub symbol_over : List Name → List MemTy → Symbol → Option SymbolTree
 symbol_over names types s = elim s.kind [
   | symbols.Variable id writable ↦ Some (record { name = s.name; kind = variable (type_nodes names types id) writable; before = s.before; after = s.after })
-  | symbols.Function f ↦ Some (record { name = s.name; kind = function f.0; before = s.before; after = s.after })
+  | symbols.Function f ↦ Some (record { name = s.name; kind = function; before = s.before; after = s.after })
   | symbols.Missing ↦ None
 ]
 
@@ -43,14 +43,18 @@ symbol_over names types s = elim s.kind [
 abbrev pub variable_symbol : Variable → SymbolTree
 variable_symbol v = symbol_of (variable_of v)
 
+-- a function's, by its name
+abbrev pub function_named : Name → SymbolTree
+function_named name = record { name = name; kind = function; before = []; after = [] }
+
 -- that of the function at a place, by its name
-abbrev pub function_symbol : ℕ → Name → SymbolTree
-function_symbol place name = record { name = name; kind = function place; before = []; after = [] }
+abbrev pub function_symbol : ℕ → Name → Symbol
+function_symbol place name = record { name = name; kind = symbols.Function (record { 0 = place }); before = []; after = [] }
 
 -- those of functions from a place on, by their names
-abbrev pub function_symbols : ℕ → List Name → List SymbolTree
+abbrev pub function_symbols : ℕ → List Name → List Symbol
 function_symbols place [] = []
-function_symbols place (n ∷ names) = function_symbol place n ∷ function_symbols (suc place) names
+function_symbols place (n ∷ names) = function_symbol place n ∷ function_symbols (place + 1) names
 
 -- that of a name that is only used
 abbrev pub missing_symbol : Name → Symbol

@@ -1,7 +1,7 @@
 -- What is made of definitions, variables and functions before functions are read.
 use Rattle.std.specs.Prelude.{◌≡◌, ◌<◌, ℕ, List, [], ◌∷◌, ◌++◌, length, map, Some}
 use Rattle.std.specs.Option.{option_map}
-use Rattle.std.specs.List.{AllByRecursion, filter_map}
+use Rattle.std.specs.List.{AllByRecursion, filter_map, range_with_len}
 use Rattle.forms.specs.Nested.{concat}
 use Rattle.forms.specs.View.{Extends}
 use Rattle.ir_types.specs.declared.name.Name.{Name}
@@ -16,6 +16,7 @@ use Rattle.ir_types.specs.TypeNodes.{names_used}
 use Rattle.ir_types.specs.Tree.{SymbolTree}
 use Rattle.ir_types.specs.Collected.{of_definition}
 use Rattle.ir_types.specs.Used.{types_of_definition, with_unknown}
+use Rattle.ir_types.specs.Denotes.{function_place}
 use Rattle.type_reader.specs.TypeTable.{names_of, missing_entry}
 use Rattle.type_reader.specs.Tables.{TableLists, definition_over, definitions_of, Grows, IsDefinedBefore, AreEntriesApart}
 use Rattle.item_reader.specs.declared.part.Definition.{Definition}
@@ -23,7 +24,7 @@ use Rattle.item_reader.specs.declared.part.Variable.{Variable}
 use Rattle.item_reader.specs.declared.source.FunctionSource.{FunctionSource}
 use Rattle.item_reader.specs.Parts.{nodes_of}
 use Rattle.ir_reader.specs.Gathered.{definition_of}
-use Rattle.ir_reader.specs.Trees.{symbol_over, variable_symbol, function_symbols}
+use Rattle.ir_reader.specs.Trees.{symbol_over, variable_symbol, function_named}
 
 -- This says the tree, over these names and types and over all that follow.
 abbrev pub Stands : {B C : Type 0} → (List Name → List MemTy → B → C) → List TypeName → List MemTy → B → C → Type 0
@@ -73,14 +74,16 @@ pub record AreTyped (definitions : List Definition) (variables : List Variable) 
   pub defined : filter_map (definition_over (names_of names) types) names ≡ map definition_of definitions
   pub stand : Stands (λ ns ts ss. map (symbol_over ns ts) ss) names types symbols (map (λ v. Some (variable_symbol v)) variables)
 
--- the symbols of variables, and behind them those of functions
+-- the symbols of variables, and behind them those of functions, as parts of the tree
 abbrev pub all_symbols : List Variable → List FunctionSource → List SymbolTree
-all_symbols variables functions = map variable_symbol variables ++ function_symbols 0 (map (λ (f : FunctionSource). f.name) functions)
+all_symbols variables functions = map variable_symbol variables ++ map function_named (map (λ (f : FunctionSource). f.name) functions)
 
--- the tables say what the definitions say, and have the names that these and variables use; their symbols are these, all that are defined or declared
+-- the tables say what the definitions say, and have the names that these and variables use; their symbols are these, all that are defined or declared,
+-- those of functions at their places
 pub record ArePrepared (definitions : List Definition) (variables : List Variable) (functions : List FunctionSource) (tables : TableLists) (symbols : List Symbol) : Type 0 where
   pub defined : definitions_of tables ≡ map definition_of definitions
   pub type_names : names_of tables.entries ≡ names_before_functions definitions variables
   pub named : tables.symbols ≡ map (λ (s : Symbol). s.name) symbols
   pub known : tables.known ≡ length symbols
   pub stand : (later : TableLists) → Grows tables later → map (symbol_over (names_of later.entries) later.types) symbols ≡ map Some (all_symbols variables functions)
+  pub places : filter_map function_place symbols ≡ range_with_len 0 (length functions)

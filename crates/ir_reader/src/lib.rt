@@ -7,6 +7,7 @@ ghost use Rattle.forms.specs.declared.Token.{Token};
 ghost use Rattle.forms.specs.declared.cursor.SyntaxFault.TheVariants.{Memory};
 ghost use Rattle.forms.specs.Gives.{left};
 ghost use Rattle.text_lex.specs.Fault.{HasNoneLeftOut};
+ghost use Rattle.ir_types.specs.Denotes.{tree_of, Denotes};
 ghost use Rattle.ir_reader.specs.Refusal.{IsWithinLimits, IsRefusal, StartsAt};
 ghost use Rattle.ir_reader.specs.Reading.{module_read, GivesModule};
 
@@ -81,7 +82,8 @@ fn stop(tokens: &[Token], place: u32, end: u32) -> u32
 /// Those of `lex`; then `NoReading` with the place of the first token at which reading from left to right stops, or the text's length;
 /// then `CountLimit` with the first limit that the module passes; and `Memory` where there is no room.
 pub fn read_module(alloc: Global, text: &[u8]) -> Result<Module, TextFault>
-    ensures module { IfOk result (λ m. IsWithinLimits text.now m) }
+    ensures reads { IfOk result (λ m. IsWithinLimits text.now (tree_of m)) }
+    ensures denotes { IfOk result (λ m. Denotes m (tree_of m)) }
     ensures within { OnOk result (length text.now ≤ TEXT_LIMIT) }
     ensures nothing_left_out { OnOk result (HasNoneLeftOut text.now) }
     ensures too_long { TEXT_LIMIT < length text.now → result ≡ Err (TextFault.TextLimit (length text.now)) }

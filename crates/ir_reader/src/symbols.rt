@@ -1,10 +1,8 @@
 // The symbols of variables and of functions, and those that are only used.
 
-ghost use Rattle.std.specs.Prelude.{◌≡◌, ◌≤◌, ◌++◌, List, length, map, drop, Some, IfOk, OnOk};
+ghost use Rattle.std.specs.Prelude.{◌≡◌, ◌≤◌, ◌++◌, length, map, drop, Some, IfOk, OnOk};
 ghost use Rattle.forms.specs.View.{Extends};
-ghost use Rattle.ir_types.specs.declared.name.Name.{Name};
 ghost use Rattle.ir_types.specs.declared.module.Symbol.{Symbol};
-ghost use Rattle.ir_types.specs.declared.memory_type.MemTy.{MemTy};
 ghost use Rattle.ir_types.specs.Types.{AreTypes};
 ghost use Rattle.type_reader.specs.TypeTable.{names_of};
 ghost use Rattle.item_reader.specs.declared.part.Variable.{Variable};
@@ -68,7 +66,7 @@ pub fn variable_symbols(
 
 /// The symbol of the function at a place.
 fn function_symbol(alloc: Global, place: u32, name: &Name) -> Result<Symbol, AllocError>
-    ensures { IfOk result (λ s. (names : List Name) (types : List MemTy) → symbol_over names types s ≡ Some (function_symbol place name.now)) }
+    ensures { IfOk result (λ s. s ≡ function_symbol place name.now) }
 {
     Ok(Symbol {
         name: name.copy()?,
@@ -84,7 +82,7 @@ pub fn add_functions(
     functions: &[FunctionSource<'_>],
     symbols: &mut Vec<Symbol>,
 ) -> Result<(), AllocError>
-    ensures { OnOk result ((names : List Name) (types : List MemTy) → map (symbol_over names types) symbols.new.items ≡ map (symbol_over names types) symbols.old.items ++ map Some (function_symbols 0 (map (λ (f : FunctionSource). f.name) functions.now))) }
+    ensures { OnOk result (symbols.new.items ≡ symbols.old.items ++ function_symbols 0 (map (λ (f : FunctionSource). f.name) functions.now)) }
 {
     for (place, function) in functions.iter().enumerate() {
         let Ok(place) = u32::try_from(place) else {

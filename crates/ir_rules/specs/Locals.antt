@@ -18,7 +18,7 @@ pub record Definition : Type 0 where
 
 -- of the parameters
 abbrev pub of_params : List ParamTree → List Definition
-of_params params = map (λ (p : ParamTree). record { place = 0; name = p.name; given = value p.ty }) params
+of_params ps = map (λ (p : ParamTree). record { place = 0; name = p.name; given = value p.ty }) ps
 
 -- of the results, where the first instruction has this number
 abbrev pub of_results : ℕ → List InstTree → List Definition

@@ -335,48 +335,30 @@ value_words = codes "true" ∷ codes "false" ∷ codes "null" ∷ codes "poison"
 -- the words with which items begin
 unfoldable pub item_words : List (List ℕ × ItemWord)
 item_words =
-    (codes "source_filename", items.SourceFilename) ∷
-    (codes "target", items.Target) ∷
-    (codes "declare", items.Declare) ∷
-    (codes "define", items.Define) ∷
-    (codes "attributes", items.Attributes) ∷
-    []
+    (codes "source_filename", items.SourceFilename) ∷ (codes "target", items.Target) ∷
+    (codes "declare", items.Declare) ∷ (codes "define", items.Define) ∷
+    (codes "attributes", items.Attributes) ∷ []
 
 -- the words with which an instruction begins that doesn't end a block
 unfoldable pub operation_words : List (List ℕ × Operation)
 operation_words =
-    (codes "add", operations.Overflowing Add) ∷
-    (codes "sub", operations.Overflowing Sub) ∷
-    (codes "mul", operations.Overflowing Mul) ∷
-    (codes "shl", operations.Overflowing Shl) ∷
-    (codes "udiv", operations.PossiblyExact UDiv) ∷
-    (codes "sdiv", operations.PossiblyExact SDiv) ∷
-    (codes "lshr", operations.PossiblyExact LShr) ∷
-    (codes "ashr", operations.PossiblyExact AShr) ∷
-    (codes "urem", operations.Plain URem) ∷
-    (codes "srem", operations.Plain SRem) ∷
-    (codes "and", operations.Plain And) ∷
-    (codes "xor", operations.Plain Xor) ∷
-    (codes "or", operations.Or) ∷
-    (codes "icmp", operations.Icmp) ∷
-    (codes "select", operations.Select) ∷
-    (codes "freeze", operations.Freeze) ∷
-    (codes "trunc", operations.Trunc) ∷
-    (codes "zext", operations.Zext) ∷
-    (codes "sext", operations.Sext) ∷
-    (codes "ptrtoint", operations.PtrToInt) ∷
-    (codes "phi", operations.Phi) ∷
-    (codes "getelementptr", operations.GetElementPtr) ∷
-    (codes "load", operations.Load) ∷
-    (codes "store", operations.Store) ∷
-    (codes "call", operations.Call Unmarked) ∷
-    (codes "tail", operations.Call Tail) ∷
-    (codes "musttail", operations.Call MustTail) ∷
-    (codes "notail", operations.Call NoTail) ∷
+    (codes "add", operations.Overflowing Add) ∷ (codes "sub", operations.Overflowing Sub) ∷
+    (codes "mul", operations.Overflowing Mul) ∷ (codes "shl", operations.Overflowing Shl) ∷
+    (codes "udiv", operations.PossiblyExact UDiv) ∷ (codes "sdiv", operations.PossiblyExact SDiv) ∷
+    (codes "lshr", operations.PossiblyExact LShr) ∷ (codes "ashr", operations.PossiblyExact AShr) ∷
+    (codes "urem", operations.Plain URem) ∷ (codes "srem", operations.Plain SRem) ∷
+    (codes "and", operations.Plain And) ∷ (codes "xor", operations.Plain Xor) ∷
+    (codes "or", operations.Or) ∷ (codes "icmp", operations.Icmp) ∷
+    (codes "select", operations.Select) ∷ (codes "freeze", operations.Freeze) ∷
+    (codes "trunc", operations.Trunc) ∷ (codes "zext", operations.Zext) ∷
+    (codes "sext", operations.Sext) ∷ (codes "ptrtoint", operations.PtrToInt) ∷
+    (codes "phi", operations.Phi) ∷ (codes "getelementptr", operations.GetElementPtr) ∷
+    (codes "load", operations.Load) ∷ (codes "store", operations.Store) ∷
+    (codes "call", operations.Call Unmarked) ∷ (codes "tail", operations.Call Tail) ∷
+    (codes "musttail", operations.Call MustTail) ∷ (codes "notail", operations.Call NoTail) ∷
     (codes "extractelement", operations.ExtractElement) ∷
     (codes "insertelement", operations.InsertElement) ∷
-    (codes "shufflevector", operations.ShuffleVector) ∷
-    []
+    (codes "shufflevector", operations.ShuffleVector) ∷ []
 
 -- the words with which a terminator begins that has something behind its word
 unfoldable pub terminator_words : List (List ℕ × Terminator)
@@ -415,7 +397,7 @@ two_values = pair value (after_mark Comma value)
 
 -- two values with the type of both
 abbrev pub both_at : Definitions → Ty × (WrittenValue × WrittenValue) → Option (Ty × (OperandTree × OperandTree))
-both_at defs x = operand_at defs x.0 x.1.0 >>= λ a. operand_at defs x.0 x.1.1 >>= λ b. Some (x.0, (a, b))
+both_at ds x = operand_at ds x.0 x.1.0 >>= λ a. operand_at ds x.0 x.1.1 >>= λ b. Some (x.0, (a, b))
 
 -- T V, V
 unfoldable pub typed_pair : Definitions → Form (Ty × (OperandTree × OperandTree))
@@ -492,17 +474,9 @@ or_operation defs = mapped (λ x. binary_tree Or (disjoint_flag x.0) x.1) (pair 
 -- the ten predicates
 unfoldable pub predicates : List (List ℕ × Pred)
 predicates =
-    (codes "eq", Eq) ∷
-    (codes "ne", Ne) ∷
-    (codes "ugt", Ugt) ∷
-    (codes "uge", Uge) ∷
-    (codes "ult", Ult) ∷
-    (codes "ule", Ule) ∷
-    (codes "sgt", Sgt) ∷
-    (codes "sge", Sge) ∷
-    (codes "slt", Slt) ∷
-    (codes "sle", Sle) ∷
-    []
+    (codes "eq", Eq) ∷ (codes "ne", Ne) ∷ (codes "ugt", Ugt) ∷ (codes "uge", Uge) ∷
+    (codes "ult", Ult) ∷ (codes "ule", Ule) ∷ (codes "sgt", Sgt) ∷ (codes "sge", Sge) ∷
+    (codes "slt", Slt) ∷ (codes "sle", Sle) ∷ []
 
 -- the type of a comparison's result: a bit, or a bit for each lane
 abbrev pub bits_for : Ty → Ty
@@ -574,7 +548,7 @@ entry_of_phi = between LeftBracket RightBracket (pair value (after_mark Comma lo
 -- the operands of a phi's entries at its type
 abbrev pub entries_at : Definitions → Ty → List (WrittenValue × Name) → Option (List OperandTree)
 entries_at defs t [] = Some []
-entries_at defs t (e ∷ es) = operand_at defs t e.0 >>= λ a. entries_at defs t es >>= λ more. Some (a ∷ more)
+entries_at defs t (e ∷ es) = operand_at defs t e.0 >>= λ a. entries_at defs t es >>= λ bs. Some (a ∷ bs)
 
 -- a phi: its operands at its type, and a label for each
 abbrev pub phi_tree : Definitions → Ty × List (WrittenValue × Name) → Option InstTree
@@ -598,7 +572,7 @@ load_tree x = bare_inst (kinds.Load (align_or x.0 x.1.1)) x.0 (x.1.0 ∷ []) []
 
 -- T, ptr V [, align n]
 unfoldable pub load : Definitions → Form InstTree
-load defs = mapped load_tree (pair value_type (pair (after_mark Comma (pointer_value defs)) alignment))
+load ds = mapped load_tree (pair value_type (pair (after_mark Comma (pointer_value ds)) alignment))
 
 -- a store of a value to a pointer
 abbrev pub store_tree : (Ty × OperandTree) × (OperandTree × Option ℕ) → InstTree
@@ -621,7 +595,7 @@ extract_tree x = bare_inst (kinds.Extract x.0.0 x.1.0) (element_of x.0.0) (x.0.1
 
 -- T V, iN V
 unfoldable pub extractelement : Definitions → Form InstTree
-extractelement defs = mapped extract_tree (pair (typed_value defs) (after_mark Comma (index_value defs)))
+extractelement ds = mapped extract_tree (pair (typed_value ds) (after_mark Comma (index_value ds)))
 
 -- a vector with another lane
 abbrev pub insert_tree : (Ty × OperandTree) × ((Ty × OperandTree) × (ℕ × OperandTree)) → InstTree
@@ -942,4 +916,4 @@ module_form defs depth = many (item defs (memory_type depth))
 -- By these tokens a module's items are spelled. In constants the names of types are those that the items themselves define, wherever they
 -- stand; no type is nested deeper than there are tokens.
 abbrev pub SpellsModule : List (Item WrittenFunction) → List Lexeme → Type 0
-SpellsModule written tokens = Spells (module_form (definitions_in written) (length tokens)) written tokens
+SpellsModule written ts = Spells (module_form (definitions_in written) (length ts)) written ts

@@ -104,7 +104,7 @@ abbrev pub line_of : Status → List ℕ
 line_of Done = []
 line_of BadWords = line (codes "words")
 line_of (Text (BadToken place)) = line (codes "text: bad token at " ++ decimal place)
-line_of (Text (LeftOut word place)) = line (codes "text: left out " ++ word ++ codes " at " ++ decimal place)
+line_of (Text (LeftOut w n)) = line (codes "text: left out " ++ w ++ codes " at " ++ decimal n)
 line_of (Text (TextLimit n)) = line (codes "text: " ++ decimal n ++ codes " bytes")
 line_of (Text (NoReading place)) = line (codes "text: no reading at " ++ decimal place)
 line_of (Text (CountLimit count n)) = line (codes "text: " ++ count_name count ++ codes " limit " ++ decimal n)
@@ -124,7 +124,7 @@ pub record IsAccepted (text : List ℕ) : Type 0 where
 
 -- the tree that the file reads as, where the file is told
 abbrev pub IsMeant : Option (List ℕ) → ModuleTree → Type 0
-IsMeant told tree = IfSome told (λ text. (length text ≤ longest) × HasNoneLeftOut text × IsWithinLimits text tree)
+IsMeant told m = IfSome told (λ t. (length t ≤ longest) × HasNoneLeftOut t × IsWithinLimits t m)
 
 -- the text reads as a tree that breaks this rule first, in this function, of this name, and at this place
 pub record IsBroken (text : List ℕ) (rule : Rule) (names : List ℕ) (place : ℕ) : Type 0 where
@@ -151,11 +151,8 @@ pub record IsPrinted (told : Option (List ℕ)) (printed : List ℕ) : Type 0 wh
 -- The causes of the answers that speak of the file: what is told of it, its count of faults before and now, and the last load's length.
 abbrev pub FileCause : Option (List ℕ) → (before now last : ℕ) → Status → Type 0
 FileCause told before now last (Text (TextLimit n)) = (n ≡ longest + 1) × (last ≡ n) × IfSome told (λ text. longest < length text)
-FileCause told before now last (Text (BadToken place)) = (last ≤ longest) × IfSome told (λ text. IsRefusal text (BadToken place))
-FileCause told before now last (Text (LeftOut word place)) = (last ≤ longest) × IfSome told (λ text. IsRefusal text (LeftOut word place))
-FileCause told before now last (Text (NoReading place)) = (last ≤ longest) × IfSome told (λ text. IsRefusal text (NoReading place))
-FileCause told before now last (Text (CountLimit count n)) = (last ≤ longest) × IfSome told (λ text. IsRefusal text (CountLimit count n))
 FileCause told before now last (Text TextMemory) = ⊥
+FileCause told before now last (Text fault) = (last ≤ longest) × IfSome told (λ text. IsRefusal text fault)
 FileCause told before now last (Check rule names place) = (last ≤ longest) × IfSome told (λ text. IsBroken text rule names place)
 FileCause told before now last (ReadFault TheModule) = Rose before now
 FileCause told before now last (ReadFault Out) = ⊥
@@ -167,18 +164,13 @@ FileCause told before now last Memory = Unit {0}
 -- where the words give no command, that is the answer; else the answer has its cause in the file
 abbrev pub Cause : Option (List ℕ) → (List ℕ → Option (List ℕ)) → (before now : List ℕ → ℕ) → (last : ℕ) → Status → Type 0
 Cause None told before now last status = status ≡ BadWords
-Cause (Some file) told before now last status = FileCause (told file) (before file) (now file) last status
+Cause (Some f) told before now last status = FileCause (told f) (before f) (now f) last status
 
 -- only `out` has a write fault, and its count of faults rose
 abbrev pub WriteCause : (before now : ℕ) → Status → Type 0
 WriteCause before now (WriteFault TheModule) = ⊥
 WriteCause before now (WriteFault Out) = Rose before now
-WriteCause before now Done = Unit {0}
-WriteCause before now BadWords = Unit {0}
-WriteCause before now (Text fault) = Unit {0}
-WriteCause before now (Check rule names place) = Unit {0}
-WriteCause before now (ReadFault which) = Unit {0}
-WriteCause before now Memory = Unit {0}
+WriteCause before now status = Unit {0}
 
 -- where nothing stands in the way, the program is done, or memory is short
 abbrev pub FileCompletes : Option (List ℕ) → (file_rose out_rose : Type 0) → Status → Type 0
@@ -187,28 +179,19 @@ FileCompletes told file_rose out_rose status = IfSome told (λ text. IsAccepted 
 -- the same for any words
 abbrev pub Completes : Option (List ℕ) → (List ℕ → Option (List ℕ)) → (file_rose : List ℕ → Type 0) → (out_rose : Type 0) → Status → Type 0
 Completes None told file_rose out_rose status = Unit {0}
-Completes (Some file) told file_rose out_rose status = FileCompletes (told file) (file_rose file) out_rose status
+Completes (Some f) told rose out_rose status = FileCompletes (told f) (rose f) out_rose status
 
 -- the answers that come before `out` has its turn
 abbrev pub IsBeforeOut : Status → Type 0
 IsBeforeOut Done = ⊥
 IsBeforeOut (WriteFault which) = ⊥
-IsBeforeOut BadWords = Unit {0}
-IsBeforeOut (Text fault) = Unit {0}
-IsBeforeOut (Check rule names place) = Unit {0}
-IsBeforeOut (ReadFault which) = Unit {0}
-IsBeforeOut Memory = Unit {0}
+IsBeforeOut status = Unit {0}
 
 -- what `out` took of a text
 abbrev pub Delivered : (before now : Option (List ℕ)) → List ℕ → Status → Type 0
 Delivered before now text Done = now ≡ and_then before text
 Delivered before now text (WriteFault Out) = (n : ℕ) × (now ≡ and_then before (take n text))
-Delivered before now text (WriteFault TheModule) = ⊥
-Delivered before now text BadWords = ⊥
-Delivered before now text (Text fault) = ⊥
-Delivered before now text (Check rule names place) = ⊥
-Delivered before now text (ReadFault which) = ⊥
-Delivered before now text Memory = ⊥
+Delivered before now text status = ⊥
 
 -- `out` took what is printed of the file
 pub record TookAll (told before now : Option (List ℕ)) : Type 0 where
@@ -228,11 +211,7 @@ abbrev pub OutHolds : (told before now : Option (List ℕ)) → Status → Type 
 OutHolds told before now Done = TookAll told before now
 OutHolds told before now (WriteFault Out) = TookFront told before now
 OutHolds told before now (WriteFault TheModule) = ⊥
-OutHolds told before now BadWords = now ≡ before
-OutHolds told before now (Text fault) = now ≡ before
-OutHolds told before now (Check rule names place) = now ≡ before
-OutHolds told before now (ReadFault which) = now ≡ before
-OutHolds told before now Memory = now ≡ before
+OutHolds told before now status = now ≡ before
 
 -- the same for any words
 abbrev pub OutLeft : Option (List ℕ) → (List ℕ → Option (List ℕ)) → (before now : Option (List ℕ)) → Status → Type 0

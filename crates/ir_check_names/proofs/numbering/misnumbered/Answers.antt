@@ -11,4 +11,4 @@ use Rattle.ir_check_names.proofs.numbering.misnumbered.Goals as goal
 pub returns : goal.returns
 returns c =
     let fs = ap (first_of misnumbered_in) c.as_slice.ensures in
-    same_answer c.misnumbered_in_functions.result (first_of misnumbered_in c.as_slice.result.now) (first (misnumbered_names (tree_of c.args.m.now))) (fs ∙ in_module c.args.m.now c.requires.readable) c.misnumbered_in_functions.ensures
+    same_answer c.misnumbered_in_functions.result (first_of misnumbered_in c.as_slice.result.now) (first (misnumbered_names (tree_of c.args.m.now))) (fs ∙ in_module c.args.m.now c.requires.is_module) c.misnumbered_in_functions.ensures

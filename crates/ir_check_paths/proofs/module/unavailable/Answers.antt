@@ -15,7 +15,7 @@ pub breach_in-requires : goal.breach_in-requires
 breach_in-requires c =
     let read = slice_get_read c.as_slice-function-items.result.now (length c.as_slice-function-items.result.now) c.loop-function.function-index c.function-item.result refl c.loop-function-test.true c.function-item.is in
     let at = subst (λ (x : List Function). slice_get x c.loop-function.function-index ≡ Some c.function-item.result) c.as_slice-function-items.ensures read in
-    all_got IsReady c.args.m.now.functions c.loop-function.function-index c.function-item.result (all_ready c.args.m.now c.requires.readable c.requires.early) at
+    all_got IsReady c.args.m.now.functions c.loop-function.function-index c.function-item.result (all_ready c.args.m.now c.requires.is_module c.requires.early) at
 
 pub returns-then-is_some : goal.returns-then-is_some
 returns-then-is_some c =

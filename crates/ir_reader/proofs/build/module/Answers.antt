@@ -8,7 +8,7 @@ use Rattle.ir_limits.specs.Limits.{passed_by}
 use Rattle.ir_reader.specs.Gathered.{skimmed_of, long_among}
 use Rattle.ir_reader.specs.Trees.{missing_symbol, tables_in_parts}
 use Rattle.ir_reader.specs.Typed.{ArePrepared}
-use Rattle.ir_reader.specs.Reading.{functions_read, filled_items, IsModule}
+use Rattle.ir_reader.specs.Reading.{functions_read, filled_items, IsBuilt}
 use Rattle.ir_reader.proofs.Building.{module_over, refused, module_is, module_so}
 use Rattle.ir_reader.proofs.build.module.Goals as goal
 
@@ -36,7 +36,7 @@ returns c = λ items h.
     let seen : tables_in_parts c.into_parts-parts.result ≡ tables_in t = rw (parts.symbols, parts.type_names, parts.types) refl in
     let passed : c.in_ok-passed.passed ≡ passed_by (map (function_in (tables_in t)) fs) (long_among g.longs.items (map (function_in (tables_in t)) fs)) = rw (c.as_slice-4.ensures.value, c.as_slice-5.ensures.value, seen) at c.in_ok-passed.ensures in
     let used : c.in_ok-with_missing.field-0 ≡ symbols ++ map missing_symbol (drop t.known t.symbols) = rw (c.as_slice-6.ensures, parts.known, parts.symbols) at c.in_ok-with_missing.ensures in
-    let m : IsModule (filled_items items) (module_over t head (symbols ++ map missing_symbol (drop t.known t.symbols)) fs tail) c.in_ok-passed.passed =
+    let m : IsBuilt (filled_items items) (module_over t head (symbols ++ map missing_symbol (drop t.known t.symbols)) fs tail) c.in_ok-passed.passed =
     module_is g items h old t symbols fs ready c.in_ok-functions.ensures.grows reads c.in_ok-functions.ensures.uses head tail c.in_ok-passed.passed c.in_ok-joined.ensures c.in_ok-joined-2.ensures parts.are c.in_ok-functions.ensures.tables passed in
     module_so (filled_items items) t head tail (symbols ++ map missing_symbol (drop t.known t.symbols)) c.in_ok-with_missing.field-0 fs c.from_vec.result c.types.inside.items.items c.extents.inside.items.items c.type_names.inside.items.items c.in_ok-passed.passed
     (c.types.view_is ∙ parts.types) (c.extents.view_is ∙ parts.extents) (c.type_names.view_is ∙ parts.type_names) used c.from_vec.ensures m

@@ -1,5 +1,0 @@
-use Rattle.ir_laws.proofs.Composed.{allowing-composes}
-use Rattle.ir_laws.proofs.allowing.allowing_composes.Goals as goal
-
-pub returns : goal.returns
-returns c = allowing-composes

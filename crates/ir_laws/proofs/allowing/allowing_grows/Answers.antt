@@ -1,5 +1,0 @@
-use Rattle.ir_laws.proofs.Composed.{allowing-grows}
-use Rattle.ir_laws.proofs.allowing.allowing_grows.Goals as goal
-
-pub returns : goal.returns
-returns c = allowing-grows

@@ -1,5 +1,0 @@
-use Rattle.ir_laws.proofs.Composed.{allows-itself}
-use Rattle.ir_laws.proofs.allowing.module_allows_itself.Goals as goal
-
-pub returns : goal.returns
-returns c = allows-itself

@@ -1,5 +1,0 @@
-use Rattle.ir_laws.proofs.Settled.{one_world}
-use Rattle.ir_laws.proofs.allowing.one_world_serves.Goals as goal
-
-pub returns : goal.returns
-returns c = one_world

@@ -1,5 +1,0 @@
-use Rattle.ir_laws.proofs.Operations.{respected}
-use Rattle.ir_laws.proofs.refining.operations_respect_refinement.Goals as goal
-
-pub returns : goal.returns
-returns c = λ m here other kind ty labels vs ws mem h. respected m here other labels kind ty vs ws mem h

@@ -1,5 +1,0 @@
-use Rattle.ir_laws.proofs.Ledger.{toll-is-allowed}
-use Rattle.ir_laws.proofs.tolls.toll_is_allowed.Goals as goal
-
-pub returns : goal.returns
-returns c = toll-is-allowed
