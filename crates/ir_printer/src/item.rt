@@ -161,8 +161,13 @@ fn put_variable(
     requires types { AreTypes (type_names_of m.now) 0 m.now.types }
     requires place { id.0 < length m.now.types }
     ensures { OnOk result (out.new.items ≡ out.old.items
-        ++ text_of (variable_pieces (record { name = symbol.now.name; before = symbol.now.before; writable = writable;
-        ty = nodes_in m.now id; after = symbol.now.after }))) }
+        ++ text_of (variable_pieces (record {
+          name = symbol.now.name;
+          before = symbol.now.before;
+          writable = writable;
+          ty = nodes_in m.now id;
+          after = symbol.now.after;
+        }))) }
 {
     out.push(b'@')?;
     put_name(out, &symbol.name)?;
