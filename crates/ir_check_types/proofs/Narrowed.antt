@@ -2,7 +2,9 @@
 use Rattle.std.proofs.Common.{◌≡◌, ℕ, suc, Bool, true, false, not, ◌&&◌, List, [], ◌∷◌, ◌++◌, map, Option, Some, None, refl, sym, ap, ◌∙◌, if◌then◌else◌}
 use Rattle.std.specs.List.{AllByRecursion, list_all}
 use Rattle.forms.specs.Nested.{concat}
+use Rattle.ir_types.specs.declared.module.Module.{Module}
 use Rattle.ir_types.specs.Tree.{InstTree, BlockTree, FunctionTree, SymbolTree, ModuleTree}
+use Rattle.ir_types.specs.Denotes.{tree_of}
 use Rattle.ir_shape.specs.Narrow.{IsNarrowInst, IsNarrowBlock, IsNarrowFunction, IsNarrow}
 use Rattle.ir_rules.specs.declared.fault.Rule.{Rule}
 use Rattle.ir_rules.specs.declared.fault.Breach.{Breach}
@@ -76,3 +78,6 @@ no_mismatches m types =
 
 pub narrow : (m : ModuleTree) → type_breaches m ≡ [] → IsNarrow m
 narrow m kept = narrow_functions m m.functions (nothing_second (concat (map (λ (s : SymbolTree). sizeless m s.kind) m.symbols)) _ (no_mismatches m kept))
+
+pub narrow_module : (m : Module) → type_breaches (tree_of m) ≡ [] → IsNarrow (tree_of m)
+narrow_module m kept = narrow (tree_of m) kept
