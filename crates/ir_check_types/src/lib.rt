@@ -41,7 +41,7 @@ pub fn kept(rule: Rule, found: Option<Breach>) -> Result<(), CheckFault>
 pub fn check_types(alloc: Global, m: &Module) -> Result<(), CheckFault>
     requires { IsModule m.now }
     ensures ok { OnOk result (type_breaches (tree_of m.now) ≡ []) }
-    ensures narrow { OnOk result (IsNarrow m.now) }
+    ensures narrow { OnOk result (IsNarrow (tree_of m.now)) }
     ensures err { IfErr result (TypeCause (tree_of m.now)) }
 {
     kept(Rule::DuplicateName, duplicate_name(alloc, m)?)?;
