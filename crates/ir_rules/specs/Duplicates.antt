@@ -1,12 +1,12 @@
 -- Rule: no two types and no two symbols have one name, and no two locals of a function have one name that is a text.
-use Rattle.std.specs.Prelude.{List, map, filter, ◌++◌, Bool, ◌&&◌}
+use Rattle.std.specs.Prelude.{List, map, filter, ◌++◌, ◌&&◌}
 use Rattle.ir_types.specs.declared.name.Name.{Name}
 use Rattle.ir_types.specs.Names.{has_name}
 use Rattle.ir_types.specs.Tree.{FunctionTree, TypeNameTree, SymbolTree, ModuleTree}
 use Rattle.ir_rules.specs.declared.fault.Subject.TheVariants.{Local, Symbol, TypeName as TypeOf}
 use Rattle.ir_rules.specs.declared.fault.Breach.{Breach}
 use Rattle.ir_rules.specs.Breaches.{Found, with_before, outside, in_functions}
-use Rattle.ir_rules.specs.Locals.{Definition, definitions_of, names_of, is_text}
+use Rattle.ir_rules.specs.Locals.{definitions_of, names_of, is_text}
 
 -- the names of a list that stand before in it, too
 abbrev pub repeated : List Name → List Name

@@ -4,9 +4,8 @@ use Rattle.std.specs.Prelude.{ℕ, zero, suc, ◌^◌, Bool, true, false, not, �
 use Rattle.std.specs.List.{list_any, list_all}
 use Rattle.forms.specs.Nested.{concat}
 use Rattle.ir_types.specs.declared.name.Name.{Name}
-use Rattle.ir_types.specs.declared.call.Callee.{Callee}
 use Rattle.ir_types.specs.declared.inst.Ty.{Ty}
-use Rattle.ir_types.specs.declared.inst.Ty.TheVariants.{Int, Ptr, Vector, Void}
+use Rattle.ir_types.specs.declared.inst.Ty.TheVariants.{Int, Vector, Void}
 use Rattle.ir_types.specs.Kinds.{Kind, Binary, Compare, Select, Freeze, Trunc, Zext, Sext, PtrToInt, Phi, Offset, Load, Store, Call, Extract, Insert, Shuffle, Jump, Branch, Switch, ReturnVoid, Return, Unreachable, operand_types, actual_types}
 use Rattle.ir_types.specs.Tree.{OperandTree, local, number, InstTree, FunctionTree, SymbolKindTree, variable, function, SymbolTree, ModuleTree}
 use Rattle.ir_types.specs.TypeNodes.{TypeNode}
