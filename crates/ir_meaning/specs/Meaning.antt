@@ -140,7 +140,7 @@ effect_of m memory (Return of) ty labels (x ∷ []) = Leaves (record { value = S
 effect_of m memory ReturnVoid ty labels [] = Leaves (record { value = None })
 effect_of m memory kind ty labels values = Waits
 
--- the same where each operand has a value
+-- the same where each operand has a value; else the run stands still
 abbrev pub effect_with : ModuleTree → Memory → InstTree → Option (List Value) → Effect
 effect_with m memory i None = Waits
 effect_with m memory i (Some values) = effect_of m memory i.kind i.ty i.labels values
@@ -191,13 +191,13 @@ entered m memory frame label = block_at m frame.function label >>= entered_at me
 
 -- ---- into a function
 
--- the values of the parameters; of several with one name the first counts
+-- the values of the parameters; of several with one name the first counts, a parameter without a value has none, and further values are dropped
 abbrev pub arguments_in : List ParamTree → List Value → Env
 arguments_in [] values = no_values
 arguments_in (p ∷ params) [] = no_values
 arguments_in (p ∷ params) (v ∷ values) = set_value (arguments_in params values) p.name v
 
--- the first frame of a function that has a block: its own name, and its first block's
+-- the frame at the first place of a function's first block, with its parameters' values; none where it has no block
 abbrev pub first_frame : ModuleTree → (function : Name) → List Value → Option Frame
 first_frame m function values =
     function_of m function >>= λ f. slice_get f.body 0 >>= λ b. Some (record { function = function; block = b.name; place = 0; env = arguments_in f.params values })

@@ -14,7 +14,7 @@ use Rattle.ir_types.specs.Tree.{ModuleTree}
 use Rattle.ir_types.specs.Reads.{Reads}
 use Rattle.ir_limits.specs.Limits.{limit_passed}
 
--- the text reads as the tree, which passes no limit
+-- the text reads as the tree, and its items, as they stand in the text, pass no limit
 pub record IsWithinLimits (text : List ℕ) (tree : ModuleTree) : Type 0 where
   pub reads : Reads text tree
   pub within : limit_passed reads.numbered ≡ None

@@ -39,7 +39,7 @@ abbrev pub is_declared : List BlockTree → Bool
 is_declared [] = true
 is_declared (b ∷ bs) = false
 
--- a function has this signature, and nothing of its own to do
+-- a function has this signature, takes no further arguments, and has no body
 abbrev pub has_signature : FunctionTree → Signed → Bool
 has_signature f s = is_declared f.body && (not f.varargs && (same_type s.ret f.ret && same_types s.params (param_types f)))
 

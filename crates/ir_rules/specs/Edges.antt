@@ -94,7 +94,7 @@ same_lanes [] [] = true
 same_lanes (x ∷ xs) (y ∷ ys) = same_lane x y && same_lanes xs ys
 same_lanes xs ys = false
 
--- whether two operands are one; none that is out of range is any other
+-- whether two operands are one; one that is out of range is equal to none, not even to itself
 abbrev pub same_operand : OperandTree → OperandTree → Bool
 same_operand (local n) (local m) = same_name n m
 same_operand (number n) (number m) = nat_eq n m

@@ -49,7 +49,7 @@ abbrev pub is_element_of : Ty → Ty → Bool
 is_element_of (Vector n v) (Int w) = nat_eq w v
 is_element_of t u = false
 
--- a mask is no local
+-- the operand is no local: a mask has to be a constant
 abbrev pub is_constant : OperandTree → Bool
 is_constant (local n) = false
 is_constant a = true

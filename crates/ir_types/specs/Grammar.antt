@@ -237,7 +237,7 @@ typed_lane = pair value_type lane
 abbrev pub comma_index : Form (ℕ × List ℕ)
 comma_index = after_mark Comma (pair width (one Number))
 
--- getelementptr [inbounds] [nuw] [nusw] ( M, ptr @name, iN number, .. ): the flags are left out
+-- getelementptr [inbounds] [nuw] [nusw] ( M, ptr @name, iN number, .. ): the flags are read and not kept
 unfoldable pub constant_offset : Form (List TypeNode × (Name × List (ℕ × List ℕ)))
 constant_offset =
     behind (codes "getelementptr") (mapped (λ x. x.1) (pair three_flags (between LeftParen RightParen (pair inst_memory (pair (after_mark Comma (behind (codes "ptr") global_name)) (some comma_index))))))
@@ -373,7 +373,7 @@ unfoldable pub excluded_words : List (List ℕ)
 excluded_words =
     codes "align" ∷ codes "cc" ∷ codes "global" ∷ codes "constant" ∷ (type_words ++ (value_words ++ (map (λ e. e.0) item_words ++ (instruction_words ++ left_out_words))))
 
--- K
+-- K: as many words, attributes and other pieces as stand there, which are kept as they are
 unfoldable pub kept : Form KeptTexts
 kept = kept_run excluded_words
 
@@ -642,7 +642,7 @@ call_tree tail x = bare_inst (kinds.Call (callee_of tail x)) x.1.0 (map (λ a. a
 unfoldable pub call : Definitions → TailKind → Form InstTree
 call defs tail = mapped (call_tree tail) (pair kept (pair return_type (pair (optional signature) (pair global_name (pair (between LeftParen RightParen (list (argument defs))) kept)))))
 
--- the same behind `call`, or where a word stands before it behind that and `call`
+-- what is behind the first word of a call: the same, and where that word is `tail`, `musttail` or `notail`, `call` before it
 abbrev pub call_behind : Definitions → TailKind → Form InstTree
 call_behind defs Unmarked = call defs Unmarked
 call_behind defs Tail = behind (codes "call") (call defs Tail)

@@ -98,7 +98,7 @@ small_size ds ns = layout_of ds ns >>= λ l. if nat_lt l.size SIZE_CAP then Some
 
 -- ---- steps
 
--- so many bytes for each of a number of w bits that is read as signed, modulo 2^64
+-- a size times a number of w bits, which is read as signed, modulo 2^64
 abbrev pub scaled : ℕ → ℕ × ℕ → ℕ
 scaled size i = if nat_lt i.1 (2 ^ (i.0 - 1)) then (size * i.1) % 2 ^ 64 else (size * (2 ^ 64 - (2 ^ i.0 - i.1))) % 2 ^ 64
 

@@ -15,7 +15,7 @@ use Rattle.ir_types.specs.declared.name.Name.{Name}
 use Rattle.ir_types.specs.Reads.{Reads}
 use Rattle.ir_types.specs.Tree.{ModuleTree}
 use Rattle.ir_meaning.specs.Allows.{Allows, factor_of}
-use Rattle.ir_meaning.specs.First.{HasMeaning}
+use Rattle.ir_meaning.specs.First.{IsFirstModule}
 use Rattle.type_printer.specs.Texts.{name_text}
 use Rattle.ir_rules.specs.declared.fault.Rule.{Rule}
 use Rattle.ir_rules.specs.declared.fault.Rule.TheVariants as rules
@@ -114,25 +114,28 @@ line_of (ReadFault which) = line (codes "read fault: " ++ name_of which)
 line_of (WriteFault which) = line (codes "write fault: " ++ name_of which)
 line_of Memory = line (codes "memory")
 
--- a text within the limit that has no token that is left out, and reads as a tree within the limits that breaks no rule
-pub record IsAccepted (text : List ℕ) : Type 0 where
+-- a text within the limit that has no token that is left out, and reads as the tree within the limits
+pub record IsRead (text : List ℕ) (tree : ModuleTree) : Type 0 where
   pub short : length text ≤ longest
   pub nothing_left_out : HasNoneLeftOut text
-  pub meant : ModuleTree
-  pub reads : IsWithinLimits text meant
-  pub keeps : KeepsRules meant
+  pub within : IsWithinLimits text tree
 
--- the tree that the file reads as, where the file is told
+-- a text that reads so as a tree that breaks no rule
+pub record IsAccepted (text : List ℕ) : Type 0 where
+  pub tree : ModuleTree
+  pub read : IsRead text tree
+  pub keeps : KeepsRules tree
+
+-- the file reads so as the tree, where it is told
 abbrev pub IsMeant : Option (List ℕ) → ModuleTree → Type 0
-IsMeant told m = IfSome told (λ t. (length t ≤ longest) × HasNoneLeftOut t × IsWithinLimits t m)
+IsMeant told tree = IfSome told (λ text. IsRead text tree)
 
--- the text reads as a tree that breaks this rule first, in this function, of this name, and at this place
+-- the text reads so as a tree that breaks this rule first, in this function, of this name, and at this place
 pub record IsBroken (text : List ℕ) (rule : Rule) (names : List ℕ) (place : ℕ) : Type 0 where
-  pub nothing_left_out : HasNoneLeftOut text
-  pub read_as : ModuleTree
-  pub reads : IsWithinLimits text read_as
+  pub tree : ModuleTree
+  pub read : IsRead text tree
   pub breach : Breach
-  pub cause : BreachCause read_as (Broken rule breach)
+  pub cause : BreachCause tree (Broken rule breach)
   pub names_are : names ≡ breach_text breach
   pub place_is : place ≡ breach.place
 
@@ -143,10 +146,10 @@ IsCheckStatus CheckMemory status = status ≡ Memory
 
 -- what is printed of a file: a text that reads as the tree that the file reads as, which breaks no rule
 pub record IsPrinted (told : Option (List ℕ)) (printed : List ℕ) : Type 0 where
-  pub meant : ModuleTree
-  pub file_reads : IsMeant told meant
-  pub keeps : KeepsRules meant
-  pub print_reads : Reads printed meant
+  pub tree : ModuleTree
+  pub file_reads : IsMeant told tree
+  pub keeps : KeepsRules tree
+  pub print_reads : Reads printed tree
 
 -- The causes of the answers that speak of the file: what is told of it, its count of faults before and now, and the last load's length.
 abbrev pub FileCause : Option (List ℕ) → (before now last : ℕ) → Status → Type 0
@@ -218,15 +221,16 @@ abbrev pub OutLeft : Option (List ℕ) → (List ℕ → Option (List ℕ)) → 
 OutLeft None told before now status = now ≡ before
 OutLeft (Some file) told before now status = OutHolds (told file) before now status
 
--- Of a file's text and what was printed of it: the file reads as a tree, the print reads as a tree, and the first, where it is of i1 and i32
--- alone and has no variable, allows the second, with one more than the number of the second's instructions as the factor. (A text reads as
--- one tree at most.)
+-- Of a file's text and what was printed of it: the file reads as a tree, the print reads as a tree that breaks no rule, and where the file's is one of
+-- those of which this is claimed by now, so is the print's, and the first allows the second, with one more than the number of the second's
+-- instructions as the factor. (A text reads as one tree at most.)
 pub record IsAllowed (text printed : List ℕ) : Type 0 where
   pub file : ModuleTree
   pub print : ModuleTree
   pub file_reads : Reads text file
   pub print_reads : Reads printed print
-  pub allows : HasMeaning file → Allows file print (factor_of print)
+  pub keeps : KeepsRules print
+  pub allows : IsFirstModule file → IsFirstModule print × Allows file print (factor_of print)
 
 -- where the file and `out` are told, `out` took a text that the file's allows
 abbrev pub TookAllowed : (told before now : Option (List ℕ)) → Type 0
