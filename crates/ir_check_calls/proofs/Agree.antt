@@ -1,8 +1,6 @@
 -- What is said of functions as they are held is what the rule says of their trees.
-use Rattle.std.proofs.Common.{◌≡◌, ℕ, zero, suc, Bool, true, false, not, ◌&&◌, List, [], ◌∷◌, map, take, length, Option, Some, None, inl, inr, refl, ap, ◌∙◌, if◌then◌else◌}
-use Rattle.std.specs.Prelude.{slice_get}
+use Rattle.std.proofs.Common.{◌≡◌, Bool, true, false, not, ◌&&◌, List, [], ◌∷◌, map, take, length, Option, Some, None, refl, ap, ◌∙◌, if◌then◌else◌}
 use Rattle.std.proofs.lemmas.List.{take-map, length-map}
-use Rattle.forms.proofs.Begins.{test}
 use Rattle.ir_types.specs.declared.name.Name.{Name}
 use Rattle.ir_types.specs.declared.call.Actual.{Actual}
 use Rattle.ir_types.specs.declared.call.Callee.{Callee}
@@ -11,21 +9,14 @@ use Rattle.ir_types.specs.declared.inst.Ty.{Ty}
 use Rattle.ir_types.specs.declared.module.Block.{Block}
 use Rattle.ir_types.specs.declared.module.Param.{Param}
 use Rattle.ir_types.specs.declared.module.Function.{Function}
-use Rattle.ir_types.specs.declared.module.Module.{Module}
-use Rattle.ir_types.specs.declared.module.Symbol.{Symbol}
-use Rattle.ir_types.specs.declared.module.SymbolKind.{SymbolKind}
-use Rattle.ir_types.specs.declared.module.SymbolKind.TheVariants as symbols
 use Rattle.ir_types.specs.Names.{same_name}
 use Rattle.ir_types.specs.Kinds.{actual_types}
-use Rattle.ir_types.specs.Denotes.{Tables, block_in, param_in, function_in, nodes_in, symbol_in}
-use Rattle.ir_types.specs.Tree.{ParamTree, FunctionTree, SymbolTree, variable, function}
-use Rattle.ir_rules.specs.declared.fault.Breach.{Breach}
-use Rattle.ir_rules.specs.declared.fault.Subject.TheVariants.{Symbol as SymbolSubject}
-use Rattle.ir_rules.specs.Breaches.{first, outside}
+use Rattle.ir_types.specs.Denotes.{Tables, block_in, param_in, function_in}
+use Rattle.ir_types.specs.Tree.{ParamTree}
 use Rattle.ir_rules.specs.Operands.{same_type}
-use Rattle.ir_intrinsics.specs.Intrinsics.{Signed, Meant, meant_by}
-use Rattle.ir_rules.specs.Callees.{same_types, same_flag, param_types, is_declared, has_signature, may_mean, means_rightly, misdeclared, signature_agrees, arguments_agree, is_called_rightly}
-use Rattle.ir_check_calls.specs.Heads.{types_of, has_no_block, has_signature_of, may_mean_of, means_rightly_of, misdeclared_of, signature_agrees_with, arguments_agree_with, types_agree}
+use Rattle.ir_intrinsics.specs.Intrinsics.{Signed, Meant}
+use Rattle.ir_rules.specs.Callees.{same_types, same_flag, param_types, is_declared, has_signature, may_mean, signature_agrees, arguments_agree, is_called_rightly}
+use Rattle.ir_check_calls.specs.Heads.{types_of, has_no_block, has_signature_of, may_mean_of, signature_agrees_with, arguments_agree_with, types_agree}
 
 declared_same : (t : Tables) (ns : List Name) (bs : List Block) → is_declared (map (block_in t ns) bs) ≡ has_no_block bs
 declared_same t ns [] = refl

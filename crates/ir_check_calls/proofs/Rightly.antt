@@ -1,5 +1,5 @@
 -- Of names that no two functions have: what is said of a symbol by its function's place is what the rule says.
-use Rattle.std.proofs.Common.{◌≡◌, ℕ, zero, suc, Bool, true, false, ◌&&◌, ◌||◌, List, [], ◌∷◌, map, Option, Some, None, inl, inr, refl, sym, ap, ◌∙◌, true≢false, if◌then◌else◌}
+use Rattle.std.proofs.Common.{◌≡◌, ℕ, zero, suc, Bool, true, false, ◌&&◌, List, [], ◌∷◌, map, Option, Some, None, inl, inr, refl, sym, ap, ◌∙◌, true≢false, if◌then◌else◌}
 use Rattle.std.specs.Prelude.{slice_get}
 use Rattle.std.specs.List.{list_any}
 use Rattle.forms.proofs.Begins.{test}
@@ -10,7 +10,7 @@ use Rattle.ir_types.specs.declared.module.Symbol.{Symbol}
 use Rattle.ir_types.specs.declared.module.SymbolKind.{SymbolKind}
 use Rattle.ir_types.specs.declared.module.SymbolKind.TheVariants as symbols
 use Rattle.ir_types.specs.Names.{same_name, has_name}
-use Rattle.ir_types.specs.Denotes.{Tables, function_in, nodes_in, symbol_in, function_place}
+use Rattle.ir_types.specs.Denotes.{Tables, function_in, nodes_in, symbol_in}
 use Rattle.ir_types.specs.Tree.{FunctionTree, SymbolTree, variable, function}
 use Rattle.ir_shape.proofs.FunctionPlaces.{IsNamedAt, IsNamedRightly}
 use Rattle.ir_rules.specs.declared.fault.Breach.{Breach}

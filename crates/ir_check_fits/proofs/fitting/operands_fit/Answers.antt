@@ -1,4 +1,4 @@
-use Rattle.std.proofs.Common.{◌∷◌, ℕ, List, map, length, replicate, sym, ap, ◌∙◌}
+use Rattle.std.proofs.Common.{◌∷◌, ℕ, List, map, replicate, sym, ap, ◌∙◌}
 use Rattle.std.proofs.lemmas.List.{length-map}
 use Rattle.ir_types.specs.declared.call.Actual.{Actual}
 use Rattle.ir_types.specs.declared.inst.InstKind.{InstKind}
