@@ -7,11 +7,11 @@ ghost use Rattle.ir_types.specs.Grammar.{overflowing, possibly_exact, plain_bina
 ghost use Rattle.ir_reader_ops.specs.Seen.{operand_seen, inst_seen, definitions, Widens, Stays, InstUses};
 
 use crate::flags::{one_flag, two_flags};
-use ir_making::{applied, binary, one_operand, three_operands, two_operands};
 use crate::scope::Scope;
 use crate::typed::{three_values, typed_pair, typed_value};
 use crate::words::predicate_of;
 use forms::{Cursor, SyntaxFault, TokenKind};
+use ir_making::{applied, binary, one_operand, three_operands, two_operands};
 use ir_types::{BinOp, Flags, Inst, InstKind, Pred, Ty};
 use std::alloc::Global;
 

@@ -9,12 +9,12 @@ ghost use Rattle.ir_types.specs.Grammar.{after_mark, target, branch, return_tree
 ghost use Rattle.ir_reader_ops.specs.Conditions.{conditional_read};
 ghost use Rattle.ir_reader_ops.specs.Seen.{name_seen, operand_seen, inst_seen, definitions, Widens, Stays, InstUses};
 
-use ir_making::{applied, bare, one_label, one_operand, two_labels};
 use crate::operand::value_at;
 use crate::scope::Scope;
 use crate::typed::typed_value;
 use crate::value::local_id;
 use forms::{Cursor, SyntaxFault, TokenKind};
+use ir_making::{applied, bare, one_label, one_operand, two_labels};
 use ir_types::{Inst, InstKind, Ty, ValueId};
 use lists::Few;
 use std::alloc::Global;

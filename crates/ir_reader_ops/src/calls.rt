@@ -13,11 +13,11 @@ ghost use Rattle.ir_reader_ops.specs.Offsets.{as_two};
 ghost use Rattle.ir_reader_ops.specs.Calls.{actual_in, actuals_in, some_arguments_read, arguments_read, call_read};
 
 use crate::keeping::kept;
-use ir_making::{applied, one_operand};
 use crate::operand::value_at;
 use crate::scope::Scope;
 use crate::signature::signature;
 use forms::{Cursor, SyntaxFault, TokenKind};
+use ir_making::{applied, one_operand};
 use ir_types::{Actual, Callee, Inst, InstKind, Operand, Operands, TailKind};
 use lists::{Few, Items};
 use std::alloc::Global;

@@ -7,10 +7,10 @@ ghost use Rattle.ir_types.specs.Grammar.{to_type, trunc, zext, sext, ptrtoint};
 ghost use Rattle.ir_reader_ops.specs.Seen.{operand_seen, inst_seen, definitions, Widens, Stays, InstUses};
 
 use crate::flags::{one_flag, two_flags};
-use ir_making::{applied, one_operand};
 use crate::scope::Scope;
 use crate::typed::{pointer_value, typed_value};
 use forms::{Cursor, SyntaxFault};
+use ir_making::{applied, one_operand};
 use ir_types::{Inst, InstKind, Ty};
 use std::alloc::Global;
 use type_reader::value_type;

@@ -10,11 +10,11 @@ ghost use Rattle.ir_types.specs.Grammar.{entry_of_phi, commas, marked, phi};
 ghost use Rattle.ir_reader_ops.specs.Split.{split_each, entry_at, entry_in, entries_in};
 ghost use Rattle.ir_reader_ops.specs.Seen.{inst_seen, definitions, Widens, Stays, OperandsUse, InstUses, operand_seen};
 
-use ir_making::{bare, one_label, one_operand};
 use crate::operand::value_at;
 use crate::scope::Scope;
 use crate::value::comma_local;
 use forms::{Cursor, SyntaxFault, TokenKind};
+use ir_making::{bare, one_label, one_operand};
 use ir_types::{Inst, InstKind, Labels, Operand, Operands, Ty, ValueId};
 use std::alloc::Global;
 use type_reader::value_type;

@@ -10,11 +10,11 @@ ghost use Rattle.ir_types.specs.Grammar.{alignment_of, alignment, align_or, load
 ghost use Rattle.ir_reader_ops.specs.Operands.{written_alignment};
 ghost use Rattle.ir_reader_ops.specs.Seen.{inst_seen, definitions, Widens, Stays, InstUses};
 
-use ir_making::{applied, one_operand, two_operands};
 use crate::numbers::saturated_number_of;
 use crate::scope::Scope;
 use crate::typed::{comma_pointer, typed_value};
 use forms::{Cursor, SyntaxFault, TokenKind};
+use ir_making::{applied, one_operand, two_operands};
 use ir_types::{Inst, InstKind, Ty};
 use std::alloc::Global;
 use type_reader::value_type;

@@ -11,10 +11,10 @@ ghost use Rattle.ir_reader_ops.specs.Offsets.{next_index, steps_in, indexes_read
 
 use crate::constant::memory;
 use crate::flags::three_flags;
-use ir_making::{applied, one_operand};
 use crate::scope::Scope;
 use crate::typed::{comma_pointer, index_value};
 use forms::{Cursor, SyntaxFault, TokenKind};
+use ir_making::{applied, one_operand};
 use ir_types::{Inst, InstKind, Operand, Operands, Ty};
 use lists::Items;
 use std::alloc::Global;

@@ -10,11 +10,11 @@ ghost use Rattle.ir_reader_ops.specs.Split.{labels_in, case_at, case_in, cases_i
 ghost use Rattle.ir_reader_ops.specs.Seen.{name_seen, inst_seen, definitions, Widens, AreSteady, Stays, OperandsUse, InstUses, operand_seen};
 
 use crate::branches::comma_target;
-use ir_making::{bare, one_label, one_operand};
 use crate::numbers::{fits_width, number_at};
 use crate::scope::Scope;
 use crate::typed::index_value;
 use forms::{Cursor, SyntaxFault, TokenKind};
+use ir_making::{bare, one_label, one_operand};
 use ir_types::{Inst, InstKind, Labels, Operand, Ty, ValueId};
 use lists::Items;
 use std::alloc::Global;

@@ -6,10 +6,10 @@ ghost use Rattle.forms.specs.Gives.{Gives, left};
 ghost use Rattle.ir_types.specs.Grammar.{element_of, extractelement, insertelement, shuffled, shufflevector};
 ghost use Rattle.ir_reader_ops.specs.Seen.{inst_seen, definitions, Widens, Stays, InstUses};
 
-use ir_making::{applied, three_operands, two_operands};
 use crate::scope::Scope;
 use crate::typed::{comma_index, comma_typed, three_values, typed_value};
 use forms::{Cursor, SyntaxFault};
+use ir_making::{applied, three_operands, two_operands};
 use ir_types::{Inst, InstKind, Ty};
 use std::alloc::Global;
 
