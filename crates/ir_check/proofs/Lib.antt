@@ -1,3 +1,3 @@
-mod Narrowed
+pub mod Narrowed
 pub mod Causes
 pub mod Examples
