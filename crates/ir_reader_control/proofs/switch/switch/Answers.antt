@@ -1,0 +1,19 @@
+use Rattle.std.proofs.Common.{◌≡◌, refl, ap}
+use Rattle.ir_reader_values.specs.Seen.{operand_seen}
+use Rattle.ir_reader_control.specs.Labelled.{labels_in, head_in}
+use Rattle.ir_reader_values.proofs.Widening.{steady_behind}
+use Rattle.ir_reader_control.proofs.switch.switch.Goals as goal
+
+pub returns-clause-stays : goal.returns-clause-stays
+returns-clause-stays c = λ later e.
+    let n = c.cases.new.scope in
+    let head = steady_behind head_in c.head.new.scope n ((c.in_ok-bits.bits, c.in_ok-bits.value), c.in_ok-bits.default) c.in_ok-numbers.ensures.grows c.in_ok-bits.ensures.stays later e in
+    let value : operand_seen later c.in_ok-bits.value ≡ operand_seen n c.in_ok-bits.value = ap (λ x. x.0.1) head in
+    let labels : labels_in later c.in_ok-numbers.labels ≡ labels_in n c.in_ok-numbers.labels = ap (λ x. x.1) (c.in_ok-numbers.ensures.stays later e) in
+    rw (c.bare-inst.ensures, c.in_ok-args.ensures, value, labels) refl
+
+pub returns-clause-uses : goal.returns-clause-uses
+returns-clause-uses c =
+    let n = c.cases.new.scope in
+    let value : operand_seen n c.in_ok-bits.value ≡ operand_seen c.head.new.scope c.in_ok-bits.value = ap (λ x. x.0.1) (c.in_ok-bits.ensures.stays n c.in_ok-numbers.ensures.grows) in
+    rw (c.bare-inst.ensures, c.in_ok-args.ensures, value, c.in_ok-numbers.ensures.tables) c.in_ok-bits.ensures.uses
