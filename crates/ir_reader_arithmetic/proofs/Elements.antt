@@ -1,5 +1,5 @@
 -- Elements of vectors are read, or not, as their parts are.
-use Rattle.std.proofs.Common.{◌≡◌, ℕ, List, Option, Some, None, refl}
+use Rattle.std.proofs.Common.{◌≡◌, ℕ, List, Some, None, refl}
 use Rattle.forms.specs.declared.TokenKind.TheVariants.{Comma}
 use Rattle.forms.specs.Form.{Lexeme, Form}
 use Rattle.forms.specs.Reading.{read}
