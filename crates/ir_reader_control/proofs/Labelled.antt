@@ -3,12 +3,10 @@ use Rattle.std.proofs.Common.{◌≡◌, ℕ, Bool, true, false, cond, not, ◌&
 use Rattle.std.specs.List.{list_all, list_any}
 use Rattle.std.proofs.lemmas.List.{append-nil}
 use Rattle.forms.specs.declared.TokenKind.TheVariants.{Comma, LeftBracket, RightBracket}
-use Rattle.forms.specs.Form.{Lexeme, Form, mapped, pair, many}
-use Rattle.forms.specs.Reading.{◌>>=◌, nullable, opens, read}
+use Rattle.forms.specs.Form.{Lexeme, Form, pair, many}
+use Rattle.forms.specs.Reading.{◌>>=◌, nullable, read}
 use Rattle.forms.specs.Walk.{completed}
 use Rattle.forms.specs.Gives.{mark}
-use Rattle.forms.proofs.Many.{many_step, many_done}
-use Rattle.forms.proofs.Walks.{completed_some}
 use Rattle.ir_types.specs.declared.name.Name.{Name}
 use Rattle.ir_types.specs.declared.inst.Ty.{Ty}
 use Rattle.ir_types.specs.declared.inst.Ty.TheVariants.{Void}
@@ -17,8 +15,7 @@ use Rattle.ir_types.specs.Offsets.{Definitions}
 use Rattle.ir_types.specs.Tree.{OperandTree, InstTree}
 use Rattle.ir_types.specs.Written.{number_at}
 use Rattle.ir_types.specs.Grammar.{WrittenValue, operand_at, entries_at, cases_at, index_fits, if_wide, bare_inst, width, value_type, value, index_value, after_mark, between, target, commas, local_name, entry_of_phi, phi_tree, phi, case_of_switch, switch_tree, switch}
-use Rattle.ir_reader_values.specs.Split.{as_two}
-use Rattle.ir_reader_values.specs.Split.{split_each, gathered, put_behind, behind_both}
+use Rattle.ir_reader_values.specs.Split.{split_each, gathered}
 use Rattle.ir_reader_control.specs.Labelled.{entry_at, entry_read, phi_read, case_at, cases_behind, cases_read, switch_read}
 use Rattle.ir_reader_values.proofs.Chains.{alike, first_apart, chained, then_made, completed_alike, between_is}
 

@@ -3,8 +3,8 @@
 
 mod branches;
 mod entries;
-mod switch;
+mod switches;
 
 pub use branches::{branch, give_back};
 pub use entries::phi;
-pub use switch::switch;
+pub use switches::switch;

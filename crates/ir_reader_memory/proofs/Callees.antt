@@ -1,5 +1,5 @@
 -- Reading a call part after part is reading it whole.
-use Rattle.std.proofs.Common.{◌≡◌, Bool, true, false, cond, List, [], ◌∷◌, map, Option, Some, None, refl, sym, ap, ◌∙◌}
+use Rattle.std.proofs.Common.{◌≡◌, Bool, true, false, cond, List, [], map, Option, Some, None, refl, sym, ap, ◌∙◌}
 use Rattle.forms.specs.declared.TokenKind.TheVariants.{LeftParen, RightParen}
 use Rattle.forms.specs.Form.{Lexeme, Form, pair, optional}
 use Rattle.forms.specs.Reading.{◌>>=◌, opens, read}
@@ -16,7 +16,7 @@ use Rattle.ir_types.specs.Grammar.{operand_at, actual_at, bare_inst, value_type,
 use Rattle.ir_reader_values.specs.Split.{split_each}
 use Rattle.ir_reader_values.specs.Split.{as_two}
 use Rattle.ir_reader_memory.specs.Calls.{argument_read, arguments_read, call_read}
-use Rattle.ir_reader_values.proofs.Chains.{alike, first_apart, then_made, completed_alike, between_is}
+use Rattle.ir_reader_values.proofs.Chains.{alike, first_apart, then_made, between_is}
 use Rattle.ir_reader_memory.proofs.Offsets.{parted}
 
 -- ---- arguments

@@ -1,7 +1,7 @@
 -- Reading `getelementptr` part after part is reading it whole.
 use Rattle.std.proofs.Common.{◌≡◌, ℕ, Bool, false, List, [], ◌∷◌, map, Option, Some, None, refl, sym, ap, ◌∙◌}
 use Rattle.forms.specs.declared.TokenKind.TheVariants.{Comma}
-use Rattle.forms.specs.Form.{Lexeme, Form, pair, many}
+use Rattle.forms.specs.Form.{Lexeme, pair}
 use Rattle.forms.specs.Reading.{◌>>=◌, nullable, read}
 use Rattle.forms.specs.Walk.{completed}
 use Rattle.ir_types.specs.declared.inst.Ty.TheVariants.{Ptr}

@@ -2,7 +2,7 @@ use Rattle.ir_reader_values.specs.Seen.{operand_seen}
 use Rattle.std.proofs.Common.{refl, ◌≡◌, ap}
 use Rattle.ir_reader_values.specs.View.{typed_in}
 use Rattle.ir_reader_values.proofs.Widening.{steady_behind}
-use Rattle.ir_reader_control.proofs.switch.head.Goals as goal
+use Rattle.ir_reader_control.proofs.switches.head.Goals as goal
 
 pub returns-clause-stays : goal.returns-clause-stays
 returns-clause-stays c = λ later e.

@@ -7,9 +7,9 @@ use Rattle.ir_reader_values.specs.Seen.{name_seen}
 use Rattle.ir_reader_control.specs.Labelled.{labels_in, case_at, case_in, cases_behind, cases_read}
 use Rattle.ir_reader_values.proofs.Widening.{widens_trans}
 use Rattle.ir_reader_values.proofs.Pushing.{push_seen, push_steady}
-use Rattle.ir_reader_values.proofs.Split.{goes_gathered, gathered_ends, gathered_fails}
-use Rattle.ir_reader_control.proofs.Labelled.{one_behind, none_behind, case_takes}
-use Rattle.ir_reader_control.proofs.switch.cases.Goals as goal
+use Rattle.ir_reader_values.proofs.Split.{goes_gathered}
+use Rattle.ir_reader_control.proofs.Labelled.{one_behind, case_takes}
+use Rattle.ir_reader_control.proofs.switches.cases.Goals as goal
 
 pub more-smaller : goal.more-smaller
 more-smaller c =

@@ -7,7 +7,7 @@ use Rattle.ir_types.specs.Grammar.{case_of_switch}
 use Rattle.ir_reader_values.specs.Seen.{name_seen, Widens, AreSteady}
 use Rattle.ir_reader_values.specs.Split.{split_each, gathered}
 use Rattle.ir_reader_control.specs.Labelled.{labels_in, case_at, cases_behind, cases_read}
-use Rattle.ir_reader_control.proofs.switch.cases.Given as goal
+use Rattle.ir_reader_control.proofs.switches.cases.Given as goal
 
 abbrev pub decreases-more : goal.decreases-more
 decreases-more l = length l.rest.rest.now

@@ -2,7 +2,7 @@ use Rattle.std.proofs.Common.{◌≡◌, refl, ap}
 use Rattle.ir_reader_values.specs.Seen.{operand_seen}
 use Rattle.ir_reader_control.specs.Labelled.{labels_in, head_in}
 use Rattle.ir_reader_values.proofs.Widening.{steady_behind}
-use Rattle.ir_reader_control.proofs.switch.switch.Goals as goal
+use Rattle.ir_reader_control.proofs.switches.switch.Goals as goal
 
 pub returns-clause-stays : goal.returns-clause-stays
 returns-clause-stays c = λ later e.
