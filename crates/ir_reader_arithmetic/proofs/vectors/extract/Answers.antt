@@ -9,7 +9,7 @@ use Rattle.ir_reader_values.specs.View.{typed_in}
 use Rattle.ir_reader_values.proofs.Operands.{by_definitions}
 use Rattle.ir_reader_arithmetic.proofs.Elements.{index_behind, extract_reads, extract_fails}
 use Rattle.ir_reader_values.proofs.Refusals.{fails}
-use Rattle.ir_reader_values.proofs.Widening.{steady_behind}
+use Rattle.ir_reader_values.proofs.Widening.{widens_trans, steady_behind}
 use Rattle.ir_reader_arithmetic.proofs.vectors.extract.Goals as goal
 
 pub returns-in_err-width-clause-reads : goal.returns-in_err-width-clause-reads
@@ -51,3 +51,12 @@ returns-clause-uses c =
     let vector : operand_seen n c.in_ok-ty.vector ≡ operand_seen a c.in_ok-ty.vector = ap (λ x. x.1) (c.in_ok-ty.ensures.stays n c.in_ok-width.ensures.grows) in
     rw (c.applied.ensures, c.in_ok-args.ensures, vector)
     (uses_behind c.args.scope.now a n (operand_seen a c.in_ok-ty.vector ∷ []) (operand_seen n c.in_ok-width.index ∷ []) c.in_ok-ty.ensures.uses c.in_ok-width.ensures.uses)
+
+pub returns-in_err-width-clause-grows : goal.returns-in_err-width-clause-grows
+returns-in_err-width-clause-grows c = widens_trans c.args.scope.now c.typed_value.new.scope c.comma_index.new.scope c.in_ok-ty.ensures.grows c.in_err-width.ensures.grows
+
+pub returns-in_err-args-clause-grows : goal.returns-in_err-args-clause-grows
+returns-in_err-args-clause-grows c = widens_trans c.args.scope.now c.typed_value.new.scope c.comma_index.new.scope c.in_ok-ty.ensures.grows c.in_ok-width.ensures.grows
+
+pub returns-clause-grows : goal.returns-clause-grows
+returns-clause-grows c = widens_trans c.args.scope.now c.typed_value.new.scope c.comma_index.new.scope c.in_ok-ty.ensures.grows c.in_ok-width.ensures.grows

@@ -54,3 +54,15 @@ returns-clause-uses c =
     let both = uses_behind c.args.scope.now a b (operand_seen a one ∷ []) (operand_seen b two ∷ []) c.in_ok-ty.ensures.uses c.in_ok-element.ensures.uses in
     rw (c.applied.ensures, c.in_ok-args.ensures, vector, value)
     (uses_behind c.args.scope.now b n (operand_seen a one ∷ operand_seen b two ∷ []) (operand_seen n c.in_ok-width.index ∷ []) both c.in_ok-width.ensures.uses)
+
+pub returns-in_err-element-clause-grows : goal.returns-in_err-element-clause-grows
+returns-in_err-element-clause-grows c = widens_trans c.args.scope.now c.typed_value.new.scope c.comma_typed.new.scope c.in_ok-ty.ensures.grows c.in_err-element.ensures.grows
+
+pub returns-in_err-width-clause-grows : goal.returns-in_err-width-clause-grows
+returns-in_err-width-clause-grows c = widens_trans c.args.scope.now c.comma_typed.new.scope c.comma_index.new.scope (widens_trans c.args.scope.now c.typed_value.new.scope c.comma_typed.new.scope c.in_ok-ty.ensures.grows c.in_ok-element.ensures.grows) c.in_err-width.ensures.grows
+
+pub returns-in_err-args-clause-grows : goal.returns-in_err-args-clause-grows
+returns-in_err-args-clause-grows c = widens_trans c.args.scope.now c.comma_typed.new.scope c.comma_index.new.scope (widens_trans c.args.scope.now c.typed_value.new.scope c.comma_typed.new.scope c.in_ok-ty.ensures.grows c.in_ok-element.ensures.grows) c.in_ok-width.ensures.grows
+
+pub returns-clause-grows : goal.returns-clause-grows
+returns-clause-grows c = widens_trans c.args.scope.now c.comma_typed.new.scope c.comma_index.new.scope (widens_trans c.args.scope.now c.typed_value.new.scope c.comma_typed.new.scope c.in_ok-ty.ensures.grows c.in_ok-element.ensures.grows) c.in_ok-width.ensures.grows
