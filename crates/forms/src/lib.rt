@@ -3,8 +3,6 @@
 
 mod cursor;
 mod strings;
-#[cfg(test)]
-mod tests;
 mod words;
 
 pub use cursor::{Cursor, SyntaxFault};

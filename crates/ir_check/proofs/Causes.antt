@@ -3,13 +3,15 @@ use Rattle.std.proofs.Common.{◌≡◌, List, [], ◌∷◌, Option, Some, None
 use Rattle.std.specs.Prelude.{Contains}
 use Rattle.ir_types.specs.declared.module.Module.{Module}
 use Rattle.ir_types.specs.Tree.{FunctionTree, ModuleTree}
-use Rattle.ir_types.specs.Reads.{IsModule, SameModule}
+use Rattle.ir_types.specs.Denotes.{tree_of}
+use Rattle.ir_shape.specs.Modules.{IsModule}
 use Rattle.ir_rules.specs.declared.fault.Rule.{Rule}
 use Rattle.ir_rules.specs.declared.fault.Breach.{Breach}
 use Rattle.ir_rules.specs.declared.fault.CheckFault.TheVariants.{Broken}
 use Rattle.ir_rules.specs.Breaches.{first}
 use Rattle.ir_rules.specs.Available.{LocalUse, IsFirstOf, here, behind, IsUnavailableUse, module_uses, breach_at, IsFirstUnavailable}
-use Rattle.ir_rules.specs.WellFormed.{KeepsRules, IsWellFormed, Cause, early_breaches}
+use Rattle.ir_rules.specs.WellFormed.{KeepsRules, Cause, early_breaches}
+use Rattle.ir_check.specs.WellFormed.{IsWellFormed}
 
 -- one of a list is one of a longer one
 contains_behind : {A : Type 0} (x : A) (xs : List A) (y : A) → Contains xs y → Contains (x ∷ xs) y
@@ -65,5 +67,5 @@ cause_is_one m r s b c (inr x) (inr y) =
     (x.0 ∙ sym y.0, x.1.first.breach ∙ (used ∙ sym y.1.first.breach))
 
 -- well-formedness is about what a module says
-pub same_is_well_formed : (m n : Module) → IsWellFormed m → SameModule m n → IsModule n → IsWellFormed n
-same_is_well_formed m n w s readable = record { readable = readable; keeps = subst KeepsRules (s.first.says ∙ sym s.second.says) w.keeps }
+pub same_is_well_formed : (m n : Module) → IsWellFormed m → tree_of m ≡ tree_of n → IsModule n → IsWellFormed n
+same_is_well_formed m n w same is = record { is_module = is; keeps = subst KeepsRules same w.keeps }

@@ -4,20 +4,21 @@ ghost use Rattle.std.specs.Prelude.{◌≡◌};
 ghost use Rattle.ir_types.specs.declared.module.Module.{Module};
 ghost use Rattle.ir_types.specs.Tree.{ModuleTree};
 ghost use Rattle.ir_types.specs.Denotes.{tree_of};
-ghost use Rattle.ir_types.specs.Reads.{IsModule, SameModule};
+ghost use Rattle.ir_shape.specs.Modules.{IsModule};
 ghost use Rattle.ir_shape.specs.Narrow.{IsNarrow};
 ghost use Rattle.ir_rules.specs.declared.fault.Rule.{Rule};
 ghost use Rattle.ir_rules.specs.declared.fault.Breach.{Breach};
 ghost use Rattle.ir_rules.specs.declared.fault.CheckFault.TheVariants.{Broken};
-ghost use Rattle.ir_rules.specs.WellFormed.{KeepsRules, IsWellFormed, Cause};
+ghost use Rattle.ir_rules.specs.WellFormed.{KeepsRules, Cause};
+ghost use Rattle.ir_check.specs.WellFormed.{IsWellFormed};
 
-/// In a well-formed module no number is out of its type's range.
+/// In what breaks no rule no number is out of its type's range.
 #[tactic(auto, using(crate::proofs::Narrowed::narrow))]
 pub fn well_formed_is_narrow()
-    ensures { (m : Module) → IsWellFormed m → IsNarrow m }
+    ensures { (m : ModuleTree) → KeepsRules m → IsNarrow m }
 {}
 
-/// What is well-formed breaks no rule.
+/// What breaks no rule is refused for none.
 pub fn one_verdict()
     ensures { (m : ModuleTree) (rule : Rule) (breach : Breach) → KeepsRules m → Cause m (Broken rule breach) → ⊥ }
 {}
@@ -27,8 +28,8 @@ pub fn one_cause()
     ensures { (m : ModuleTree) (rule other : Rule) (breach another : Breach) → Cause m (Broken rule breach) → Cause m (Broken other another) → (rule ≡ other) × (breach ≡ another) }
 {}
 
-/// A module that says the same as a well-formed one is well-formed too, where some text reads as it.
+/// A module that says the same as a well-formed one is well-formed too.
 #[tactic(auto, using(crate::proofs::Causes::same_is_well_formed))]
 pub fn same_module_is_well_formed()
-    ensures { (m n : Module) → IsWellFormed m → SameModule m n → IsModule n → IsWellFormed n }
+    ensures { (m n : Module) → IsWellFormed m → tree_of m ≡ tree_of n → IsModule n → IsWellFormed n }
 {}

@@ -4,7 +4,7 @@
 ghost use Rattle.std.specs.Prelude.{◌≡◌, IfErr, IfOk, MatchResult};
 ghost use Rattle.ir_types.specs.Denotes.{tree_of};
 ghost use Rattle.ir_shape.specs.Modules.{IsModule};
-ghost use Rattle.ir_rules.specs.WellFormed.{KeepsRules, IsWellFormed, Cause};
+ghost use Rattle.ir_rules.specs.WellFormed.{KeepsRules, Cause};
 
 mod laws;
 
@@ -17,7 +17,7 @@ pub use laws::{one_cause, one_verdict, same_module_is_well_formed, well_formed_i
 use std::alloc::Global;
 use std::marker::Model;
 
-/// A well-formed module: some text reads as it, and it breaks no rule.
+/// A well-formed module: it breaks no rule.
 #[derive(Debug, Drop)]
 pub struct Checked {
     module: Module,
@@ -30,22 +30,23 @@ impl Model for Checked {
 
     ghost view = { λ s. s.module };
 
-    ghost use Rattle.ir_rules.specs.WellFormed.{IsWellFormed};
+    ghost use Rattle.ir_check.specs.WellFormed.{IsWellFormed};
 
     ghost invariant = { λ s. IsWellFormed s.module };
 }
 
 impl Checked {
     ghost use Rattle.std.specs.Prelude.{◌≡◌};
+    ghost use Rattle.ir_types.specs.Denotes.{tree_of};
     ghost use Rattle.ir_shape.specs.Narrow.{IsNarrow};
-    ghost use Rattle.ir_rules.specs.WellFormed.{IsWellFormed};
+    ghost use Rattle.ir_check.specs.WellFormed.{IsWellFormed};
 
     /// The module. It takes no memory.
-    #[tactic(auto, using(crate::proofs::Narrowed::narrow))]
+    #[tactic(auto, using(crate::proofs::Narrowed::narrow_module))]
     pub fn module(&self) -> &Module
         ensures is { result.now ≡ self.now }
         ensures well_formed { IsWellFormed self.now }
-        ensures narrow { IsNarrow self.now }
+        ensures narrow { IsNarrow (tree_of self.now) }
     {
         &self.module
     }

@@ -1,8 +1,6 @@
 -- What is said of functions as they are held is what the rule says of their trees.
-use Rattle.std.proofs.Common.{◌≡◌, ℕ, zero, suc, Bool, true, false, not, ◌&&◌, List, [], ◌∷◌, map, take, length, Option, Some, None, inl, inr, refl, ap, ◌∙◌, if◌then◌else◌}
-use Rattle.std.specs.Prelude.{slice_get}
+use Rattle.std.proofs.Common.{◌≡◌, Bool, true, false, not, ◌&&◌, List, [], ◌∷◌, map, take, length, Option, Some, None, refl, ap, ◌∙◌, if◌then◌else◌}
 use Rattle.std.proofs.lemmas.List.{take-map, length-map}
-use Rattle.forms.proofs.Begins.{test}
 use Rattle.ir_types.specs.declared.name.Name.{Name}
 use Rattle.ir_types.specs.declared.call.Actual.{Actual}
 use Rattle.ir_types.specs.declared.call.Callee.{Callee}
@@ -11,21 +9,14 @@ use Rattle.ir_types.specs.declared.inst.Ty.{Ty}
 use Rattle.ir_types.specs.declared.module.Block.{Block}
 use Rattle.ir_types.specs.declared.module.Param.{Param}
 use Rattle.ir_types.specs.declared.module.Function.{Function}
-use Rattle.ir_types.specs.declared.module.Module.{Module}
-use Rattle.ir_types.specs.declared.module.Symbol.{Symbol}
-use Rattle.ir_types.specs.declared.module.SymbolKind.{SymbolKind}
-use Rattle.ir_types.specs.declared.module.SymbolKind.TheVariants as symbols
 use Rattle.ir_types.specs.Names.{same_name}
-use Rattle.ir_types.specs.Denotes.{Tables, block_in, param_in, function_in, nodes_in, symbol_in}
-use Rattle.ir_types.specs.Tree.{ParamTree, FunctionTree, SymbolTree, variable, function}
-use Rattle.ir_rules.specs.declared.fault.Breach.{Breach}
-use Rattle.ir_rules.specs.declared.fault.Subject.TheVariants.{Symbol as SymbolSubject}
-use Rattle.ir_rules.specs.Breaches.{first, outside}
+use Rattle.ir_types.specs.Kinds.{actual_types}
+use Rattle.ir_types.specs.Denotes.{Tables, block_in, param_in, function_in}
+use Rattle.ir_types.specs.Tree.{ParamTree}
 use Rattle.ir_rules.specs.Operands.{same_type}
-use Rattle.ir_rules.specs.Mismatch.{actual_types}
-use Rattle.ir_intrinsics.specs.Intrinsics.{Signed, Meant, meant_by}
-use Rattle.ir_rules.specs.Callees.{same_types, same_flag, param_types, is_declared, has_signature, may_mean, means_rightly, misdeclared, signature_agrees, arguments_agree, is_called_rightly}
-use Rattle.ir_check_calls.specs.Heads.{types_of, has_no_block, has_signature_of, may_mean_of, means_rightly_of, misdeclared_of, signature_agrees_with, arguments_agree_with, types_agree}
+use Rattle.ir_intrinsics.specs.Intrinsics.{Signed, Meant}
+use Rattle.ir_rules.specs.Callees.{same_types, same_flag, param_types, is_declared, has_signature, may_mean, signature_agrees, arguments_agree, is_called_rightly}
+use Rattle.ir_check_calls.specs.Heads.{types_of, has_no_block, has_signature_of, may_mean_of, signature_agrees_with, arguments_agree_with, types_agree}
 
 declared_same : (t : Tables) (ns : List Name) (bs : List Block) → is_declared (map (block_in t ns) bs) ≡ has_no_block bs
 declared_same t ns [] = refl
@@ -48,30 +39,6 @@ meaning_same t f (Some s) = signature_same t f s
 
 pub may_mean_same : (t : Tables) (f : Function) (meant : Meant) → may_mean (function_in t f) meant ≡ may_mean_of f meant
 may_mean_same t f meant = meaning_same t f meant.signature
-
-function_same : (t : Tables) (fs : List Function) (i : ℕ) (meant : Meant) → ◌≡◌ {A = Bool} (elim (slice_get (map (function_in t) fs) i) [ Some f ↦ may_mean f meant | None ↦ true ]) (elim (slice_get fs i) [ Some f ↦ may_mean_of f meant | None ↦ true ])
-function_same t [] i meant = refl
-function_same t (f ∷ fs) zero meant = may_mean_same t f meant
-function_same t (f ∷ fs) (suc i) meant = function_same t fs i meant
-
--- what a symbol breaks first, as the rule has it, for what it may mean
-abbrev pub first_of_kind : List FunctionTree → Option SymbolTree → Option Breach
-first_of_kind fs o = elim o [ Some s ↦ first (misdeclared fs s) | None ↦ None ]
-
-first_of_meant : (fs : List FunctionTree) (s : SymbolTree) (b : Meant → Bool) (o : Option Meant) → ((meant : Meant) → means_rightly fs s.kind meant ≡ b meant) → ◌≡◌ {A = Option Breach} (first (elim o [ Some meant ↦ if means_rightly fs s.kind meant then [] else outside (SymbolSubject s.name) ∷ [] | None ↦ [] ])) (elim o [ Some meant ↦ if b meant then None else Some (outside (SymbolSubject s.name)) | None ↦ None ])
-first_of_meant fs s b None same = refl
-first_of_meant fs s b (Some meant) same = elim (test (b meant)) [ inl e ↦ rw (same meant, e) refl | inr e ↦ rw (same meant, e) refl ]
-
-nothing_missing : (name : Name) (o : Option Meant) → ◌≡◌ {A = Option Breach} None (elim o [ Some meant ↦ if true then None else Some (outside (SymbolSubject name)) | None ↦ None ])
-nothing_missing name None = refl
-nothing_missing name (Some meant) = refl
-
-pub misdeclared_same : (t : Tables) (m : Module) (s : Symbol) → first_of_kind (map (function_in t) m.functions) (symbol_in m s) ≡ misdeclared_of m.functions s
-misdeclared_same t m s = by s.kind where
-  by : (k : SymbolKind) → first_of_kind (map (function_in t) m.functions) (symbol_in m (record s { kind = k })) ≡ misdeclared_of m.functions (record s { kind = k })
-  by (symbols.Variable id writable) = first_of_meant (map (function_in t) m.functions) (record { name = s.name; kind = variable (nodes_in m id) writable; before = s.before; after = s.after }) (λ meant. false) (meant_by s.name) (λ meant. refl)
-  by (symbols.Function id) = first_of_meant (map (function_in t) m.functions) (record { name = s.name; kind = function id.0; before = s.before; after = s.after }) (λ meant. means_rightly_of m.functions (symbols.Function id) meant) (meant_by s.name) (λ meant. function_same t m.functions id.0 meant)
-  by symbols.Missing = nothing_missing s.name (meant_by s.name)
 
 -- ---- calls
 

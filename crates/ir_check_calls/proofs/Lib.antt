@@ -1,3 +1,4 @@
 pub mod Agree
 pub mod Once
+pub mod Rightly
 pub mod Whole

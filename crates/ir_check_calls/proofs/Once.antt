@@ -16,19 +16,21 @@ use Rattle.ir_types.specs.declared.call.Callee.{Callee}
 use Rattle.ir_types.specs.declared.inst.Ty.{Ty}
 use Rattle.ir_types.specs.declared.module.Function.{Function}
 use Rattle.ir_types.specs.Names.{same_name, has_name}
+use Rattle.ir_types.specs.Kinds.{actual_types}
 use Rattle.ir_types.specs.Denotes.{Tables, function_in}
 use Rattle.ir_types.specs.Tree.{FunctionTree, SymbolTree}
-use Rattle.ir_types.specs.Collected.{symbols_from}
+use Rattle.ir_types.specs.Collected.{symbol_of_function}
 use Rattle.ir_types.proofs.SameNames.{name_eq}
 use Rattle.ir_rules.specs.Breaches.{behind_those}
 use Rattle.ir_rules.specs.Duplicates.{repeated}
-use Rattle.ir_rules.specs.Callees.{is_called_rightly}
+use Rattle.ir_rules.specs.Operands.{same_type}
+use Rattle.ir_rules.specs.Callees.{signature_agrees, arguments_agree, is_called_rightly}
 use Rattle.ir_check_calls.specs.Heads.{Apart, function_names, types_agree, is_called_so}
 use Rattle.ir_check_calls.proofs.Agree.{called_same}
 
 -- ---- equal names
 
-same_name-Decides : (x y : Name) → Decides (same_name x y) (x ≡ y)
+pub same_name-Decides : (x y : Name) → Decides (same_name x y) (x ≡ y)
 same_name-Decides (Text a) (Text b) = (λ e. ap Text ((bytes_eq-Decides a b).0 e), λ e. (bytes_eq-Decides a b).1 (cc))
 same_name-Decides (Text a) (Number n) = (λ e. absurd (true≢false (sym e)), λ e. (cc))
 same_name-Decides (Number m) (Text t) = (λ e. absurd (true≢false (sym e)), λ e. (cc))
@@ -46,7 +48,7 @@ other_way x y =
     let back : Decides (same_name y x) (x ≡ y) = (λ e. sym ((same_name-Decides y x).0 e), λ e. (same_name-Decides y x).1 (sym e)) in
     same_from_decides (same_name x y) (same_name y x) (same_name-Decides x y) back
 
-neither : (a b : Bool) → (a || b) ≡ false → (a ≡ false) × (b ≡ false)
+pub neither : (a b : Bool) → (a || b) ≡ false → (a ≡ false) × (b ≡ false)
 neither true b e = absurd (true≢false e)
 neither false b e = (refl, e)
 
@@ -84,11 +86,12 @@ from_suc p i j (x ∷ xs) e = elim (test (p x)) [ inl h ↦ rw h (ap Some e) | i
 position_in_cons : {A : Type 0} (p : A → Bool) (x : A) (xs : List A) → position p (x ∷ xs) ≡ cond (p x) (Some 0) (option_map suc (position p xs))
 position_in_cons p x xs = position_from-zero p (x ∷ xs) ∙ ap (cond (p x) (Some 0)) (from_suc p 0 (0 + 1) xs (omega arith) ∙ ap (option_map suc) (sym (position_from-zero p xs)))
 
-not_called : (t : Tables) (callee : Callee) (ty : Ty) (fs : List Function) → has_name callee.name (function_names fs) ≡ false → list_any (is_called_rightly callee ty) (map (function_in t) fs) ≡ false
-not_called t callee ty [] absent = refl
-not_called t callee ty (f ∷ fs) absent =
-    let none = neither (same_name callee.name f.name) (has_name callee.name (function_names fs)) absent in
-    rw (called_same t callee ty f ∙ ap (λ b. b && types_agree callee ty f) none.0, not_called t callee ty fs none.1) refl
+-- no function of a name that none has
+pub none_of_name : (t : Tables) (n : Name) (p : FunctionTree → Bool) (fs : List Function) → has_name n (function_names fs) ≡ false → list_any (λ f. same_name n f.name && p f) (map (function_in t) fs) ≡ false
+none_of_name t n p [] absent = refl
+none_of_name t n p (f ∷ fs) absent =
+    let none = neither (same_name n f.name) (has_name n (function_names fs)) absent in
+    rw (none.0, none_of_name t n p fs none.1) refl
 
 -- what is found at a place, where there is one
 abbrev agrees_at : Callee → Ty → List Function → Option ℕ → Bool
@@ -98,9 +101,13 @@ agrees_later : (callee : Callee) (ty : Ty) (f : Function) (fs : List Function) (
 agrees_later callee ty f fs None = refl
 agrees_later callee ty f fs (Some i) = refl
 
-or_false : (b : Bool) → (b || false) ≡ b
+pub or_false : (b : Bool) → (b || false) ≡ b
 or_false true = refl
 or_false false = refl
+
+-- a function has a call's types
+abbrev has_types : Callee → Ty → FunctionTree → Bool
+has_types callee ty f = same_type ty f.ret && (signature_agrees callee.signature f && arguments_agree (actual_types callee) f)
 
 pub called_once : (t : Tables) (callee : Callee) (ty : Ty) (fs : List Function) → Apart (function_names fs) → list_any (is_called_rightly callee ty) (map (function_in t) fs) ≡ is_called_so (function_names fs) fs callee ty
 called_once t callee ty [] once = refl
@@ -109,7 +116,7 @@ called_once t callee ty (f ∷ fs) once = elim (test (same_name callee.name f.na
       let none : has_name callee.name (function_names fs) ≡ false = ap (λ n. has_name n (function_names fs)) ((same_name-Decides callee.name f.name).0 e) ∙ once.0 in
       let here : is_called_rightly callee ty (function_in t f) ≡ types_agree callee ty f = called_same t callee ty f ∙ ap (λ b. b && types_agree callee ty f) e in
       let place : position (same_name callee.name) (function_names (f ∷ fs)) ≡ Some 0 = position_in_cons (same_name callee.name) f.name (function_names fs) ∙ ap (λ b. cond b (Some 0) (option_map suc (position (same_name callee.name) (function_names fs)))) e in
-      ap (λ b. b || list_any (is_called_rightly callee ty) (map (function_in t) fs)) here ∙ ap (λ b. types_agree callee ty f || b) (not_called t callee ty fs none) ∙ or_false (types_agree callee ty f) ∙ ap (agrees_at callee ty (f ∷ fs)) (sym place)
+      ap (λ b. b || list_any (is_called_rightly callee ty) (map (function_in t) fs)) here ∙ ap (λ b. types_agree callee ty f || b) (none_of_name t callee.name (has_types callee ty) fs none) ∙ or_false (types_agree callee ty f) ∙ ap (agrees_at callee ty (f ∷ fs)) (sym place)
   | inr e ↦
       let here : is_called_rightly callee ty (function_in t f) ≡ false = called_same t callee ty f ∙ ap (λ b. b && types_agree callee ty f) e in
       let place : position (same_name callee.name) (function_names (f ∷ fs)) ≡ option_map suc (position (same_name callee.name) (function_names fs)) = position_in_cons (same_name callee.name) f.name (function_names fs) ∙ ap (λ b. cond b (Some 0) (option_map suc (position (same_name callee.name) (function_names fs)))) e in
@@ -173,9 +180,9 @@ apart_behind (x ∷ xs) ys once = apart_behind xs ys once.1
 
 -- ---- the functions' symbols
 
-pub names_from : (i : ℕ) (fs : List FunctionTree) → map (λ (s : SymbolTree). s.name) (symbols_from i fs) ≡ map (λ (f : FunctionTree). f.name) fs
-names_from i [] = refl
-names_from i (f ∷ fs) = ap (λ ns. f.name ∷ ns) (names_from (suc i) fs)
+pub names_of_symbols : (fs : List FunctionTree) → map (λ (s : SymbolTree). s.name) (map symbol_of_function fs) ≡ map (λ (f : FunctionTree). f.name) fs
+names_of_symbols [] = refl
+names_of_symbols (f ∷ fs) = ap (λ ns. f.name ∷ ns) (names_of_symbols fs)
 
 pub names_in : (t : Tables) (fs : List Function) → map (λ (f : FunctionTree). f.name) (map (function_in t) fs) ≡ function_names fs
 names_in t [] = refl

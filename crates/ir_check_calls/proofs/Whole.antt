@@ -1,7 +1,7 @@
 -- The first breach of the rule in a module.
 use Rattle.std.proofs.Common.{◌≡◌, List, [], ◌∷◌, ◌++◌, map, Option, Some, None, refl, sym, ap, subst, ◌∙◌, if◌then◌else◌}
 use Rattle.std.specs.Prelude.{filter_map}
-use Rattle.std.specs.List.{cons_option}
+use Rattle.std.specs.List.{AllByRecursion, cons_option}
 use Rattle.std.proofs.lemmas.List.{map-append}
 use Rattle.forms.specs.Nested.{concat}
 use Rattle.ir_types.specs.declared.name.Name.{Name}
@@ -12,16 +12,17 @@ use Rattle.ir_types.specs.declared.module.Symbol.{Symbol}
 use Rattle.ir_types.specs.Kinds.{Kind, Binary, Compare, Select, Freeze, Trunc, Zext, Sext, PtrToInt, Phi, Offset, Load, Store, Call, Extract, Insert, Shuffle, Jump, Branch, Switch, ReturnVoid, Return, Unreachable}
 use Rattle.ir_types.specs.Tree.{InstTree, FunctionTree, SymbolTree, TypeNameTree, ModuleTree}
 use Rattle.ir_types.specs.Denotes.{Tables, tables_of, function_in, symbol_in, tree_of}
-use Rattle.ir_types.specs.Collected.{symbol_of, symbols_from, as_variable, as_function}
+use Rattle.ir_types.specs.Collected.{symbol_of, symbol_of_function, as_variable, as_function}
 use Rattle.ir_shape.specs.Modules.{IsModule}
+use Rattle.ir_shape.proofs.FunctionPlaces.{IsNamedRightly, functions_at}
 use Rattle.ir_rules.specs.declared.fault.Breach.{Breach}
 use Rattle.ir_rules.specs.declared.fault.Subject.TheVariants.{Symbol as SymbolSubject, TypeName as TypeSubject}
 use Rattle.ir_rules.specs.Breaches.{first, outside, inside, in_insts, in_functions}
 use Rattle.ir_rules.specs.Duplicates.{repeated, repeated_locals, duplicate_names}
 use Rattle.ir_rules.specs.Callees.{misdeclared, miscalled_by, miscalls, unknown_callees}
 use Rattle.ir_check_calls.specs.Heads.{Apart, function_names, misdeclared_of, miscalled_so, miscalled_in}
-use Rattle.ir_check_calls.proofs.Agree.{misdeclared_same}
-use Rattle.ir_check_calls.proofs.Once.{called_once, not_repeated, apart_behind, none_mapped, none_before, none_behind, names_from, names_in}
+use Rattle.ir_check_calls.proofs.Rightly.{misdeclared_same}
+use Rattle.ir_check_calls.proofs.Once.{called_once, not_repeated, apart_behind, none_mapped, none_before, none_behind, names_of_symbols, names_in}
 
 -- ---- the first of lists behind one another
 
@@ -56,13 +57,13 @@ of_one : {B C : Type 0} (g : B → List C) (o : Option B) (rest : List B) → fi
 of_one g None rest = refl
 of_one g (Some b) rest = first_of_both (g b) (concat (map g rest))
 
-symbols_first : (t : Tables) (m : Module) (ss : List Symbol) → first (concat (map (misdeclared (map (function_in t) m.functions)) (filter_map (symbol_in m) ss))) ≡ first (filter_map (misdeclared_of m.functions) ss)
-symbols_first t m [] = refl
-symbols_first t m (s ∷ ss) =
+symbols_first : (t : Tables) (m : Module) → Apart (function_names m.functions) → (ss : List Symbol) → AllByRecursion (IsNamedRightly m.functions) ss → first (concat (map (misdeclared (map (function_in t) m.functions)) (filter_map (symbol_in m) ss))) ≡ first (filter_map (misdeclared_of m.functions) ss)
+symbols_first t m once [] named = refl
+symbols_first t m once (s ∷ ss) named =
     let wrong = misdeclared (map (function_in t) m.functions) in
     of_one wrong (symbol_in m s) (filter_map (symbol_in m) ss)
-    ∙ ap (λ o. or_first o (first (concat (map wrong (filter_map (symbol_in m) ss))))) (misdeclared_same t m s)
-    ∙ ap (or_first (misdeclared_of m.functions s)) (symbols_first t m ss)
+    ∙ ap (λ o. or_first o (first (concat (map wrong (filter_map (symbol_in m) ss))))) (misdeclared_same t m once s named.0)
+    ∙ ap (or_first (misdeclared_of m.functions s)) (symbols_first t m once ss named.1)
     ∙ sym (first_cons (misdeclared_of m.functions s) (filter_map (misdeclared_of m.functions) ss))
 
 -- ---- calls
@@ -101,26 +102,27 @@ functions_first m once =
 -- ---- no two functions have one name
 
 pub once_each : (m : Module) → IsModule m → duplicate_names (tree_of m) ≡ [] → Apart (function_names m.functions)
-once_each m readable distinct =
-    let r = readable.1 in
-    let variables = map symbol_of (filter_map as_variable r.numbered) in
-    let functions = filter_map as_function r.numbered in
+once_each m is distinct =
+    let h = is.shape in
+    let variables = map symbol_of (filter_map as_variable h.items) in
+    let functions = filter_map as_function h.items in
     let name : SymbolTree → Name = λ s. s.name in
     let symbols = map name (tree_of m).symbols in
     let none : repeated symbols ≡ [] = none_mapped (λ n. outside (SymbolSubject n)) (repeated symbols) (none_before (map (λ n. outside (SymbolSubject n)) (repeated symbols)) (in_functions repeated_locals (tree_of m)) (none_behind (map (λ n. outside (TypeSubject n)) (repeated (map (λ (t : TypeNameTree). t.name) (tree_of m).type_names))) (map (λ n. outside (SymbolSubject n)) (repeated symbols) ++ in_functions repeated_locals (tree_of m)) distinct)) in
-    let names : map (λ (f : FunctionTree). f.name) functions ≡ function_names m.functions = sym (ap (λ (t : ModuleTree). map (λ (f : FunctionTree). f.name) t.functions) r.denotes.says) ∙ names_in (tables_of m) m.functions in
-    let parts : symbols ≡ map name variables ++ function_names m.functions = ap (λ (t : ModuleTree). map name t.symbols) r.denotes.says ∙ map-append name variables (symbols_from 0 functions) ∙ ap (λ ns. map name variables ++ ns) (names_from 0 functions ∙ names) in
+    let names : map (λ (f : FunctionTree). f.name) functions ≡ function_names m.functions = ap (λ (t : ModuleTree). map (λ (f : FunctionTree). f.name) t.functions) h.says ∙ names_in (tables_of m) m.functions in
+    let parts : symbols ≡ map name variables ++ function_names m.functions = ap (λ (t : ModuleTree). map name t.symbols) (sym h.says) ∙ map-append name variables (map symbol_of_function functions) ∙ ap (λ ns. map name variables ++ ns) (names_of_symbols functions ∙ names) in
     apart_behind (map name variables) (function_names m.functions) (subst Apart parts (not_repeated symbols none))
 
 -- ---- the whole
 
-whole : (m : Module) → first (unknown_callees (tree_of m)) ≡ or_first (first (filter_map (misdeclared_of m.functions) m.symbols)) (first (in_functions (miscalls (tree_of m)) (tree_of m)))
-whole m =
+whole : (m : Module) → IsModule m → Apart (function_names m.functions) → first (unknown_callees (tree_of m)) ≡ or_first (first (filter_map (misdeclared_of m.functions) m.symbols)) (first (in_functions (miscalls (tree_of m)) (tree_of m)))
+whole m is once =
     let calls = in_functions (miscalls (tree_of m)) (tree_of m) in
-    first_of_both (concat (map (misdeclared (tree_of m).functions) (tree_of m).symbols)) calls ∙ ap (λ o. or_first o (first calls)) (symbols_first (tables_of m) m m.symbols)
+    first_of_both (concat (map (misdeclared (tree_of m).functions) (tree_of m).symbols)) calls
+    ∙ ap (λ o. or_first o (first calls)) (symbols_first (tables_of m) m once m.symbols (functions_at m is))
 
-pub symbol_first : (m : Module) (b : Breach) → Some b ≡ first (filter_map (misdeclared_of m.functions) m.symbols) → Some b ≡ first (unknown_callees (tree_of m))
-symbol_first m b e = ap (λ o. or_first o (first (in_functions (miscalls (tree_of m)) (tree_of m)))) e ∙ sym (whole m)
+pub symbol_first : (m : Module) (b : Breach) → IsModule m → Apart (function_names m.functions) → Some b ≡ first (filter_map (misdeclared_of m.functions) m.symbols) → Some b ≡ first (unknown_callees (tree_of m))
+symbol_first m b is once e = ap (λ o. or_first o (first (in_functions (miscalls (tree_of m)) (tree_of m)))) e ∙ sym (whole m is once)
 
-pub call_first : (m : Module) (o : Option Breach) → Apart (function_names m.functions) → None ≡ first (filter_map (misdeclared_of m.functions) m.symbols) → o ≡ first (filter_map (miscalled_in m (function_names m.functions)) m.functions) → o ≡ first (unknown_callees (tree_of m))
-call_first m o once none found = found ∙ sym (functions_first m once) ∙ ap (λ a. or_first a (first (in_functions (miscalls (tree_of m)) (tree_of m)))) none ∙ sym (whole m)
+pub call_first : (m : Module) (o : Option Breach) → IsModule m → Apart (function_names m.functions) → None ≡ first (filter_map (misdeclared_of m.functions) m.symbols) → o ≡ first (filter_map (miscalled_in m (function_names m.functions)) m.functions) → o ≡ first (unknown_callees (tree_of m))
+call_first m o is once none found = found ∙ sym (functions_first m once) ∙ ap (λ a. or_first a (first (in_functions (miscalls (tree_of m)) (tree_of m)))) none ∙ sym (whole m is once)

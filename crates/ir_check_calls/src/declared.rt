@@ -48,8 +48,8 @@ fn may_mean(function: &Function, intrinsic: Intrinsic) -> bool
     ensures { result ≡ may_mean_of function.now (meant_in intrinsic) }
 {
     match intrinsic {
-        Intrinsic::MinimumMaximum(ty) => has_signature(function, ty, &[ty, ty]),
-        Intrinsic::Reduction(ty) => has_signature(function, element_of(ty), &[ty]),
+        Intrinsic::MinimumMaximum(_, ty) => has_signature(function, ty, &[ty, ty]),
+        Intrinsic::Reduction(_, ty) => has_signature(function, element_of(ty), &[ty]),
         Intrinsic::MaskedLoad(ty) => {
             has_signature(function, ty, &[Ty::Ptr, Ty::Int(32), bits_for(ty), ty])
         }

@@ -3,7 +3,6 @@
 ghost use Rattle.std.specs.Prelude.{◌≡◌, map, filter, IfOk};
 ghost use Rattle.ir_types.specs.Names.{same_name};
 ghost use Rattle.ir_types.specs.Denotes.{tables_of, tree_of, name_in};
-ghost use Rattle.ir_shape.specs.Modules.{IsModule};
 ghost use Rattle.ir_rules.specs.declared.fault.Subject.TheVariants.{Local};
 ghost use Rattle.ir_rules.specs.Breaches.{first};
 ghost use Rattle.ir_rules.specs.Edges.{targets_of, entries_with_predecessors};
@@ -91,7 +90,6 @@ fn first_entered(
 ///
 /// Where memory is short, and where a function has 2^32 instructions or more.
 pub fn entry_entered(alloc: Global, m: &Module) -> Result<Option<Breach>, AllocError>
-    requires is_module { IsModule m.now }
     ensures { IfOk result (λ found. found ≡ first (entries_with_predecessors (tree_of m.now))) }
 {
     first_entered(alloc, m, m.functions.as_slice())

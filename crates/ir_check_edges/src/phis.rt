@@ -2,7 +2,6 @@
 
 ghost use Rattle.std.specs.Prelude.{◌≡◌, ◌+◌, true, length, map, IfOk};
 ghost use Rattle.ir_types.specs.Denotes.{tables_of, tree_of, name_in, inst_in, block_in, function_in};
-ghost use Rattle.ir_shape.specs.Modules.{IsModule};
 ghost use Rattle.ir_rules.specs.Breaches as breaches;
 ghost use Rattle.ir_rules.specs.Edges.{wrong_edges};
 ghost use Rattle.ir_check_edges.specs.Targets.{first_of};
@@ -143,7 +142,6 @@ fn first_wrong(
 ///
 /// Where memory is short, and where a function has 2^32 instructions or more.
 pub fn wrong_phi(alloc: Global, m: &Module) -> Result<Option<Breach>, AllocError>
-    requires is_module { IsModule m.now }
     ensures { IfOk result (λ found. found ≡ breaches.first (wrong_edges (tree_of m.now))) }
 {
     first_wrong(alloc, m, m.functions.as_slice())

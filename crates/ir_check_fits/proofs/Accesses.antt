@@ -10,15 +10,15 @@ use Rattle.ir_check_fits.specs.Masked.{masked_by, masked_in}
 by_load : (k : Intrinsic) (ty : Ty) (types : List Ty) (args : List OperandTree) → masked_by k ≡ Some Load → is_access_right masked_load ty types args ≡ is_access_right k ty types args
 by_load masked_load ty types args e = refl
 by_load masked_store ty types args e = absurd cc
-by_load minimum_maximum ty types args e = absurd cc
-by_load reduction ty types args e = absurd cc
+by_load (minimum_maximum op) ty types args e = absurd cc
+by_load (reduction op) ty types args e = absurd cc
 by_load lifetime ty types args e = absurd cc
 
 by_store : (k : Intrinsic) (ty : Ty) (types : List Ty) (args : List OperandTree) → masked_by k ≡ Some Store → is_access_right masked_store ty types args ≡ is_access_right k ty types args
 by_store masked_store ty types args e = refl
 by_store masked_load ty types args e = absurd cc
-by_store minimum_maximum ty types args e = absurd cc
-by_store reduction ty types args e = absurd cc
+by_store (minimum_maximum op) ty types args e = absurd cc
+by_store (reduction op) ty types args e = absurd cc
 by_store lifetime ty types args e = absurd cc
 
 pub load_right : (m : Option Meant) (ty : Ty) (types : List Ty) (args : List OperandTree) → masked_in m ≡ Some Load → is_access_right masked_load ty types args ≡ is_meant_right m ty types args

@@ -190,6 +190,4 @@ module _ (m : Module) where
       of k n h first Missing is = not_found (trees m.type_names) n.name (missing_unknown used e k n h is) ∙ rw is refl
 
 pub module_definitions : (m : Module) → IsModule m → AreDefinitions m.types m.type_names (type_definitions (tree_of m))
-module_definitions m is =
-    let denotes = is.denotes in
-    are_definitions m (types_used (tree_of m)) (subst (λ tree. names_in m.type_names ≡ map (λ (t : TypeNameTree). t.name) tree.type_names ++ unknown (map (λ (t : TypeNameTree). t.name) tree.type_names) (types_used tree)) (sym denotes.says) denotes.type_names)
+module_definitions m is = are_definitions m (types_used (tree_of m)) is.denotes.type_names

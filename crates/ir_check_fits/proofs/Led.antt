@@ -205,7 +205,7 @@ module _ (types : List MemTy) (names : List TypeName) (extents : List Extent) (s
 
 -- ---- in a module
 
--- what is prepared of a module that some text reads as
+-- what is prepared
 pub module_prepared : (m : Module) → IsModule m → (steps : StepLists) → AreSteps m.types m.type_names m.extents steps → ArePrepared m.types m.type_names m.extents steps
 module_prepared m is steps are = record { types_are = is.denotes.types; extents_are = is.denotes.extents; steps_are = are }
 

@@ -6,8 +6,8 @@ use Rattle.ir_check_fits.specs.declared.masked.Masked.TheVariants.{Load, Store}
 
 -- the access that an intrinsic is
 abbrev pub masked_by : Intrinsic → Option Masked
-masked_by minimum_maximum = None
-masked_by reduction = None
+masked_by (minimum_maximum op) = None
+masked_by (reduction op) = None
 masked_by masked_load = Some Load
 masked_by masked_store = Some Store
 masked_by lifetime = None

@@ -1,17 +1,14 @@
-// Whether arguments fit their call.
-ghost use Rattle.std.specs.Prelude.{◌≡◌, List, map, Option, length};
-ghost use Rattle.std.specs.List.{AllByRecursion};
+// Whether calls are right for what names mean.
+ghost use Rattle.std.specs.Prelude.{◌≡◌, List, map, Option};
 ghost use Rattle.ir_types.specs.declared.name.Name.{Name};
 ghost use Rattle.ir_types.specs.declared.inst.Ty.{Ty};
 ghost use Rattle.ir_types.specs.declared.call.Actual.{Actual};
+ghost use Rattle.ir_types.specs.Kinds.{actual_types};
 ghost use Rattle.ir_types.specs.Denotes.{Tables, operand_in};
-ghost use Rattle.ir_intrinsics.specs.Intrinsics.{masked_load, masked_store, Meant};
-ghost use Rattle.ir_rules.specs.Mismatch.{is_access_right, is_meant_right, call_fits};
+ghost use Rattle.ir_intrinsics.specs.Intrinsics.{masked_load, masked_store, Meant, meant_by};
+ghost use Rattle.ir_rules.specs.Mismatch.{is_access_right, is_meant_right};
 ghost use Rattle.ir_check_fits.specs.Masked.{masked_in};
-ghost use Rattle.ir_check_fits.specs.Sites.{locals_at, operand_at, IsHere};
 
-use crate::around::Around;
-use crate::fitting::actuals_fit;
 use crate::masked::{Masked, access_of};
 use crate::numbers::is_written_alignment;
 use crate::operands::{is_bits, same_type};
@@ -64,11 +61,9 @@ fn access_fits(access: Option<Masked>, ty: Ty, actuals: &[Actual], args: &[Opera
     }
 }
 
-/// Whether arguments fit a call that gives a type.
-pub fn call_fits(x: &Around<'_>, callee: &Callee, ty: Ty, args: &[Operand]) -> bool
-    requires { AllByRecursion (IsHere (length x.now.part.names)) args.now }
-    ensures { result ≡ call_fits (locals_at x.now) callee.now ty (map (operand_at x.now) args.now) }
+/// Whether a call that gives a type is right for what the name of its function means.
+pub fn is_meant_right(callee: &Callee, ty: Ty, args: &[Operand]) -> bool
+    ensures { (t : Tables) (names : List Name) → result ≡ is_meant_right (meant_by callee.now.name) ty (actual_types callee.now) (map (operand_in t names) args.now) }
 {
-    let actuals = callee.actuals.as_slice();
-    actuals_fit(x, actuals, args) && access_fits(access_of(&callee.name), ty, actuals, args)
+    access_fits(access_of(&callee.name), ty, callee.actuals.as_slice(), args)
 }

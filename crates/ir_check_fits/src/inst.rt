@@ -3,10 +3,11 @@ ghost use Rattle.std.specs.Prelude.{◌≡◌, ◌||◌, ◌&&◌, not, is_none,
 ghost use Rattle.std.specs.List.{AllByRecursion, list_all};
 ghost use Rattle.ir_types.specs.Denotes.{name_in};
 ghost use Rattle.ir_rules.specs.Operands.{is_valued, is_label};
-ghost use Rattle.ir_rules.specs.Mismatch.{kind_fits, inst_fits};
+ghost use Rattle.ir_rules.specs.Mismatch.{operands_fit, kind_fits, inst_fits};
 ghost use Rattle.ir_check_fits.specs.Sites.{locals_at, around_at, operand_at, kind_at, inst_at, IsNamed, IsInstHere};
 
 use crate::around::Around;
+use crate::fitting::operands_fit;
 use crate::kinds::kind_fits;
 use crate::operands::is_valued;
 use ir_types::{Inst, ValueId};
@@ -33,12 +34,15 @@ fn head_fits(inst: &Inst) -> bool
     !inst.wide && (inst.result.is_none() || is_valued(inst.ty))
 }
 
-// Whether its labels and its operands fit.
+// Whether its labels, its operands and its types fit.
 fn body_fits(x: &Around<'_>, inst: &Inst) -> bool
     requires { IsInstHere (length x.now.part.names) inst.now }
-    ensures { result ≡ (list_all (is_label (locals_at x.now)) (map (name_in x.now.part.names) inst.now.labels) && kind_fits (around_at x.now) (kind_at x.now inst.now.kind) inst.now.ty (map (operand_at x.now) inst.now.args)) }
+    ensures { result ≡ (list_all (is_label (locals_at x.now)) (map (name_in x.now.part.names) inst.now.labels) && (operands_fit (around_at x.now) (kind_at x.now inst.now.kind) inst.now.ty (map (operand_at x.now) inst.now.args) && kind_fits (around_at x.now) (kind_at x.now inst.now.kind) inst.now.ty (map (operand_at x.now) inst.now.args))) }
 {
-    labels_fit(x, inst.labels.as_slice()) && kind_fits(x, &inst.kind, inst.ty, inst.args.as_slice())
+    let args = inst.args.as_slice();
+    labels_fit(x, inst.labels.as_slice())
+        && operands_fit(x, &inst.kind, inst.ty, args)
+        && kind_fits(x, &inst.kind, inst.ty, args)
 }
 
 /// Whether an instruction fits.

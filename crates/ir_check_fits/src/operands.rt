@@ -1,7 +1,7 @@
 // Types of operands.
 ghost use Rattle.std.specs.Prelude.{◌≡◌};
 ghost use Rattle.ir_rules.specs.Operands as rules;
-ghost use Rattle.ir_rules.specs.Mismatch.{is_mask_type};
+ghost use Rattle.ir_rules.specs.Mismatch.{is_mask_type, is_element_of};
 
 use ir_types::Ty;
 
@@ -77,4 +77,14 @@ pub fn is_mask_type(ty: Ty) -> bool
     ensures { result ≡ is_mask_type ty }
 {
     matches!(ty, Ty::Vector(_, 32))
+}
+
+/// Whether a type is that of a vector's elements, which are integers.
+pub fn is_element_of(ty: Ty, element: Ty) -> bool
+    ensures { result ≡ is_element_of ty element }
+{
+    match (ty, element) {
+        (Ty::Vector(_, width), Ty::Int(bits)) => bits == width,
+        _ => false,
+    }
 }

@@ -34,7 +34,7 @@ impl<'m> InstRule for Around<'m> {
 
     ghost subjects = { λ s. misfits (around_at s) };
 
-    // A place that the table lacks, which no module has that some text reads as, is no case of the rule.
+    // A place that the table lacks, which no module has, is no case of the rule.
     fn broken_by(&self, _alloc: Global, inst: &Inst) -> Result<Option<Subject>, AllocError> {
         if !is_inst_here(self.function().names.len(), inst) {
             return Err(AllocError);

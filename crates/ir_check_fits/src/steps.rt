@@ -117,7 +117,7 @@ impl<'m> TypeSteps<'m> {
     ghost use Rattle.ir_shape.specs.Modules.{IsModule};
     ghost use Rattle.ir_rules.specs.Steps.{type_definitions, has_size, is_stepped};
 
-    /// Of a module that some text reads as.
+    /// Of a module.
     ///
     /// # Errors
     ///

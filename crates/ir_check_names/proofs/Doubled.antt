@@ -90,7 +90,7 @@ repeated_right f before (d ∷ ds) (e ∷ es) table named says =
     by true rest = ap Some (breach_says f d e named.0 says.0)
     by false rest = ap (λ given. looked f given ds) later ∙ rest
 
--- a function of a module that some text reads as: its names are a table, and each position is one of its list
+-- a function of a module: its names are a table, and each position is one of its list
 pub record IsSound (t : Tables) (f : Function) : Type 0 where
   pub table : IsTable f.names
   pub placed : IsFunctionPlaced t f

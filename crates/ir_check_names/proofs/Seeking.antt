@@ -37,7 +37,7 @@ module _ (m : Module) (r : IsModule m) where
   tree = tree_of m
 
   denoted : Denotes m (tree_of m)
-  denoted = subst (λ (tree : ModuleTree). Denotes m tree) (sym r.denotes.says) r.1.denotes
+  denoted = r.denotes
 
   abbrev missing : List (Option ℕ)
   missing = missing_names m.type_names [] m.types

@@ -1,20 +1,16 @@
--- In a module whose types fit no instruction is wide.
+-- In a tree whose types fit no instruction is wide.
 use Rattle.std.proofs.Common.{◌≡◌, ℕ, suc, Bool, true, false, not, ◌&&◌, List, [], ◌∷◌, ◌++◌, map, Option, Some, None, refl, sym, ap, ◌∙◌, if◌then◌else◌}
 use Rattle.std.specs.List.{AllByRecursion, list_all}
 use Rattle.forms.specs.Nested.{concat}
-use Rattle.ir_types.specs.declared.name.Name.{Name}
-use Rattle.ir_types.specs.declared.inst.Inst.{Inst}
-use Rattle.ir_types.specs.declared.module.Block.{Block}
-use Rattle.ir_types.specs.declared.module.Function.{Function}
 use Rattle.ir_types.specs.declared.module.Module.{Module}
 use Rattle.ir_types.specs.Tree.{InstTree, BlockTree, FunctionTree, SymbolTree, ModuleTree}
-use Rattle.ir_types.specs.Denotes.{Tables, tables_of, tree_of, inst_in, block_in, function_in}
+use Rattle.ir_types.specs.Denotes.{tree_of}
 use Rattle.ir_shape.specs.Narrow.{IsNarrowInst, IsNarrowBlock, IsNarrowFunction, IsNarrow}
 use Rattle.ir_rules.specs.declared.fault.Rule.{Rule}
 use Rattle.ir_rules.specs.declared.fault.Breach.{Breach}
 use Rattle.ir_rules.specs.declared.fault.Subject.{Subject}
 use Rattle.ir_rules.specs.Breaches.{Found, inside, all_at, numbered_from, in_functions, in_insts, result_of}
-use Rattle.ir_rules.specs.Mismatch.{Around, around, result_fits, kind_fits, inst_fits, misfits, mismatches, sizeless, type_mismatches}
+use Rattle.ir_rules.specs.Mismatch.{Around, around, result_fits, operands_fit, kind_fits, inst_fits, misfits, mismatches, sizeless, type_mismatches}
 use Rattle.ir_rules.specs.declared.fault.Rule.TheVariants.{DuplicateName, UnknownName, TypeMismatch}
 use Rattle.ir_rules.specs.Duplicates.{duplicate_names}
 use Rattle.ir_rules.specs.Unknown.{unknown_names}
@@ -52,33 +48,26 @@ narrow_if true rest s e = absurd (cc)
 narrow_if false rest s e = refl
 
 fits_narrow : (x : Around) (i : InstTree) → misfits x i ≡ [] → i.wide ≡ false
-fits_narrow x i e = narrow_if i.wide (result_fits i.ty i.result && (list_all (is_label x.locals) i.labels && kind_fits x i.kind i.ty i.args)) (result_of i) e
+fits_narrow x i e = narrow_if i.wide (result_fits i.ty i.result && (list_all (is_label x.locals) i.labels && (operands_fit x i.kind i.ty i.args && kind_fits x i.kind i.ty i.args))) (result_of i) e
 
-narrow_from : (x : Around) (n : ℕ) (is : List InstTree) → concat (map (λ i. all_at i.0 (misfits x i.1)) (numbered_from n is)) ≡ [] → AllByRecursion (λ (i : InstTree). i.wide ≡ false) is
+narrow_from : (x : Around) (n : ℕ) (is : List InstTree) → concat (map (λ i. all_at i.0 (misfits x i.1)) (numbered_from n is)) ≡ [] → AllByRecursion IsNarrowInst is
 narrow_from x n [] e = tt
 narrow_from x n (i ∷ is) e = (
   fits_narrow x i (nothing_mapped (λ s. (s, n)) (misfits x i) (nothing_first (all_at n (misfits x i)) _ e)),
   narrow_from x (suc n) is (nothing_second (all_at n (misfits x i)) _ e),
 )
 
-narrow_insts : (t : Tables) (ns : List Name) (is : List Inst) → AllByRecursion (λ (i : InstTree). i.wide ≡ false) (map (inst_in t ns) is) → AllByRecursion IsNarrowInst is
-narrow_insts t ns [] h = tt
-narrow_insts t ns (i ∷ is) h = (h.0, narrow_insts t ns is h.1)
-
-narrow_blocks : (t : Tables) (ns : List Name) (bs : List Block) → AllByRecursion (λ (i : InstTree). i.wide ≡ false) (concat (map (λ (b : BlockTree). b.insts) (map (block_in t ns) bs))) → AllByRecursion IsNarrowBlock bs
-narrow_blocks t ns [] h = tt
-narrow_blocks t ns (b ∷ bs) h = (
-  narrow_insts t ns b.insts (all_first (λ (i : InstTree). i.wide ≡ false) (map (inst_in t ns) b.insts) _ h),
-  narrow_blocks t ns bs (all_second (λ (i : InstTree). i.wide ≡ false) (map (inst_in t ns) b.insts) _ h),
-)
-
 -- ---- functions
 
-narrow_functions : (m : ModuleTree) (t : Tables) (fs : List Function) → concat (map (λ (f : FunctionTree). map (inside f.name) (mismatches m f)) (map (function_in t) fs)) ≡ [] → AllByRecursion IsNarrowFunction fs
-narrow_functions m t [] e = tt
-narrow_functions m t (f ∷ fs) e =
-    let here : mismatches m (function_in t f) ≡ [] = nothing_mapped (inside f.name) (mismatches m (function_in t f)) (nothing_first (map (inside f.name) (mismatches m (function_in t f))) _ e) in
-    (narrow_blocks t f.names f.body (narrow_from (around m (function_in t f)) 0 _ here), narrow_functions m t fs (nothing_second (map (inside f.name) (mismatches m (function_in t f))) _ e))
+narrow_blocks : (bs : List BlockTree) → AllByRecursion IsNarrowInst (concat (map (λ (b : BlockTree). b.insts) bs)) → AllByRecursion IsNarrowBlock bs
+narrow_blocks [] h = tt
+narrow_blocks (b ∷ bs) h = (all_first IsNarrowInst b.insts _ h, narrow_blocks bs (all_second IsNarrowInst b.insts _ h))
+
+narrow_functions : (m : ModuleTree) (fs : List FunctionTree) → concat (map (λ (f : FunctionTree). map (inside f.name) (mismatches m f)) fs) ≡ [] → AllByRecursion IsNarrowFunction fs
+narrow_functions m [] e = tt
+narrow_functions m (f ∷ fs) e =
+    let here : mismatches m f ≡ [] = nothing_mapped (inside f.name) (mismatches m f) (nothing_first (map (inside f.name) (mismatches m f)) _ e) in
+    (narrow_blocks f.body (narrow_from (around m f) 0 _ here), narrow_functions m fs (nothing_second (map (inside f.name) (mismatches m f)) _ e))
 
 -- the mismatches are among the breaches
 no_mismatches : (m : ModuleTree) → type_breaches m ≡ [] → type_mismatches m ≡ []
@@ -87,5 +76,8 @@ no_mismatches m types =
     let behind_unknown : _ = nothing_second (of_rule UnknownName (unknown_names m)) _ behind_names in
     nothing_mapped (λ b. (TypeMismatch, b)) (type_mismatches m) (nothing_first (of_rule TypeMismatch (type_mismatches m)) _ behind_unknown)
 
-pub narrow : (m : Module) → type_breaches (tree_of m) ≡ [] → IsNarrow m
-narrow m kept = narrow_functions (tree_of m) (tables_of m) m.functions (nothing_second (concat (map (λ (s : SymbolTree). sizeless (tree_of m) s.kind) (tree_of m).symbols)) _ (no_mismatches (tree_of m) kept))
+pub narrow : (m : ModuleTree) → type_breaches m ≡ [] → IsNarrow m
+narrow m kept = narrow_functions m m.functions (nothing_second (concat (map (λ (s : SymbolTree). sizeless m s.kind) m.symbols)) _ (no_mismatches m kept))
+
+pub narrow_module : (m : Module) → type_breaches (tree_of m) ≡ [] → IsNarrow (tree_of m)
+narrow_module m kept = narrow (tree_of m) kept

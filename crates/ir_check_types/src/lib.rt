@@ -37,11 +37,11 @@ pub fn kept(rule: Rule, found: Option<Breach>) -> Result<(), CheckFault>
 ///
 /// The first of these rules that is broken, and of it the first breach, through the types, the symbols, and then each function's head and
 /// instructions in the text's order; and where there was no memory for the checks.
-#[tactic(auto, using(crate::proofs::Narrowed::narrow, crate::proofs::Firsts::none_first, crate::proofs::Firsts::next_rule, crate::proofs::Firsts::broken))]
+#[tactic(auto, using(crate::proofs::Narrowed::narrow_module, crate::proofs::Firsts::none_first, crate::proofs::Firsts::next_rule, crate::proofs::Firsts::broken))]
 pub fn check_types(alloc: Global, m: &Module) -> Result<(), CheckFault>
     requires { IsModule m.now }
     ensures ok { OnOk result (type_breaches (tree_of m.now) ≡ []) }
-    ensures narrow { OnOk result (IsNarrow m.now) }
+    ensures narrow { OnOk result (IsNarrow (tree_of m.now)) }
     ensures err { IfErr result (TypeCause (tree_of m.now)) }
 {
     kept(Rule::DuplicateName, duplicate_name(alloc, m)?)?;

@@ -30,10 +30,8 @@ pub data Intrinsic : Type 0 where
 -- how their names begin; behind that stand the types that they are about
 unfoldable pub families : List (List ℕ × Intrinsic)
 families =
-    (codes "llvm.smin.", minimum_maximum SMin) ∷
-    (codes "llvm.smax.", minimum_maximum SMax) ∷
-    (codes "llvm.umin.", minimum_maximum UMin) ∷
-    (codes "llvm.umax.", minimum_maximum UMax) ∷
+    (codes "llvm.smin.", minimum_maximum SMin) ∷ (codes "llvm.smax.", minimum_maximum SMax) ∷
+    (codes "llvm.umin.", minimum_maximum UMin) ∷ (codes "llvm.umax.", minimum_maximum UMax) ∷
     (codes "llvm.vector.reduce.add.", reduction Add) ∷
     (codes "llvm.vector.reduce.mul.", reduction Mul) ∷
     (codes "llvm.vector.reduce.and.", reduction And) ∷
@@ -42,29 +40,19 @@ families =
     (codes "llvm.vector.reduce.smin.", reduction SMin) ∷
     (codes "llvm.vector.reduce.smax.", reduction SMax) ∷
     (codes "llvm.vector.reduce.umin.", reduction UMin) ∷
-    (codes "llvm.vector.reduce.umax.", reduction UMax) ∷
-    (codes "llvm.masked.load.", masked_load) ∷
-    (codes "llvm.masked.store.", masked_store) ∷
-    (codes "llvm.lifetime.start.", lifetime) ∷
-    (codes "llvm.lifetime.end.", lifetime) ∷
-    []
+    (codes "llvm.vector.reduce.umax.", reduction UMax) ∷ (codes "llvm.masked.load.", masked_load) ∷
+    (codes "llvm.masked.store.", masked_store) ∷ (codes "llvm.lifetime.start.", lifetime) ∷
+    (codes "llvm.lifetime.end.", lifetime) ∷ []
 
 -- widths and numbers of lanes as they are written in names
 unfoldable pub width_texts : List (List ℕ × ℕ)
-width_texts = (codes "i1", 1) ∷ (codes "i8", 8) ∷ (codes "i16", 16) ∷ (codes "i32", 32) ∷ (codes "i64", 64) ∷ []
+width_texts =
+    (codes "i1", 1) ∷ (codes "i8", 8) ∷ (codes "i16", 16) ∷ (codes "i32", 32) ∷ (codes "i64", 64) ∷ []
 
 unfoldable pub lane_texts : List (List ℕ × ℕ)
 lane_texts =
-    (codes "v2", 2) ∷
-    (codes "v4", 4) ∷
-    (codes "v8", 8) ∷
-    (codes "v16", 16) ∷
-    (codes "v32", 32) ∷
-    (codes "v64", 64) ∷
-    (codes "v128", 128) ∷
-    (codes "v256", 256) ∷
-    (codes "v512", 512) ∷
-    []
+    (codes "v2", 2) ∷ (codes "v4", 4) ∷ (codes "v8", 8) ∷ (codes "v16", 16) ∷ (codes "v32", 32) ∷
+    (codes "v64", 64) ∷ (codes "v128", 128) ∷ (codes "v256", 256) ∷ (codes "v512", 512) ∷ []
 
 -- what stands behind a front
 abbrev pub behind_front : List ℕ → List ℕ → Option (List ℕ)
@@ -80,7 +68,7 @@ vector_before end text = first (filter_map (λ e. behind_front e.0 text >>= widt
 
 -- the integer or the vector that is written so
 abbrev pub type_written : List ℕ → Option Ty
-type_written text = elim (width_before [] text) [ Some w ↦ Some (Int w) | None ↦ vector_before [] text ]
+type_written s = elim (width_before [] s) [ Some w ↦ Some (Int w) | None ↦ vector_before [] s ]
 
 -- what a function gives and takes
 pub record Signed : Type 0 where

@@ -69,7 +69,10 @@ fn in_family(family: Family, text: &[u8]) -> Option<Intrinsic>
         Family::MinimumMaximum(operator) => {
             Some(Intrinsic::MinimumMaximum(operator, type_written(text)?))
         }
-        Family::Reduction(operator) => Some(Intrinsic::Reduction(operator, vector_before(b"", text)?)),
+        Family::Reduction(operator) => Some(Intrinsic::Reduction(
+            operator,
+            vector_before(b"", text)?,
+        )),
         Family::MaskedLoad => Some(Intrinsic::MaskedLoad(vector_before(b".p0", text)?)),
         Family::MaskedStore => Some(Intrinsic::MaskedStore(vector_before(b".p0", text)?)),
         Family::Lifetime => Some(Intrinsic::Lifetime),

@@ -4,8 +4,6 @@
 mod counts;
 mod longs;
 mod names;
-#[cfg(test)]
-mod tests;
 
 pub use counts::passed;
 pub use longs::{LongNames, long_names};

@@ -13,7 +13,7 @@ use Rattle.ir_meaning.specs.Runs.{Observation, Undefined, Going, Returned, obser
 use Rattle.ir_meaning.specs.Refines.{Refines}
 use Rattle.ir_meaning.specs.Fits.{Fits}
 
--- the module defines the function of that name: it has a block
+-- the module defines f as the function of that name: it has a block
 pub record Defines (m : ModuleTree) (name : Name) (f : FunctionTree) : Type 0 where
   pub found : function_of m name ≡ Some f
   pub body : 0 < length f.body
@@ -40,6 +40,7 @@ pub record IsWorldFor (v u : World) : Type 0 where
   pub replies : u.replies ≡ v.replies
   pub numbers : length v.numbers ≤ length u.numbers
 
+-- the run has returned
 abbrev pub HasReturned : Observation → Type 0
 HasReturned Undefined = ⊥
 HasReturned (Going events) = ⊥

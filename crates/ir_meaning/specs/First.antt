@@ -1,4 +1,5 @@
--- The modules of which it is claimed by now that what is printed does what they allow: those of i1 and i32 alone.
+-- The modules of which it is claimed by now that what is printed does what they allow: those of i1 and i32 alone, and of `add` without a flag, `icmp`,
+-- `phi`, `br` and `ret` of a value, without variables.
 use Rattle.std.specs.Prelude.{◌≡◌, ◌⊎◌, false}
 use Rattle.std.specs.List.{AllByRecursion}
 use Rattle.ir_types.specs.declared.inst.Ty.{Ty}
@@ -37,6 +38,6 @@ IsNoVariable (variable nodes writable) = ⊥
 IsNoVariable function = Unit {0}
 
 -- a module of such functions alone, without variables
-pub record HasMeaning (m : ModuleTree) : Type 0 where
+pub record IsFirstModule (m : ModuleTree) : Type 0 where
   pub functions : AllByRecursion IsFirstFunction m.functions
   pub symbols : AllByRecursion (λ (s : SymbolTree). IsNoVariable s.kind) m.symbols

@@ -37,7 +37,7 @@ pub record HasVariable (memory : Memory) (v : Variable) : Type 0 where
   pub size : length allocation.bytes ≡ v.size
   pub constant : IsTrue v.constant → allocation.writable ≡ false
 
--- The memory fits the module. Of the module only the variables count, by name, size and whether they are constant. So a memory that
+-- The memory fits the module. Of the module only the variables are to count, by name, size and whether they are constant; none does yet. So a memory that
 -- fits a module fits one with more declared functions, whose names have pointers without an allocation like all others.
 pub record Fits (m : ModuleTree) (memory : Memory) : Type 0 where
   pub allocations : AllByRecursion IsAllocation memory.allocations

@@ -31,7 +31,7 @@ blocks_of (Some f) = f.body
 
 -- the first block of that name
 abbrev pub block_at : ModuleTree → (function block : Name) → Option BlockTree
-block_at m function block = find (λ (b : BlockTree). same_name b.name block) (blocks_of (function_of m function))
+block_at m f name = find (λ (b : BlockTree). same_name b.name name) (blocks_of (function_of m f))
 
 -- the instruction that a frame carries out next
 abbrev pub inst_at : ModuleTree → Frame → Option InstTree
@@ -132,7 +132,7 @@ called callee args =
 -- what reads or writes memory or takes numbers, have no meaning yet
 abbrev pub effect_of : ModuleTree → Memory → Kind → Ty → List Name → List Value → Effect
 effect_of m memory (Binary op flags) (IntTy w) labels (x ∷ y ∷ []) = gives (combined op flags x y)
-effect_of m memory (Compare p (IntTy w)) ty labels (x ∷ y ∷ []) = Passes (record { value = Some (compared p x y) })
+effect_of m memory (Compare p (IntTy w)) ty labels (x ∷ y ∷ []) = gives (Some (Result (compared p x y)))
 effect_of m memory (Call callee) ty labels args = called callee args
 effect_of m memory Jump ty (label ∷ []) [] = goes_to label
 effect_of m memory Branch ty labels (x ∷ []) = branched labels x
@@ -140,7 +140,7 @@ effect_of m memory (Return of) ty labels (x ∷ []) = Leaves (record { value = S
 effect_of m memory ReturnVoid ty labels [] = Leaves (record { value = None })
 effect_of m memory kind ty labels values = Waits
 
--- the same where each operand has a value
+-- the same where each operand has a value; else the run stands still
 abbrev pub effect_with : ModuleTree → Memory → InstTree → Option (List Value) → Effect
 effect_with m memory i None = Waits
 effect_with m memory i (Some values) = effect_of m memory i.kind i.ty i.labels values
@@ -163,11 +163,11 @@ phis_of b = take_while (λ (i : InstTree). is_phi i.kind) b.insts
 abbrev pub entry_for : (left : Name) → List OperandTree → List Name → Option OperandTree
 entry_for left [] labels = None
 entry_for left (a ∷ args) [] = None
-entry_for left (a ∷ args) (l ∷ labels) = if same_name l left then Some a else entry_for left args labels
+entry_for left (a ∷ args) (l ∷ ls) = if same_name l left then Some a else entry_for left args ls
 
 -- the value of a phi behind the block that was left, by the values before
 abbrev pub phi_value : Memory → Env → (left : Name) → InstTree → Option Value
-phi_value memory env left i = entry_for left i.args i.labels >>= λ a. operand_value memory env i.ty a
+phi_value memory env left i = entry_for left i.args i.labels >>= operand_value memory env i.ty
 
 -- with a value for the result, where it has a name
 abbrev pub set_result : Env → Option Name → Value → Env
@@ -175,10 +175,10 @@ set_result env None v = env
 set_result env (Some name) v = set_value env name v
 
 -- the values `now` with those of the phis, each by the values `before` the branch
-abbrev pub after_phis : Memory → (before : Env) → (left : Name) → List InstTree → (now : Env) → Option Env
-after_phis memory before left [] now = Some now
-after_phis memory before left (i ∷ phis) now =
-    phi_value memory before left i >>= λ v. after_phis memory before left phis (set_result now i.result v)
+abbrev pub after_phis : Memory → (before : Env) → Name → List InstTree → (now : Env) → Option Env
+after_phis m before left [] now = Some now
+after_phis m before left (i ∷ phis) now =
+    phi_value m before left i >>= λ v. after_phis m before left phis (set_result now i.result v)
 
 -- the frame behind the phis of the block
 abbrev pub entered_at : Memory → Frame → BlockTree → Option Frame
@@ -191,13 +191,13 @@ entered m memory frame label = block_at m frame.function label >>= entered_at me
 
 -- ---- into a function
 
--- the values of the parameters; of several with one name the first counts
+-- the values of the parameters; of several with one name the first counts, a parameter without a value has none, and further values are dropped
 abbrev pub arguments_in : List ParamTree → List Value → Env
 arguments_in [] values = no_values
 arguments_in (p ∷ params) [] = no_values
 arguments_in (p ∷ params) (v ∷ values) = set_value (arguments_in params values) p.name v
 
--- the first frame of a function that has a block: its own name, and its first block's
+-- the frame at the first place of a function's first block, with its parameters' values; none where it has no block
 abbrev pub first_frame : ModuleTree → (function : Name) → List Value → Option Frame
 first_frame m function values =
     function_of m function >>= λ f. slice_get f.body 0 >>= λ b. Some (record { function = function; block = b.name; place = 0; env = arguments_in f.params values })
@@ -211,7 +211,7 @@ with_result env result (Some v) = set_result env result v
 
 -- the frame behind its instruction, whose result has a value or none
 abbrev pub passed : Frame → (result : Option Name) → Option Value → Frame
-passed frame result v = record frame { place = frame.place + 1; env = with_result frame.env result v }
+passed frame name v = record frame { place = frame.place + 1; env = with_result frame.env name v }
 
 -- the name of an instruction's result
 abbrev pub result_of : Option InstTree → Option Name
@@ -261,5 +261,5 @@ step m Wrong = Wrong
 abbrev pub start : ModuleTree → (function : Name) → List Value → Memory → World → State
 start m function values memory world = elim (first_frame m function values) [
   | None ↦ Wrong
-  | Some frame ↦ Live (record { frame = frame; callers = []; memory = memory; world = world; events = [] })
+  | Some f ↦ Live (record { frame = f; callers = []; memory = memory; world = world; events = [] })
 ]

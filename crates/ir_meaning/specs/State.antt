@@ -35,6 +35,7 @@ pub data Content : Type 0 where
   -- the eight bytes of a pointer, whose address counts modulo 2^64
   whole : Pointer → Content
 
+-- what it writes, and where
 pub record Piece : Type 0 where
   pub address : ℕ
   pub content : Content

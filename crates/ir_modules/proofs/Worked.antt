@@ -98,6 +98,9 @@ shape = record { items = function_item the_function ∷ []; known = (function_kn
 pub one : IsModule example
 one = record { denotes = denotes; shape = shape }
 
+pub example_is : (m : Module) → m ≡ example → IsModule m
+example_is m e = subst IsModule (sym e) one
+
 -- ---- what lacks a part
 
 pub tables_lack : IsModule named_twice → ⊥

@@ -2,6 +2,7 @@
 
 ghost use Rattle.std.specs.Prelude.{◌≡◌, ◌∷◌, [], IfOk, List};
 ghost use Rattle.ir_types.specs.declared.inst.BinOp.TheVariants.{Add};
+ghost use Rattle.ir_shape.specs.Modules.{IsModule};
 ghost use Rattle.ir_modules.specs.Examples.{three_names, counted_by, gives_third, of_insts, symbol_for, example};
 
 use ir_making::{applied, binary, one_operand};
@@ -87,8 +88,10 @@ fn symbol(alloc: Global) -> Result<Symbol, AllocError>
 /// # Errors
 ///
 /// Where there is no room for it.
+#[tactic(auto, using(crate::proofs::Worked::example_is))]
 pub fn made(alloc: Global) -> Result<Module, AllocError>
-    ensures { IfOk result (λ m. m ≡ example) }
+    ensures is { IfOk result (λ m. m ≡ example) }
+    ensures is_module { IfOk result IsModule }
 {
     Ok(Module {
         head: Items::from_vec(Vec::new(alloc)),

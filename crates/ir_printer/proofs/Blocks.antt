@@ -10,10 +10,7 @@ use Rattle.text_lex.specs.Layout.{Piece, lexeme, closed, open_}
 use Rattle.ir_types.specs.declared.name.Name.{Name}
 use Rattle.ir_types.specs.declared.inst.Ty.{Ty}
 use Rattle.ir_types.specs.declared.inst.Ty.TheVariants.{Int, Ptr, Vector, Void}
-use Rattle.ir_types.specs.declared.inst.Inst.{Inst}
-use Rattle.ir_types.specs.Denotes.{Tables, name_in, kind_in, inst_in, block_in}
 use Rattle.ir_types.specs.Offsets.{Definitions}
-use Rattle.ir_types.specs.Types.{AreTypes}
 use Rattle.text_lex.specs.KeptText.{kept_behind}
 use Rattle.ir_types.specs.Tree.{OperandTree, local, number, null, poison, lanes, global, out_of_range, InstTree}
 use Rattle.ir_types.specs.Grammar.{bare_inst, is_out_of_range, with_kept, attached, label, operation_words, operation_behind, operation, terminator, named_by, line, block}
@@ -79,47 +76,38 @@ line_writes f i ps h w =
     (with_result (attached f) (with_kept (stripped i) i.kept) i.ty i.result _ h.result (mapped_writes (stripped i, i.kept) _ refl (both w (with_feed (behind_kept h.attachments)))))
 
 -- the form of an instruction that goes on, or that ends a block
-operation_line : (defs : Definitions) (t : Tables) (ns : List Name) (i : Inst) → AreTypes t.type_names 0 t.types → IsInst (inst_in t ns i) → ¬ IsTerminator (kind_in t i.kind) → Writes closed (line (operation defs)) (inst_in t ns i) (inst_pieces t ns i)
+operation_line : (defs : Definitions) (i : InstTree) → IsInst i → ¬ IsTerminator i.kind → Writes closed (line (operation defs)) i (inst_pieces i)
 unfolding operation inst_pieces
-operation_line defs t ns i listed h g =
-    let j = inst_in t ns i in
-    line_writes (by_word operation_words (operation_behind defs)) j _ h (operation_writes defs t i.kind i.ty j.args j.labels listed (stripped_body j h.body) g)
+operation_line defs i h g = line_writes (by_word operation_words (operation_behind defs)) i _ h (operation_writes defs i.kind i.ty i.args i.labels (stripped_body i h.body) g)
 
-terminator_line : (defs : Definitions) (t : Tables) (ns : List Name) (i : Inst) → IsInst (inst_in t ns i) → IsTerminator (kind_in t i.kind) → Writes closed (line (terminator defs)) (inst_in t ns i) (inst_pieces t ns i)
+terminator_line : (defs : Definitions) (i : InstTree) → IsInst i → IsTerminator i.kind → Writes closed (line (terminator defs)) i (inst_pieces i)
 unfolding terminator inst_pieces
-terminator_line defs t ns i h g =
-    let j = inst_in t ns i in
-    line_writes _ j _ h (terminator_writes defs t i.kind i.ty j.args j.labels (stripped_body j h.body) g)
+terminator_line defs i h g = line_writes _ i _ h (terminator_writes defs i.kind i.ty i.args i.labels (stripped_body i h.body) g)
 
 -- ---- blocks
 
 label_writes : (n : Name) → IsName n → Writes closed label n (lexeme (label_token n) ∷ [])
 label_writes n h = laid_writes (label_says n h) (token_laid (label_token n) (label_kind n h) nothing_behind)
 
-module _ (defs : Definitions) (t : Tables) (listed : AreTypes t.type_names 0 t.types) (ns : List Name) where
+module _ (defs : Definitions) where
   -- the lines of a block, and the last of them
-  record Lines (insts : List Inst) : Type 0 where
+  record Lines (insts : List InstTree) : Type 0 where
     front : List InstTree
     last : InstTree
-    parts : front ++ last ∷ [] ≡ map (inst_in t ns) insts
-    writes : Writes open_ (pair (many (line (operation defs))) (line (terminator defs))) (front, last) (each_behind (indent ∷ []) (map (inst_pieces t ns) insts))
+    parts : front ++ last ∷ [] ≡ insts
+    writes : Writes open_ (pair (many (line (operation defs))) (line (terminator defs))) (front, last) (each_behind (indent ∷ []) (map inst_pieces insts))
 
-  lines_write : (insts : List Inst) → AllByRecursion IsInst (map (inst_in t ns) insts) → EndsOnce (map (λ i. i.kind) (map (inst_in t ns) insts)) → Lines insts
+  lines_write : (insts : List InstTree) → AllByRecursion IsInst insts → EndsOnce (map (λ i. i.kind) insts) → Lines insts
   lines_write [] h e = absurd e
-  lines_write (i ∷ []) h e = record { front = []; last = inst_in t ns i; parts = refl; writes = rw (append-nil (inst_pieces t ns i)) (indented (no_more (terminator_line defs t ns i h.0 e))) }
+  lines_write (i ∷ []) h e = record { front = []; last = i; parts = refl; writes = rw (append-nil (inst_pieces i)) (indented (no_more (terminator_line defs i h.0 e))) }
   lines_write (i ∷ j ∷ insts) h e =
       let rest = lines_write (j ∷ insts) h.1 e.1 in
-      record {
-        front = inst_in t ns i ∷ rest.front;
-        last = rest.last;
-        parts = ap (λ (is : List InstTree). inst_in t ns i ∷ is) rest.parts;
-        writes = indented (more_writes (operation_line defs t ns i listed h.0 e.0) rest.writes);
-      }
+      record { front = i ∷ rest.front; last = rest.last; parts = ap (λ (is : List InstTree). i ∷ is) rest.parts; writes = indented (more_writes (operation_line defs i h.0 e.0) rest.writes) }
 
-  pub block_writes : EachWrites (block defs) (λ b. written_block (block_in t ns b)) (block_pieces t ns) (λ b. IsBlock (block_in t ns b))
+  pub block_writes : EachWrites (block defs) written_block block_pieces IsBlock
   unfolding block block_pieces
   block_writes = record {
     one = λ b h.
         let lines = lines_write b.insts h.insts h.ending in
-        mapped_writes (Some (name_in ns b.name), (lines.front, lines.last)) _ (rw (lines.parts) refl) (both (there_writes (label_writes (name_in ns b.name) h.name)) (on_next_line (anywhere lines.writes)));
+        mapped_writes (Some b.name, (lines.front, lines.last)) _ (rw (lines.parts) refl) (both (there_writes (label_writes b.name h.name)) (on_next_line (anywhere lines.writes)));
   }

@@ -1,5 +1,5 @@
 -- The items of a module in the order in which they are printed: they are items of it, and are collected to it.
-use Rattle.std.proofs.Common.{◌≡◌, ℕ, suc, true, false, cond, eqb, List, [], ◌∷◌, ◌++◌, Option, Some, None, refl, sym, ap, ◌∙◌, subst, ◌⊎◌, inl, inr}
+use Rattle.std.proofs.Common.{◌≡◌, ℕ, true, false, cond, eqb, List, [], ◌∷◌, ◌++◌, Option, Some, None, refl, sym, ap, ◌∙◌, subst, ◌⊎◌, inl, inr}
 use Rattle.std.specs.Prelude.{map, filter, flat_map, filter_map}
 use Rattle.std.specs.List.{AllByRecursion, cons_option}
 use Rattle.std.proofs.lemmas.Bool.{eqb-true, eq-eqb}
@@ -10,10 +10,11 @@ use Rattle.std.proofs.lemmas.List.Folds.{flat_map-map}
 use Rattle.forms.proofs.Begins.{test}
 use Rattle.text_lex.proofs.Lexed.{each_split, each_append}
 use Rattle.ir_types.specs.declared.name.Name.{Name}
-use Rattle.ir_types.specs.Collected.{as_head, as_comdat, as_type, as_variable, as_function, as_attributes, as_metadata, symbol_of, symbols_from, collected}
+use Rattle.ir_types.specs.Collected.{as_head, as_comdat, as_type, as_variable, as_function, as_attributes, as_metadata, symbol_of, symbol_of_function, collected}
 use Rattle.ir_types.specs.Tree.{KeptTexts, FunctionTree, NamedTree, defined, opaque, TypeNameTree, SymbolKindTree, variable, function, SymbolTree, ModuleTree, Item, head_line, comdat_line, type_item, variable_item, function_item, attribute_line, metadata_line}
-use Rattle.ir_shape.specs.Shape.{IsFunction, IsItem, IsModule}
-use Rattle.ir_printer.specs.Print.{is_comdat}
+use Rattle.ir_shape.specs.Shape.{IsFunction, IsItem, IsPrintable}
+use Rattle.ir_printer.specs.Print.{for_one, is_comdat}
+use Rattle.ir_printer.proofs.Appended.{for_cons}
 use Rattle.ir_printer.proofs.Lines.{head_no_comdat, comdat_is, begins_group, group_is, metadata_is}
 
 -- ---- the items that are printed for a part of a module
@@ -33,7 +34,7 @@ type_items t = named_items t.name t.ty
 
 abbrev pub kind_items : SymbolTree → SymbolKindTree → List (Item FunctionTree)
 kind_items s (variable nodes writable) = variable_item (record { name = s.name; before = s.before; writable = writable; ty = nodes; after = s.after }) ∷ []
-kind_items s (function i) = []
+kind_items s function = []
 
 abbrev pub symbol_items : SymbolTree → List (Item FunctionTree)
 symbol_items s = kind_items s s.kind
@@ -165,20 +166,6 @@ collected_grouped items = rw (
 
 -- ---- the printed items are these groups
 
--- what is printed for what there may be
-abbrev pub for_one : {A : Type 0} → (A → List (Item FunctionTree)) → Option A → List (Item FunctionTree)
-for_one r None = []
-for_one r (Some a) = r a
-
-for_cons : {A : Type 0} (r : A → List (Item FunctionTree)) (o : Option A) (xs : List A) → flat_map r (cons_option o xs) ≡ for_one r o ++ flat_map r xs
-for_cons r None xs = refl
-for_cons r (Some a) xs = refl
-
--- of what some elements give
-pub for_each : {A B : Type 0} (r : B → List (Item FunctionTree)) (f : A → Option B) (xs : List A) → flat_map r (filter_map f xs) ≡ flat_map (λ x. for_one r (f x)) xs
-for_each r f [] = refl
-for_each r f (x ∷ xs) = for_cons r (f x) (filter_map f xs) ∙ ap (λ (is : List (Item FunctionTree)). for_one r (f x) ++ is) (for_each r f xs)
-
 -- of each item of the group it is that item
 group_is_printed : {A : Type 0} (f : Item FunctionTree → Option A) (r : A → List (Item FunctionTree)) (k : ℕ) → ((i : Item FunctionTree) → IsItem i → for_one r (f i) ≡ cond (eqb (group i) k) (i ∷ []) []) → (items : List (Item FunctionTree)) → AllByRecursion IsItem items → flat_map r (filter_map f items) ≡ of_group k items
 unfolding of_group
@@ -228,9 +215,9 @@ metadata_fit : (i : Item FunctionTree) → IsItem i → for_one tail_items (as_m
 metadata_fit (metadata_line xs) h = rw (metadata_is xs h) refl
 metadata_fit i h = refl
 
-functions_no_symbols : (i : ℕ) (fs : List FunctionTree) → flat_map symbol_items (symbols_from i fs) ≡ []
-functions_no_symbols i [] = refl
-functions_no_symbols i (f ∷ fs) = functions_no_symbols (suc i) fs
+functions_no_symbols : (fs : List FunctionTree) → flat_map symbol_items (map symbol_of_function fs) ≡ []
+functions_no_symbols [] = refl
+functions_no_symbols (f ∷ fs) = functions_no_symbols fs
 
 printed_are_groups : (items : List (Item FunctionTree)) → AllByRecursion IsItem items → printed_items (collected items) ≡ grouped all_groups items
 unfolding printed_items grouped
@@ -240,19 +227,19 @@ printed_are_groups items h =
     let types : flat_map type_items (filter_map as_type items) ≡ of_group 1 items = group_is_printed as_type type_items 1 types_fit items h in
     let comdats : flat_map comdat_items (filter_map as_head items ++ filter_map as_comdat items) ≡ of_group 2 items =
     flat_map-append comdat_items (filter_map as_head items) _ ∙ rw (none_printed as_head comdat_items comdats_of_heads items h) (group_is_printed as_comdat comdat_items 2 comdats_fit items h) in
-    let variables : flat_map symbol_items (map symbol_of (filter_map as_variable items) ++ symbols_from 0 (filter_map as_function items)) ≡ of_group 3 items =
-    flat_map-append symbol_items (map symbol_of (filter_map as_variable items)) _ ∙ rw (flat_map-map symbol_items symbol_of (filter_map as_variable items), group_is_printed as_variable (λ v. symbol_items (symbol_of v)) 3 variables_fit items h, functions_no_symbols 0 (filter_map as_function items)) (append-nil _) in
+    let variables : flat_map symbol_items (map symbol_of (filter_map as_variable items) ++ map symbol_of_function (filter_map as_function items)) ≡ of_group 3 items =
+    flat_map-append symbol_items (map symbol_of (filter_map as_variable items)) _ ∙ rw (flat_map-map symbol_items symbol_of (filter_map as_variable items), group_is_printed as_variable (λ v. symbol_items (symbol_of v)) 3 variables_fit items h, functions_no_symbols (filter_map as_function items)) (append-nil _) in
     let tail : flat_map tail_items (filter_map as_attributes items ++ filter_map as_metadata items) ≡ of_group 5 items ++ (of_group 6 items ++ []) =
     flat_map-append tail_items (filter_map as_attributes items) _ ∙ rw (group_is_printed as_attributes tail_items 5 attributes_fit items h, group_is_printed as_metadata tail_items 6 metadata_fit items h, append-nil (of_group 6 items)) refl in
     rw (heads, types, comdats, variables, group_is_printed as_function function_items 4 functions_fit items h, tail) refl
 
 -- ---- of a module
 
-pub printed_known : (tree : ModuleTree) → IsModule tree → AllByRecursion IsItem (printed_items tree)
+pub printed_known : (tree : ModuleTree) → IsPrintable tree → AllByRecursion IsItem (printed_items tree)
 printed_known tree m =
     subst (λ (t : ModuleTree). AllByRecursion IsItem (printed_items t)) m.says (rw (printed_are_groups m.items m.known) (grouped_known IsItem all_groups m.items m.known))
 
-pub printed_collected : (tree : ModuleTree) → IsModule tree → collected (printed_items tree) ≡ tree
+pub printed_collected : (tree : ModuleTree) → IsPrintable tree → collected (printed_items tree) ≡ tree
 printed_collected tree m =
     subst (λ (t : ModuleTree). collected (printed_items t) ≡ t) m.says (rw (printed_are_groups m.items m.known) (collected_grouped m.items))
 
@@ -260,7 +247,7 @@ each_function : (fs : List FunctionTree) → AllByRecursion IsItem (flat_map fun
 each_function [] h = tt
 each_function (f ∷ fs) h = (h.0, each_function fs h.1)
 
-pub functions_known : (tree : ModuleTree) → IsModule tree → AllByRecursion IsFunction tree.functions
+pub functions_known : (tree : ModuleTree) → IsPrintable tree → AllByRecursion IsFunction tree.functions
 unfolding printed_items
 functions_known tree m =
     let types = (each_split IsItem (flat_map head_items tree.head) _ (printed_known tree m)).1 in

@@ -13,19 +13,16 @@ use Rattle.ir_types.specs.declared.name.Name.{Name}
 use Rattle.ir_types.specs.declared.inst.Ty.{Ty}
 use Rattle.ir_types.specs.declared.inst.Ty.TheVariants.{Int, Ptr, Void}
 use Rattle.ir_types.specs.declared.inst.BinOp.{BinOp}
-use Rattle.ir_types.specs.declared.inst.BinOp.TheVariants.{Add, Sub, Mul, Shl, UDiv, SDiv, URem, SRem, LShr, AShr, And, Or, Xor}
+use Rattle.ir_types.specs.declared.inst.BinOp.TheVariants.{Add, Sub, Mul, Shl, UDiv, SDiv, URem, SRem, LShr, AShr, And, Or, Xor, SMin, SMax, UMin, UMax}
 use Rattle.ir_types.specs.declared.inst.Flags.{Flags}
 use Rattle.ir_types.specs.declared.inst.Pred.{Pred}
 use Rattle.ir_types.specs.declared.inst.Pred.TheVariants.{Eq, Ne, Ugt, Uge, Ult, Ule, Sgt, Sge, Slt, Sle}
-use Rattle.ir_types.specs.declared.inst.InstKind.{InstKind}
-use Rattle.ir_types.specs.declared.inst.InstKind.TheVariants.{Binary, Compare, Select, Freeze, Trunc, Zext, Sext, PtrToInt, Phi, Offset, Load, Store, Call, Extract, Insert, Shuffle, Jump, Branch, Switch, ReturnVoid, Return, Unreachable}
 use Rattle.ir_types.specs.declared.call.Callee.{Callee}
 use Rattle.ir_types.specs.declared.call.TailKind.{TailKind}
 use Rattle.ir_types.specs.declared.call.TailKind.TheVariants.{Unmarked, Tail, MustTail, NoTail}
-use Rattle.ir_types.specs.Denotes.{Tables, kind_in}
-use Rattle.ir_types.specs.Kinds as kinds_of
+use Rattle.ir_types.specs.Kinds.{Kind, Binary, Compare, Select, Freeze, Trunc, Zext, Sext, PtrToInt, Phi, Offset, Load, Store, Call, Extract, Insert, Shuffle, Jump, Branch, Switch, ReturnVoid, Return, Unreachable}
+use Rattle.ir_types.specs.TypeNodes.{TypeNode}
 use Rattle.ir_types.specs.Offsets.{Definitions}
-use Rattle.ir_types.specs.Types.{AreTypes}
 use Rattle.ir_types.specs.declared.opcode.Operation.TheVariants as operations
 use Rattle.ir_types.specs.declared.opcode.Terminator.TheVariants as terminators
 use Rattle.ir_types.specs.Written.{number_at}
@@ -33,7 +30,7 @@ use Rattle.ir_types.specs.Tree.{OperandTree, InstTree}
 use Rattle.ir_types.specs.Grammar.{WrittenValue, wrap_flags, exact_flag, disjoint_flag, no_flags, bits_for, element_of, shuffled, bare_inst, overflowing, possibly_exact, plain_binary, or_operation, predicates, call, compared, compare, select, freeze, trunc, zext, sext, ptrtoint, entry_of_phi, entries_at, phi, load, store, extractelement, insertelement, shufflevector, branch, case_of_switch, index_fits, switch, void_tree, unreachable_tree, ret, operation_words, operation_behind, terminator_words, terminator_behind}
 use Rattle.ir_shape.specs.Shape.{IsName, IsOneOf, widths, IsType, IsBelow, IsTyped, IsTerminator, HasFlags, IsBody}
 use Rattle.type_printer.specs.Texts.{signed_text}
-use Rattle.type_printer.specs.MemoryPieces.{memory_pieces}
+use Rattle.type_printer.specs.MemoryPieces.{node_pieces}
 use Rattle.type_printer.specs.Pieces.{word, comma, blank, type_pieces, width_word, each_behind, with_commas}
 use Rattle.type_printer.proofs.Spelled.{decimals}
 use Rattle.type_printer.proofs.Widths.{width_within}
@@ -45,7 +42,6 @@ use Rattle.ir_printer.proofs.Numbers.{signed_again, signed_fits}
 use Rattle.type_printer.proofs.InstMemory.{memory_writes}
 use Rattle.ir_printer.proofs.Words.{local_writes, width_writes, type_writes, signed_writes}
 use Rattle.ir_printer.proofs.Calls.{offset_writes, call_writes}
-use Rattle.ir_types.specs.declared.memory_type.TypeId.{TypeId}
 use Rattle.ir_printer.proofs.Values.{IsWritten, operand_written, typed_writes, pointer_writes, index_writes, by_none, by_one, by_two, by_three}
 use Rattle.ir_printer.proofs.Parts.{flag_writes, wrap_writes, pair_writes, to_writes, target_writes, align_writes, by_no_label, by_first_label, by_one_label, by_two_labels}
 
@@ -57,7 +53,7 @@ flag_kinds = (refl, refl, refl)
 
 -- an operator of these flags behind its word
 abbrev WritesBinary : BinOp → Ty → OperandTree → OperandTree → Form InstTree → Flags → Type 0
-WritesBinary op t a b form f = Writes open_ form (bare_inst (kinds_of.Binary op f) t (a ∷ b ∷ []) []) (flags_pieces f ++ (typed_pieces t (a ∷ b ∷ []) ++ []))
+WritesBinary op t a b form f = Writes open_ form (bare_inst (Binary op f) t (a ∷ b ∷ []) []) (flags_pieces f ++ (typed_pieces t (a ∷ b ∷ []) ++ []))
 
 module _ (defs : Definitions) (op : BinOp) (f : Flags) (t : Ty) (a b : OperandTree) (x : IsWritten defs t a) (y : IsWritten defs t b) where
   overflowing_writes : f ≡ wrap_flags (f.nuw, f.nsw) → WritesBinary op t a b (overflowing defs op) f
@@ -76,27 +72,31 @@ or_writes : (defs : Definitions) (f : Flags) (t : Ty) (a b : OperandTree) → Is
 unfolding or_operation
 or_writes defs f t a b x y e = subst (WritesBinary Or t a b (or_operation defs)) (sym e) (mapped_writes (f.disjoint, (t, (a, b))) _ refl (both (flag_writes (codes "disjoint") f.disjoint flag_kinds.1) (ended (pair_writes x y))))
 
-binary_writes : (defs : Definitions) (tables : Tables) (op : BinOp) (f : Flags) (t : Ty) (a b : OperandTree) → HasFlags op f → IsWritten defs t a → IsWritten defs t b → Writes closed (by_word operation_words (operation_behind defs)) (bare_inst (kinds_of.Binary op f) t (a ∷ b ∷ []) []) (kind_pieces tables (Binary op f) t (a ∷ b ∷ []) [])
+binary_writes : (defs : Definitions) (op : BinOp) (f : Flags) (t : Ty) (a b : OperandTree) → HasFlags op f → IsWritten defs t a → IsWritten defs t b → Writes closed (by_word operation_words (operation_behind defs)) (bare_inst (Binary op f) t (a ∷ b ∷ []) []) (kind_pieces (Binary op f) t (a ∷ b ∷ []) [])
 unfolding operation_words operator_word table
-binary_writes defs tables Add f t a b h x y = by_word_writes _ (operations.Overflowing Add) refl refl (overflowing_writes defs Add f t a b x y h)
-binary_writes defs tables Sub f t a b h x y = by_word_writes _ (operations.Overflowing Sub) refl refl (overflowing_writes defs Sub f t a b x y h)
-binary_writes defs tables Mul f t a b h x y = by_word_writes _ (operations.Overflowing Mul) refl refl (overflowing_writes defs Mul f t a b x y h)
-binary_writes defs tables Shl f t a b h x y = by_word_writes _ (operations.Overflowing Shl) refl refl (overflowing_writes defs Shl f t a b x y h)
-binary_writes defs tables UDiv f t a b h x y = by_word_writes _ (operations.PossiblyExact UDiv) refl refl (exact_writes defs UDiv f t a b x y h)
-binary_writes defs tables SDiv f t a b h x y = by_word_writes _ (operations.PossiblyExact SDiv) refl refl (exact_writes defs SDiv f t a b x y h)
-binary_writes defs tables LShr f t a b h x y = by_word_writes _ (operations.PossiblyExact LShr) refl refl (exact_writes defs LShr f t a b x y h)
-binary_writes defs tables AShr f t a b h x y = by_word_writes _ (operations.PossiblyExact AShr) refl refl (exact_writes defs AShr f t a b x y h)
-binary_writes defs tables URem f t a b h x y = by_word_writes _ (operations.Plain URem) refl refl (plain_writes defs URem f t a b x y h)
-binary_writes defs tables SRem f t a b h x y = by_word_writes _ (operations.Plain SRem) refl refl (plain_writes defs SRem f t a b x y h)
-binary_writes defs tables And f t a b h x y = by_word_writes _ (operations.Plain And) refl refl (plain_writes defs And f t a b x y h)
-binary_writes defs tables Xor f t a b h x y = by_word_writes _ (operations.Plain Xor) refl refl (plain_writes defs Xor f t a b x y h)
-binary_writes defs tables Or f t a b h x y = by_word_writes _ operations.Or refl refl (or_writes defs f t a b x y h)
+binary_writes defs Add f t a b h x y = by_word_writes _ (operations.Overflowing Add) refl refl (overflowing_writes defs Add f t a b x y h)
+binary_writes defs Sub f t a b h x y = by_word_writes _ (operations.Overflowing Sub) refl refl (overflowing_writes defs Sub f t a b x y h)
+binary_writes defs Mul f t a b h x y = by_word_writes _ (operations.Overflowing Mul) refl refl (overflowing_writes defs Mul f t a b x y h)
+binary_writes defs Shl f t a b h x y = by_word_writes _ (operations.Overflowing Shl) refl refl (overflowing_writes defs Shl f t a b x y h)
+binary_writes defs UDiv f t a b h x y = by_word_writes _ (operations.PossiblyExact UDiv) refl refl (exact_writes defs UDiv f t a b x y h)
+binary_writes defs SDiv f t a b h x y = by_word_writes _ (operations.PossiblyExact SDiv) refl refl (exact_writes defs SDiv f t a b x y h)
+binary_writes defs LShr f t a b h x y = by_word_writes _ (operations.PossiblyExact LShr) refl refl (exact_writes defs LShr f t a b x y h)
+binary_writes defs AShr f t a b h x y = by_word_writes _ (operations.PossiblyExact AShr) refl refl (exact_writes defs AShr f t a b x y h)
+binary_writes defs URem f t a b h x y = by_word_writes _ (operations.Plain URem) refl refl (plain_writes defs URem f t a b x y h)
+binary_writes defs SRem f t a b h x y = by_word_writes _ (operations.Plain SRem) refl refl (plain_writes defs SRem f t a b x y h)
+binary_writes defs And f t a b h x y = by_word_writes _ (operations.Plain And) refl refl (plain_writes defs And f t a b x y h)
+binary_writes defs Xor f t a b h x y = by_word_writes _ (operations.Plain Xor) refl refl (plain_writes defs Xor f t a b x y h)
+binary_writes defs Or f t a b h x y = by_word_writes _ operations.Or refl refl (or_writes defs f t a b x y h)
+binary_writes defs SMin f t a b h x y = absurd h
+binary_writes defs SMax f t a b h x y = absurd h
+binary_writes defs UMin f t a b h x y = absurd h
+binary_writes defs UMax f t a b h x y = absurd h
 
-compared_writes : (defs : Definitions) (p : Pred) (t : Ty) (a b : OperandTree) → IsWritten defs t a → IsWritten defs t b → Writes open_ (compared defs p) (bare_inst (kinds_of.Compare p t) (bits_for t) (a ∷ b ∷ []) []) (typed_pieces t (a ∷ b ∷ []) ++ [])
+compared_writes : (defs : Definitions) (p : Pred) (t : Ty) (a b : OperandTree) → IsWritten defs t a → IsWritten defs t b → Writes open_ (compared defs p) (bare_inst (Compare p t) (bits_for t) (a ∷ b ∷ []) []) (typed_pieces t (a ∷ b ∷ []) ++ [])
 unfolding compared
 compared_writes defs p t a b x y = mapped_writes (t, (a, b)) _ refl (ended (pair_writes x y))
 
-compare_writes : (defs : Definitions) (p : Pred) (t : Ty) (a b : OperandTree) → IsWritten defs t a → IsWritten defs t b → Writes closed (compare defs) (bare_inst (kinds_of.Compare p t) (bits_for t) (a ∷ b ∷ []) []) (word (predicate_word p) ∷ (typed_pieces t (a ∷ b ∷ []) ++ []))
+compare_writes : (defs : Definitions) (p : Pred) (t : Ty) (a b : OperandTree) → IsWritten defs t a → IsWritten defs t b → Writes closed (compare defs) (bare_inst (Compare p t) (bits_for t) (a ∷ b ∷ []) []) (word (predicate_word p) ∷ (typed_pieces t (a ∷ b ∷ []) ++ []))
 unfolding compare predicates predicate_word table
 compare_writes defs Eq t a b x y = by_word_writes _ Eq refl refl (compared_writes defs Eq t a b x y)
 compare_writes defs Ne t a b x y = by_word_writes _ Ne refl refl (compared_writes defs Ne t a b x y)
@@ -155,7 +155,7 @@ all_known : (defs : Definitions) (t : Ty) (es : List (Entry defs t)) → AllByRe
 all_known defs t [] = tt
 all_known defs t (e ∷ es) = (tt, all_known defs t es)
 
-phi_writes : (defs : Definitions) (t : Ty) (args : List OperandTree) (labels : List Name) → IsType t → Entries defs t args labels → 0 < length args → Writes closed (phi defs) (bare_inst kinds_of.Phi t args labels) (type_pieces t ++ (blank ∷ with_commas (entries_of t args labels)))
+phi_writes : (defs : Definitions) (t : Ty) (args : List OperandTree) (labels : List Name) → IsType t → Entries defs t args labels → 0 < length args → Writes closed (phi defs) (bare_inst Phi t args labels) (type_pieces t ++ (blank ∷ with_commas (entries_of t args labels)))
 unfolding phi
 phi_writes defs t args labels i es lt =
     rw (← es.pieces) (made_writes (t, map (written_entry defs t) es.items) _ (rw (es.operands, es.names) refl)
@@ -175,47 +175,47 @@ tail_writes defs Tail i ps w = by_word_writes _ (operations.Call Tail) tail_kind
 tail_writes defs MustTail i ps w = by_word_writes _ (operations.Call MustTail) tail_kinds.2 refl (spaced (behind_writes (codes "call") tail_kinds.0 w))
 tail_writes defs NoTail i ps w = by_word_writes _ (operations.Call NoTail) tail_kinds.3 refl (spaced (behind_writes (codes "call") tail_kinds.0 w))
 
-module _ (defs : Definitions) (tables : Tables) where
-  abbrev pub WritesOperation : InstKind → Ty → List OperandTree → List Name → Type 0
-  WritesOperation k t args labels = Writes closed (by_word operation_words (operation_behind defs)) (bare_inst (kind_in tables k) t args labels) (kind_pieces tables k t args labels)
+module _ (defs : Definitions) where
+  abbrev pub WritesOperation : Kind → Ty → List OperandTree → List Name → Type 0
+  WritesOperation k t args labels = Writes closed (by_word operation_words (operation_behind defs)) (bare_inst k t args labels) (kind_pieces k t args labels)
 
-  with_one : (k : InstKind) (t : Ty) {u : Ty} {args : List OperandTree} {labels : List Name} → AllZip IsTyped (u ∷ []) args → length labels ≡ 0 → ((a : OperandTree) → IsWritten defs u a → WritesOperation k t (a ∷ []) []) → WritesOperation k t args labels
+  with_one : (k : Kind) (t : Ty) {u : Ty} {args : List OperandTree} {labels : List Name} → AllZip IsTyped (u ∷ []) args → length labels ≡ 0 → ((a : OperandTree) → IsWritten defs u a → WritesOperation k t (a ∷ []) []) → WritesOperation k t args labels
   with_one k t {args = args} h e p = by_no_label (λ ls. WritesOperation k t args ls) e (by_one defs (λ xs. WritesOperation k t xs []) h p)
 
-  with_two : (k : InstKind) (t : Ty) {u v : Ty} {args : List OperandTree} {labels : List Name} → AllZip IsTyped (u ∷ v ∷ []) args → length labels ≡ 0 → ((a b : OperandTree) → IsWritten defs u a → IsWritten defs v b → WritesOperation k t (a ∷ b ∷ []) []) → WritesOperation k t args labels
+  with_two : (k : Kind) (t : Ty) {u v : Ty} {args : List OperandTree} {labels : List Name} → AllZip IsTyped (u ∷ v ∷ []) args → length labels ≡ 0 → ((a b : OperandTree) → IsWritten defs u a → IsWritten defs v b → WritesOperation k t (a ∷ b ∷ []) []) → WritesOperation k t args labels
   with_two k t {args = args} h e p = by_no_label (λ ls. WritesOperation k t args ls) e (by_two defs (λ xs. WritesOperation k t xs []) h p)
 
-  with_three : (k : InstKind) (t : Ty) {u v w : Ty} {args : List OperandTree} {labels : List Name} → AllZip IsTyped (u ∷ v ∷ w ∷ []) args → length labels ≡ 0 → ((a b c : OperandTree) → IsWritten defs u a → IsWritten defs v b → IsWritten defs w c → WritesOperation k t (a ∷ b ∷ c ∷ []) []) → WritesOperation k t args labels
+  with_three : (k : Kind) (t : Ty) {u v w : Ty} {args : List OperandTree} {labels : List Name} → AllZip IsTyped (u ∷ v ∷ w ∷ []) args → length labels ≡ 0 → ((a b c : OperandTree) → IsWritten defs u a → IsWritten defs v b → IsWritten defs w c → WritesOperation k t (a ∷ b ∷ c ∷ []) []) → WritesOperation k t args labels
   with_three k t {args = args} h e p = by_no_label (λ ls. WritesOperation k t args ls) e (by_three defs (λ xs. WritesOperation k t xs []) h p)
 
-  offset_operation : (id : TypeId) (widths : List ℕ) (inbounds nuw nusw : Bool) (t : Ty) (args : List OperandTree) (labels : List Name) → AreTypes tables.type_names 0 tables.types → IsBody (bare_inst (kind_in tables (Offset id widths inbounds nuw nusw)) t args labels) → WritesOperation (Offset id widths inbounds nuw nusw) t args labels
+  offset_operation : (nodes : List TypeNode) (widths : List ℕ) (inbounds nuw nusw : Bool) (t : Ty) (args : List OperandTree) (labels : List Name) → IsBody (bare_inst (Offset nodes widths inbounds nuw nusw) t args labels) → WritesOperation (Offset nodes widths inbounds nuw nusw) t args labels
   unfolding operation_words table
-  offset_operation id widths inbounds nuw nusw t args labels listed h =
-      let k = Offset id widths inbounds nuw nusw in
-      rw (h.result) (by_no_label (λ ls. WritesOperation k Ptr args ls) h.count (rw (append-nil (blank ∷ (memory_pieces tables.type_names tables.types id ++ (comma ∷ listed_pieces (Ptr ∷ map Int widths) args)))) (by_word_writes _ operations.GetElementPtr refl refl (offset_writes defs _ widths inbounds nuw nusw args _ (memory_writes tables.type_names tables.types id listed h.parts.0) h.args h.parts.1))))
+  offset_operation nodes widths inbounds nuw nusw t args labels h =
+      let k = Offset nodes widths inbounds nuw nusw in
+      rw (h.result) (by_no_label (λ ls. WritesOperation k Ptr args ls) h.count (rw (append-nil (blank ∷ (node_pieces nodes ++ (comma ∷ listed_pieces (Ptr ∷ map Int widths) args)))) (by_word_writes _ operations.GetElementPtr refl refl (offset_writes defs _ widths inbounds nuw nusw args _ (memory_writes nodes h.parts.0) h.args h.parts.1))))
 
-  call_operation : (c : Callee) (t : Ty) (args : List OperandTree) (labels : List Name) → IsBody (bare_inst (kinds_of.Call c) t args labels) → WritesOperation (Call c) t args labels
+  call_operation : (c : Callee) (t : Ty) (args : List OperandTree) (labels : List Name) → IsBody (bare_inst (Call c) t args labels) → WritesOperation (Call c) t args labels
   call_operation c t args labels h = by_no_label (λ ls. WritesOperation (Call c) t args ls) h.count (tail_writes defs c.tail _ _ (call_writes defs c t args h.parts h.result h.args))
 
-  pub operation_writes : (k : InstKind) (t : Ty) (args : List OperandTree) (labels : List Name) → AreTypes tables.type_names 0 tables.types → IsBody (bare_inst (kind_in tables k) t args labels) → ¬ IsTerminator (kind_in tables k) → WritesOperation k t args labels
+  pub operation_writes : (k : Kind) (t : Ty) (args : List OperandTree) (labels : List Name) → IsBody (bare_inst k t args labels) → ¬ IsTerminator k → WritesOperation k t args labels
   unfolding operation_words select freeze trunc zext sext ptrtoint load store extractelement insertelement shufflevector table
-  operation_writes (Binary op f) t args labels listed h g = with_two (Binary op f) t h.args h.count (λ a b x y. binary_writes defs tables op f t a b h.parts x y)
-  operation_writes (Compare p u) t args labels listed h g = rw (h.result) (with_two (Compare p u) (bits_for u) h.args h.count (λ a b x y. by_word_writes _ operations.Icmp refl refl (spaced (compare_writes defs p u a b x y))))
-  operation_writes (Select u v) t args labels listed h g = with_three (Select u v) t h.args h.count (λ a b c x y z. by_word_writes _ operations.Select refl refl (spaced (ended (mapped_writes ((u, a), ((t, b), (v, c))) _ refl (both (typed_writes x) (both (after_comma (typed_writes y)) (after_comma (ended (typed_writes z)))))))))
-  operation_writes Freeze t args labels listed h g = with_one Freeze t h.args h.count (λ a x. by_word_writes _ operations.Freeze refl refl (spaced (ended (mapped_writes (t, a) _ refl (ended (typed_writes x))))))
-  operation_writes (Trunc u nuw nsw) t args labels listed h g = with_one (Trunc u nuw nsw) t h.args h.count (λ a x. by_word_writes _ operations.Trunc refl refl (mapped_writes ((nuw, nsw), ((u, a), t)) _ refl (both (wrap_writes nuw nsw) (spaced (both (ended (typed_writes x)) (to_writes t h.result))))))
-  operation_writes (Zext u nneg) t args labels listed h g = with_one (Zext u nneg) t h.args h.count (λ a x. by_word_writes _ operations.Zext refl refl (mapped_writes (nneg, ((u, a), t)) _ refl (both (flag_writes (codes "nneg") nneg flag_kinds.2) (spaced (both (ended (typed_writes x)) (to_writes t h.result))))))
-  operation_writes (Sext u) t args labels listed h g = with_one (Sext u) t h.args h.count (λ a x. by_word_writes _ operations.Sext refl refl (spaced (mapped_writes ((u, a), t) _ refl (both (ended (typed_writes x)) (to_writes t h.result)))))
-  operation_writes PtrToInt t args labels listed h g = with_one PtrToInt t h.args h.count (λ a x. by_word_writes _ operations.PtrToInt refl refl (spaced (mapped_writes (a, t) _ refl (both (ended (pointer_writes x)) (to_writes t h.result)))))
-  operation_writes Phi t args labels listed h g = by_word_writes _ operations.Phi refl refl (spaced (ended (phi_writes defs t args labels h.result (entries defs t args labels h.count h.args h.labels) h.parts)))
-  operation_writes (Load n) t args labels listed h g = with_one (Load n) t h.args h.count (λ a x. by_word_writes _ operations.Load refl refl (spaced (regrouped (type_pieces t) _ (align_pieces n) (mapped_writes (t, (a, Some n)) _ refl (both (type_writes t h.result) (both (after_comma (ended (pointer_writes x))) (align_writes n h.parts)))))))
-  operation_writes (Store u n) t args labels listed h g = rw (h.result) (with_two (Store u n) Void h.args h.count (λ a b x y. by_word_writes _ operations.Store refl refl (spaced (regrouped (typed_operand u a) _ (align_pieces n) (mapped_writes ((u, a), (b, Some n)) _ refl (both (typed_writes x) (both (after_comma (ended (pointer_writes y))) (align_writes n h.parts))))))))
-  operation_writes (Extract u w) t args labels listed h g = rw (h.result) (with_two (Extract u w) (element_of u) h.args h.count (λ a b x y. by_word_writes _ operations.ExtractElement refl refl (spaced (ended (mapped_writes ((u, a), (w, b)) _ refl (both (typed_writes x) (after_comma (ended (index_writes y)))))))))
-  operation_writes (Insert u w) t args labels listed h g = with_three (Insert u w) t h.args h.count (λ a b c x y z. by_word_writes _ operations.InsertElement refl refl (spaced (ended (mapped_writes ((t, a), ((u, b), (w, c))) _ refl (both (typed_writes x) (both (after_comma (typed_writes y)) (after_comma (ended (index_writes z)))))))))
-  operation_writes (Shuffle u v m) t args labels listed h g = rw (h.result) (with_three (Shuffle u v m) (shuffled u m) h.args h.count (λ a b c x y z. by_word_writes _ operations.ShuffleVector refl refl (spaced (ended (mapped_writes ((u, a), ((v, b), (m, c))) _ refl (both (typed_writes x) (both (after_comma (typed_writes y)) (after_comma (ended (typed_writes z))))))))))
-  operation_writes (Offset id widths inbounds nuw nusw) t args labels listed h g = offset_operation id widths inbounds nuw nusw t args labels listed h
-  operation_writes (Call c) t args labels listed h g = call_operation c t args labels h
-  operation_writes k t args labels listed h g = absurd (g tt)
+  operation_writes (Binary op f) t args labels h g = with_two (Binary op f) t h.args h.count (λ a b x y. binary_writes defs op f t a b h.parts x y)
+  operation_writes (Compare p u) t args labels h g = rw (h.result) (with_two (Compare p u) (bits_for u) h.args h.count (λ a b x y. by_word_writes _ operations.Icmp refl refl (spaced (compare_writes defs p u a b x y))))
+  operation_writes (Select u v) t args labels h g = with_three (Select u v) t h.args h.count (λ a b c x y z. by_word_writes _ operations.Select refl refl (spaced (ended (mapped_writes ((u, a), ((t, b), (v, c))) _ refl (both (typed_writes x) (both (after_comma (typed_writes y)) (after_comma (ended (typed_writes z)))))))))
+  operation_writes Freeze t args labels h g = with_one Freeze t h.args h.count (λ a x. by_word_writes _ operations.Freeze refl refl (spaced (ended (mapped_writes (t, a) _ refl (ended (typed_writes x))))))
+  operation_writes (Trunc u nuw nsw) t args labels h g = with_one (Trunc u nuw nsw) t h.args h.count (λ a x. by_word_writes _ operations.Trunc refl refl (mapped_writes ((nuw, nsw), ((u, a), t)) _ refl (both (wrap_writes nuw nsw) (spaced (both (ended (typed_writes x)) (to_writes t h.result))))))
+  operation_writes (Zext u nneg) t args labels h g = with_one (Zext u nneg) t h.args h.count (λ a x. by_word_writes _ operations.Zext refl refl (mapped_writes (nneg, ((u, a), t)) _ refl (both (flag_writes (codes "nneg") nneg flag_kinds.2) (spaced (both (ended (typed_writes x)) (to_writes t h.result))))))
+  operation_writes (Sext u) t args labels h g = with_one (Sext u) t h.args h.count (λ a x. by_word_writes _ operations.Sext refl refl (spaced (mapped_writes ((u, a), t) _ refl (both (ended (typed_writes x)) (to_writes t h.result)))))
+  operation_writes PtrToInt t args labels h g = with_one PtrToInt t h.args h.count (λ a x. by_word_writes _ operations.PtrToInt refl refl (spaced (mapped_writes (a, t) _ refl (both (ended (pointer_writes x)) (to_writes t h.result)))))
+  operation_writes Phi t args labels h g = by_word_writes _ operations.Phi refl refl (spaced (ended (phi_writes defs t args labels h.result (entries defs t args labels h.count h.args h.labels) h.parts)))
+  operation_writes (Load n) t args labels h g = with_one (Load n) t h.args h.count (λ a x. by_word_writes _ operations.Load refl refl (spaced (regrouped (type_pieces t) _ (align_pieces n) (mapped_writes (t, (a, Some n)) _ refl (both (type_writes t h.result) (both (after_comma (ended (pointer_writes x))) (align_writes n h.parts)))))))
+  operation_writes (Store u n) t args labels h g = rw (h.result) (with_two (Store u n) Void h.args h.count (λ a b x y. by_word_writes _ operations.Store refl refl (spaced (regrouped (typed_operand u a) _ (align_pieces n) (mapped_writes ((u, a), (b, Some n)) _ refl (both (typed_writes x) (both (after_comma (ended (pointer_writes y))) (align_writes n h.parts))))))))
+  operation_writes (Extract u w) t args labels h g = rw (h.result) (with_two (Extract u w) (element_of u) h.args h.count (λ a b x y. by_word_writes _ operations.ExtractElement refl refl (spaced (ended (mapped_writes ((u, a), (w, b)) _ refl (both (typed_writes x) (after_comma (ended (index_writes y)))))))))
+  operation_writes (Insert u w) t args labels h g = with_three (Insert u w) t h.args h.count (λ a b c x y z. by_word_writes _ operations.InsertElement refl refl (spaced (ended (mapped_writes ((t, a), ((u, b), (w, c))) _ refl (both (typed_writes x) (both (after_comma (typed_writes y)) (after_comma (ended (index_writes z)))))))))
+  operation_writes (Shuffle u v m) t args labels h g = rw (h.result) (with_three (Shuffle u v m) (shuffled u m) h.args h.count (λ a b c x y z. by_word_writes _ operations.ShuffleVector refl refl (spaced (ended (mapped_writes ((u, a), ((v, b), (m, c))) _ refl (both (typed_writes x) (both (after_comma (typed_writes y)) (after_comma (ended (typed_writes z))))))))))
+  operation_writes (Offset nodes widths inbounds nuw nusw) t args labels h g = offset_operation nodes widths inbounds nuw nusw t args labels h
+  operation_writes (Call c) t args labels h g = call_operation c t args labels h
+  operation_writes k t args labels h g = absurd (g tt)
 
 -- ---- the cases of a switch
 
@@ -258,7 +258,7 @@ cases_part : Separates (before_case ∷ [])
 cases_part = record { apart = λ ps h. gap_laid 10 _ refl h }
 
 switch_writes : (defs : Definitions) (w : ℕ) (ns : List ℕ) (a : OperandTree) (l : Name) (labels : List Name) → IsWritten defs (Int w) a → IsName l → AllByRecursion (IsBelow w) ns → AllByRecursion IsName labels → length labels ≡ length ns
-    → Writes open_ (switch defs) (bare_inst (kinds_of.Switch w ns) Void (a ∷ []) (l ∷ labels)) ((blank ∷ (typed_operand (Int w) a ++ [])) ++ switch_pieces w ns (l ∷ labels))
+    → Writes open_ (switch defs) (bare_inst (Switch w ns) Void (a ∷ []) (l ∷ labels)) ((blank ∷ (typed_operand (Int w) a ++ [])) ++ switch_pieces w ns (l ∷ labels))
 unfolding switch
 switch_writes defs w ns a l labels x i h g e =
     made_writes ((w, a), (l, map (written_case w) (zip ns labels))) _ (rw (same_widths w (zip ns labels), numbers_again w x.typed ns labels e h, cases_fit w x.typed ns labels h, labels_again w ns labels e) refl)
@@ -275,9 +275,9 @@ bit_type : type_pieces (Int 1) ≡ word (codes "i1") ∷ []
 unfolding type_pieces width_word
 bit_type = rw (decimals.0) refl
 
-module _ (defs : Definitions) (tables : Tables) where
-  abbrev pub WritesTerminator : InstKind → Ty → List OperandTree → List Name → Type 0
-  WritesTerminator k t args labels = Writes closed (either (by_word terminator_words (terminator_behind defs)) (word_form (codes "unreachable") unreachable_tree)) (bare_inst (kind_in tables k) t args labels) (kind_pieces tables k t args labels)
+module _ (defs : Definitions) where
+  abbrev pub WritesTerminator : Kind → Ty → List OperandTree → List Name → Type 0
+  WritesTerminator k t args labels = Writes closed (either (by_word terminator_words (terminator_behind defs)) (word_form (codes "unreachable") unreachable_tree)) (bare_inst k t args labels) (kind_pieces k t args labels)
 
   branch_writes : (a : OperandTree) (l m : Name) → IsWritten defs (Int 1) a → IsName l → IsName m → WritesTerminator Branch Void (a ∷ []) (l ∷ m ∷ [])
   unfolding terminator_words branch table
@@ -285,7 +285,7 @@ module _ (defs : Definitions) (tables : Tables) where
       left_writes (by_word_writes _ terminators.Br refl refl (rw bit_type (right_writes (made_writes (x.as_value, (l, m)) _ (rw (x.is) refl)
       (spaced (behind_writes (codes "i1") end_kinds.0 (spaced (both (ended x.writes) (both (after_comma (target_writes l i)) (after_comma (ended (target_writes m j))))))))))))
 
-  pub terminator_writes : (k : InstKind) (t : Ty) (args : List OperandTree) (labels : List Name) → IsBody (bare_inst (kind_in tables k) t args labels) → IsTerminator (kind_in tables k) → WritesTerminator k t args labels
+  pub terminator_writes : (k : Kind) (t : Ty) (args : List OperandTree) (labels : List Name) → IsBody (bare_inst k t args labels) → IsTerminator k → WritesTerminator k t args labels
   unfolding terminator_words branch ret table
   terminator_writes Jump t args labels h g =
       rw (h.result) (by_none (λ xs. WritesTerminator Jump Void xs labels) h.args (by_one_label (WritesTerminator Jump Void []) h.labels h.count (λ l i. left_writes (by_word_writes _ terminators.Br refl refl (left_writes (mapped_writes l _ refl (spaced (ended (target_writes l i)))))))))

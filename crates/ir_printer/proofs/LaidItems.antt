@@ -8,25 +8,19 @@ use Rattle.text_lex.specs.Layout.{Piece}
 use Rattle.text_lex.specs.KeptText.{IsToken, kept_behind, line_pieces}
 use Rattle.text_lex.proofs.KeptTexts.{line_are, line_joins}
 use Rattle.ir_types.specs.declared.name.Name.{Name}
-use Rattle.ir_types.specs.declared.module.Symbol.{Symbol}
-use Rattle.ir_types.specs.declared.module.Module.{Module}
-use Rattle.ir_types.specs.declared.memory_type.TypeId.{TypeId}
-use Rattle.ir_types.specs.declared.module.Block.{Block}
-use Rattle.ir_types.specs.declared.module.Function.{Function}
-use Rattle.ir_types.specs.Denotes.{Tables, block_in, param_in, function_in}
-use Rattle.ir_types.specs.Types.{AreTypes}
-use Rattle.ir_types.specs.Tree.{KeptTexts, ParamTree}
+use Rattle.ir_types.specs.Tree.{KeptTexts, BlockTree, ParamTree, FunctionTree, VariableTree}
 use Rattle.ir_shape.specs.Shape.{IsName, IsBlock, IsParam, IsFunction}
+use Rattle.type_printer.specs.MemoryPieces.{node_pieces}
 use Rattle.type_printer.specs.Pieces.{word, blank, line_feed, right_paren, right_brace, separated, global_token, type_pieces}
 use Rattle.type_printer.proofs.Names.{global_kind}
 use Rattle.type_printer.proofs.Laid.{IsLaid, IsBehind, loose, nothing_behind, blank_laid, feed_laid, mark_laid, token_laid, laid-append, behind-append, separated_laid}
 use Rattle.type_printer.proofs.LaidOut.{equal_laid, bracket_kinds, feeds_part, local_laid, word_laid, type_laid}
 use Rattle.type_printer.proofs.Writes.{is_laid, each_is_laid}
-use Rattle.ir_printer.specs.Print.{kept_then_blank, whole_line, block_pieces, params_pieces, function_word, head_pieces, body_pieces, function_pieces, definition_pieces, type_at, variable_word, variable_pieces}
+use Rattle.ir_printer.specs.Print.{kept_then_blank, whole_line, block_pieces, params_pieces, function_word, head_pieces, body_pieces, function_pieces, definition_pieces, variable_word, variable_pieces}
 use Rattle.ir_printer.proofs.KeptWritten.{then_blank_laid, blank_then_behind, behind_laid}
 use Rattle.ir_printer.proofs.Blocks.{block_writes}
 use Rattle.ir_printer.proofs.Dotted.{dotted_write}
-use Rattle.ir_printer.proofs.SpelledFunctions.{param_writes, of_images}
+use Rattle.ir_printer.proofs.SpelledFunctions.{param_writes}
 
 -- behind these pieces any that are laid may stand
 pub record EndsLine (ps : List Piece) : Type 0 where
@@ -55,23 +49,23 @@ word_kind : {A : Type 0} (bs : List A) → kind_of (function_word bs) ≡ Some k
 word_kind [] = function_kinds.1
 word_kind (b ∷ bs) = function_kinds.0
 
-head_laid : (t : Tables) (f : Function) → IsFunction (function_in t f) → IsLaid (head_pieces f)
+head_laid : (f : FunctionTree) → IsFunction f → IsLaid (head_pieces f)
 unfolding head_pieces
-head_laid t f h =
+head_laid f h =
     word_laid (function_word f.body) (word_kind f.body) (blank_laid (then_blank_laid f.before _ h.before.tokens (laid-append (type_pieces f.ret) _ (type_laid f.ret h.ret) (blank_laid (token_laid (global_token f.name) (global_kind f.name h.name)
-    (mark_laid kinds.LeftParen (codes "(") refl bracket_kinds.0 (all_params_laid (map (param_in f.names) f.params) f.varargs _ h.params (loose (blank_then_behind f.after h.after.tokens)))))))))
+    (mark_laid kinds.LeftParen (codes "(") refl bracket_kinds.0 (all_params_laid f.params f.varargs _ h.params (loose (blank_then_behind f.after h.after.tokens)))))))))
 
 -- what stands behind the head, and then any pieces that are laid
-body_laid : (t : Tables) (ns : List Name) (bs : List Block) (qs : List Piece) → AreTypes t.type_names 0 t.types → AllByRecursion IsBlock (map (block_in t ns) bs) → IsLaid qs → IsBehind (body_pieces t ns bs ++ qs)
-body_laid t ns [] qs listed h g = feed_laid g
-body_laid t ns (b ∷ bs) qs listed h g =
-    let blocks = separated_laid _ (map (block_pieces t ns) (b ∷ bs)) feeds_part (each_is_laid (block_writes [] t listed ns) (b ∷ bs) (of_images IsBlock (block_in t ns) (b ∷ bs) h)) in
+body_laid : (bs : List BlockTree) (qs : List Piece) → AllByRecursion IsBlock bs → IsLaid qs → IsBehind (body_pieces bs ++ qs)
+body_laid [] qs h g = feed_laid g
+body_laid (b ∷ bs) qs h g =
+    let blocks = separated_laid _ (map block_pieces (b ∷ bs)) feeds_part (each_is_laid (block_writes []) (b ∷ bs) h) in
     let closing : IsBehind (right_brace ∷ line_feed ∷ qs) = mark_laid kinds.RightBrace (codes "}") refl bracket_kinds.5 (loose (feed_laid g)) in
-    blank_laid (loose (mark_laid kinds.LeftBrace (codes "{") refl bracket_kinds.4 (loose (feed_laid (rw (append_assoc (separated (line_feed ∷ []) (map (block_pieces t ns) (b ∷ bs)))) (laid-append _ (right_brace ∷ line_feed ∷ qs) blocks closing))))))
+    blank_laid (loose (mark_laid kinds.LeftBrace (codes "{") refl bracket_kinds.4 (loose (feed_laid (rw (append_assoc (separated (line_feed ∷ []) (map block_pieces (b ∷ bs)))) (laid-append _ (right_brace ∷ line_feed ∷ qs) blocks closing))))))
 
-pub function_laid : (t : Tables) (f : Function) → AreTypes t.type_names 0 t.types → IsFunction (function_in t f) → EndsLine (function_pieces t f)
+pub function_laid : (f : FunctionTree) → IsFunction f → EndsLine (function_pieces f)
 unfolding function_pieces
-function_laid t f listed h = record { before = λ qs g. rw (append_assoc (head_pieces f)) (laid-append (head_pieces f) _ (head_laid t f h) (body_laid t f.names f.body qs listed h.blocks g)) }
+function_laid f h = record { before = λ qs g. rw (append_assoc (head_pieces f)) (laid-append (head_pieces f) _ (head_laid f h) (body_laid f.body qs h.blocks g)) }
 
 -- ---- named types and variables
 
@@ -90,11 +84,11 @@ variable_kind : (writable : Bool) → kind_of (variable_word writable) ≡ Some 
 variable_kind true = item_kinds.2
 variable_kind false = item_kinds.3
 
-pub variable_laid : (m : Module) (s : Symbol) (id : TypeId) (writable : Bool) → IsName s.name → AllByRecursion IsToken s.before → AllByRecursion IsToken s.after → IsLaid (type_at m id) → EndsLine (variable_pieces m s id writable)
-variable_laid m s id writable h before after g = record {
+pub variable_laid : (v : VariableTree) → IsName v.name → AllByRecursion IsToken v.before → AllByRecursion IsToken v.after → IsLaid (node_pieces v.ty) → EndsLine (variable_pieces v)
+variable_laid v h before after g = record {
   before = λ qs l.
-      let behind : IsBehind (kept_behind [] s.after ++ (line_feed ∷ qs)) = behind-append (kept_behind [] s.after) _ (behind_laid s.after after) (feed_laid l) in
-      let rest : IsLaid (word (variable_word writable) ∷ blank ∷ (type_at m id ++ (kept_behind [] s.after ++ (line_feed ∷ qs)))) = word_laid _ (variable_kind writable) (blank_laid (laid-append (type_at m id) _ g behind)) in
-      rw (append_assoc (kept_then_blank s.before), append_assoc (type_at m id), append_assoc (kept_behind [] s.after))
-      (token_laid (global_token s.name) (global_kind s.name h) (blank_laid (loose (equal_laid (loose (blank_laid (then_blank_laid s.before _ before rest)))))));
+      let behind : IsBehind (kept_behind [] v.after ++ (line_feed ∷ qs)) = behind-append (kept_behind [] v.after) _ (behind_laid v.after after) (feed_laid l) in
+      let rest : IsLaid (word (variable_word v.writable) ∷ blank ∷ (node_pieces v.ty ++ (kept_behind [] v.after ++ (line_feed ∷ qs)))) = word_laid _ (variable_kind v.writable) (blank_laid (laid-append (node_pieces v.ty) _ g behind)) in
+      rw (append_assoc (kept_then_blank v.before), append_assoc (node_pieces v.ty), append_assoc (kept_behind [] v.after))
+      (token_laid (global_token v.name) (global_kind v.name h) (blank_laid (loose (equal_laid (loose (blank_laid (then_blank_laid v.before _ before rest)))))));
 }

@@ -9,41 +9,31 @@ use Rattle.text_lex.specs.Layout.{Piece, text_of, tokens_of}
 use Rattle.text_lex.proofs.Layouts.{tokens_of-append}
 use Rattle.text_lex.proofs.Lexed.{each_split}
 use Rattle.ir_types.specs.declared.name.Name.{Name}
-use Rattle.ir_types.specs.declared.memory_type.TypeId.{TypeId}
-use Rattle.ir_types.specs.declared.memory_type.NamedType.{NamedType}
-use Rattle.ir_types.specs.declared.memory_type.NamedType.TheVariants.{Defined, Opaque, Missing}
-use Rattle.ir_types.specs.declared.module.Symbol.{Symbol}
-use Rattle.ir_types.specs.declared.module.SymbolKind.{SymbolKind}
-use Rattle.ir_types.specs.declared.module.SymbolKind.TheVariants.{Variable}
-use Rattle.ir_types.specs.declared.module.SymbolKind.TheVariants as symbols
-use Rattle.ir_types.specs.declared.module.Module.{Module}
-use Rattle.ir_types.specs.Types.{AreTypes}
-use Rattle.ir_types.specs.Denotes.{Tables, type_names_of, nodes_in, type_name_in, symbol_in, function_in, tables_of, tree_of}
 use Rattle.ir_types.specs.Offsets.{Definitions}
-use Rattle.ir_types.specs.declared.module.Function.{Function}
 use Rattle.ir_types.specs.Grammar.{memory_type, item}
-use Rattle.ir_types.specs.Tree.{KeptTexts, FunctionTree, Item, function_item, head_line, comdat_line, attribute_line, metadata_line}
-use Rattle.ir_shape.specs.Shape.{IsMemory, IsFunction, IsItem}
+use Rattle.ir_types.specs.Tree.{KeptTexts, FunctionTree, NamedTree, defined, opaque, SymbolKindTree, variable, function, SymbolTree, VariableTree, ModuleTree, Item, variable_item, function_item, head_line, comdat_line, attribute_line, metadata_line}
+use Rattle.ir_shape.specs.Shape.{IsFunction, IsVariable, IsItem}
+use Rattle.type_printer.specs.MemoryPieces.{node_pieces}
 use Rattle.type_printer.specs.Pieces.{word, line_feed, each_behind, separated}
 use Rattle.type_printer.proofs.Says.{Says, none_says, more_says}
 use Rattle.type_printer.proofs.Laid.{IsLaid, loose, nothing_behind, feed_laid}
-use Rattle.type_printer.proofs.MemoryPrinted.{memory_says, memory_laid}
-use Rattle.ir_printer.specs.Print.{function_pieces, parting, functions_behind, type_at, definition_pieces, named_pieces, type_name_pieces, variable_pieces, symbol_kind_pieces, symbol_pieces, is_comdat, whole_line, head_line_pieces, comdat_line_pieces, front_pieces, module_pieces}
+use Rattle.type_printer.proofs.MemoryPrinted.{memory_prints}
+use Rattle.ir_printer.specs.Print.{function_pieces, parting, functions_behind, definition_pieces, named_pieces, type_name_pieces, variable_pieces, symbol_kind_pieces, symbol_pieces, is_comdat, whole_line, head_line_pieces, comdat_line_pieces, front_pieces, module_pieces}
 use Rattle.ir_printer.proofs.Lines.{begins_group}
-use Rattle.ir_printer.proofs.Grouped.{for_one, for_each, head_items, comdat_items, type_items, symbol_items, function_items, tail_items, printed_items}
+use Rattle.ir_printer.proofs.Grouped.{head_items, comdat_items, named_items, type_items, kind_items, symbol_items, function_items, tail_items, printed_items}
 use Rattle.ir_printer.proofs.Numbering.{written_item}
 use Rattle.ir_printer.proofs.SpelledFunctions.{function_says}
 use Rattle.ir_printer.proofs.SpelledItems.{head_says, comdat_says, group_says, metadata_says, defined_says, definition_within, opaque_says, variable_says, variable_within}
 use Rattle.ir_printer.proofs.LaidItems.{EndsLine, line_laid, function_laid, opaque_laid, definition_laid, variable_laid}
 
 -- the items that stand before the functions
-abbrev front_items : Module → List (Item FunctionTree)
-front_items m = flat_map head_items m.head ++ (flat_map (λ n. for_one type_items (type_name_in m n)) m.type_names ++ (flat_map comdat_items m.head ++ flat_map (λ s. for_one symbol_items (symbol_in m s)) m.symbols))
+abbrev front_items : ModuleTree → List (Item FunctionTree)
+front_items m = flat_map head_items m.head ++ (flat_map type_items m.type_names ++ (flat_map comdat_items m.head ++ flat_map symbol_items m.symbols))
 
 -- in the printed order these are the first, and then those of the functions and of the tail
-items_parted : (m : Module) → printed_items (tree_of m) ≡ front_items m ++ (flat_map function_items (map (function_in (tables_of m)) m.functions) ++ flat_map tail_items m.tail)
+items_parted : (m : ModuleTree) → printed_items m ≡ front_items m ++ (flat_map function_items m.functions ++ flat_map tail_items m.tail)
 unfolding printed_items
-items_parted m = rw (for_each type_items (type_name_in m) m.type_names, for_each symbol_items (symbol_in m) m.symbols) (simp append_assoc)
+items_parted m = simp append_assoc
 
 -- ---- pieces of items
 
@@ -117,80 +107,69 @@ tail_prints defs d xs h = elim (test (begins_group xs)) [
 
 -- ---- named types and variables
 
-module _ (defs : Definitions) (m : Module) (listed : AreTypes (type_names_of m) 0 m.types) where
-  type_printed : (d : ℕ) (id : TypeId) → IsMemory (nodes_in m id) → length (tokens_of (type_at m id)) ≤ d → Says (memory_type d) (nodes_in m id) (tokens_of (type_at m id))
-  type_printed d id h le = memory_says (type_names_of m) m.types id listed h d le
+module _ (defs : Definitions) (d : ℕ) where
+  named_prints : (n : Name) (t : NamedTree) → AllByRecursion IsItem (named_items n t) → Prints defs d (named_items n t) (definition_pieces n (named_pieces t))
+  named_prints n (defined nodes) h =
+      let p = memory_prints nodes h.0.1 in
+      one defs d _ (definition_pieces n (node_pieces nodes)) (λ le. defined_says defs (memory_type d) n nodes (node_pieces nodes) h.0.0 (p.says d (definition_within n (node_pieces nodes) d le))) (definition_laid n (node_pieces nodes) h.0.0 p.laid)
+  named_prints n opaque h = one defs d _ (definition_pieces n (word (codes "opaque") ∷ [])) (λ le. opaque_says defs (memory_type d) n h.0.0) (definition_laid n (word (codes "opaque") ∷ []) h.0.0 opaque_laid)
 
-  type_laid_at : (id : TypeId) → IsMemory (nodes_in m id) → IsLaid (type_at m id)
-  type_laid_at id h = memory_laid (type_names_of m) m.types id listed h
+  variable_prints : (v : VariableTree) → IsVariable v → Prints defs d (variable_item v ∷ []) (variable_pieces v)
+  variable_prints v h =
+      let p = memory_prints v.ty h.ty in
+      one defs d _ (variable_pieces v) (λ le. variable_says defs v (memory_type d) h.name h.before h.after (p.says d (variable_within v d le))) (variable_laid v h.name h.before.tokens h.after.tokens p.laid)
 
-  abbrev items_of_name : Name → NamedType → List (Item FunctionTree)
-  items_of_name n t = for_one type_items (type_name_in m (record { name = n; ty = t }))
+  kind_prints : (s : SymbolTree) (k : SymbolKindTree) → AllByRecursion IsItem (kind_items s k) → Prints defs d (kind_items s k) (symbol_kind_pieces s k)
+  kind_prints s (variable nodes writable) h = variable_prints _ h.0
+  kind_prints s function h = nothing defs d
 
-  named_prints : (d : ℕ) (n : Name) (t : NamedType) → AllByRecursion IsItem (items_of_name n t) → Prints defs d (items_of_name n t) (named_pieces m n t)
-  named_prints d n (Defined id) h = one defs d _ (definition_pieces n (type_at m id)) (λ le. defined_says defs (memory_type d) n (nodes_in m id) (type_at m id) h.0.0 (type_printed d id h.0.1 (definition_within n (type_at m id) d le))) (definition_laid n (type_at m id) h.0.0 (type_laid_at id h.0.1))
-  named_prints d n Opaque h = one defs d _ (definition_pieces n (word (codes "opaque") ∷ [])) (λ le. opaque_says defs (memory_type d) n h.0.0) (definition_laid n (word (codes "opaque") ∷ []) h.0.0 opaque_laid)
-  named_prints d n Missing h = nothing defs d
+  -- ---- functions
 
-  abbrev items_of_symbol : Symbol → SymbolKind → List (Item FunctionTree)
-  items_of_symbol s k = for_one symbol_items (symbol_in m (record s { kind = k }))
+  function_prints : (f : FunctionTree) → IsFunction f → Prints defs d (function_items f) (function_pieces f)
+  function_prints f h = one defs d (function_item f) (function_pieces f) (λ le. function_says defs f h (memory_type d)) (function_laid f h)
 
-  kind_prints : (d : ℕ) (s : Symbol) (k : SymbolKind) → AllByRecursion IsItem (items_of_symbol s k) → Prints defs d (items_of_symbol s k) (symbol_kind_pieces m s k)
-  kind_prints d s (Variable id writable) h =
-      one defs d _ (variable_pieces m s id writable) (λ le. variable_says defs m s id writable (memory_type d) (nodes_in m id) h.0.name h.0.before h.0.after (type_printed d id h.0.ty (variable_within m s id writable d le)))
-      (variable_laid m s id writable h.0.name h.0.before.tokens h.0.after.tokens (type_laid_at id h.0.ty))
-  kind_prints d s (symbols.Function f) h = nothing defs d
-  kind_prints d s symbols.Missing h = nothing defs d
-
--- ---- functions
-
-module _ (defs : Definitions) (t : Tables) (listed : AreTypes t.type_names 0 t.types) (d : ℕ) where
-  function_prints : (f : Function) → IsFunction (function_in t f) → Prints defs d (function_items (function_in t f)) (function_pieces t f)
-  function_prints f h = one defs d (function_item (function_in t f)) (function_pieces t f) (λ le. function_says defs t listed f h (memory_type d)) (function_laid t f listed h)
-
-  each_prints : (fs : List Function) → AllByRecursion IsItem (flat_map function_items (map (function_in t) fs)) → Prints defs d (flat_map function_items (map (function_in t) fs)) (each_behind (line_feed ∷ []) (map (function_pieces t) fs))
+  each_prints : (fs : List FunctionTree) → AllByRecursion IsItem (flat_map function_items fs) → Prints defs d (flat_map function_items fs) (each_behind (line_feed ∷ []) (map function_pieces fs))
   each_prints [] h = nothing defs d
-  each_prints (f ∷ fs) h = behind_feed defs d _ (function_pieces t f ++ each_behind (line_feed ∷ []) (map (function_pieces t) fs)) (both defs d (function_items (function_in t f)) _ (function_pieces t f) _ (function_prints f h.0) (each_prints fs h.1))
+  each_prints (f ∷ fs) h = behind_feed defs d _ (function_pieces f ++ each_behind (line_feed ∷ []) (map function_pieces fs)) (both defs d (function_items f) _ (function_pieces f) _ (function_prints f h.0) (each_prints fs h.1))
 
   parted_prints : (text : List ℕ) (xs : List (Item FunctionTree)) (ps : List Piece) → Prints defs d xs ps → Prints defs d xs (parting text ++ ps)
   parted_prints [] xs ps p = p
   parted_prints (c ∷ cs) xs ps p = behind_feed defs d xs ps p
 
-  functions_print : (text : List ℕ) (fs : List Function) → AllByRecursion IsItem (flat_map function_items (map (function_in t) fs)) → Prints defs d (flat_map function_items (map (function_in t) fs)) (functions_behind text (map (function_pieces t) fs))
+  functions_print : (text : List ℕ) (fs : List FunctionTree) → AllByRecursion IsItem (flat_map function_items fs) → Prints defs d (flat_map function_items fs) (functions_behind text (map function_pieces fs))
   functions_print text [] h = nothing defs d
-  functions_print text (f ∷ fs) h = parted_prints text _ (separated (line_feed ∷ []) (map (function_pieces t) (f ∷ fs))) (both defs d (function_items (function_in t f)) _ (function_pieces t f) _ (function_prints f h.0) (each_prints fs h.1))
+  functions_print text (f ∷ fs) h = parted_prints text _ (separated (line_feed ∷ []) (map function_pieces (f ∷ fs))) (both defs d (function_items f) _ (function_pieces f) _ (function_prints f h.0) (each_prints fs h.1))
 
--- ---- the whole
+  -- ---- the whole
 
-front_prints : (defs : Definitions) (d : ℕ) (m : Module) → AreTypes (type_names_of m) 0 m.types → AllByRecursion IsItem (front_items m) → Prints defs d (front_items m) (front_pieces m)
-unfolding front_pieces
-front_prints defs d m listed h =
-    let heads = each_split IsItem (flat_map head_items m.head) _ h in
-    let types = each_split IsItem (flat_map (λ n. for_one type_items (type_name_in m n)) m.type_names) _ heads.1 in
-    let comdats = each_split IsItem (flat_map comdat_items m.head) _ types.1 in
-    both defs d _ _ (flat_map head_line_pieces m.head) _ (all defs d head_items head_line_pieces (head_prints defs d) m.head heads.0)
-    (both defs d _ _ (flat_map (type_name_pieces m) m.type_names) _ (all defs d (λ n. for_one type_items (type_name_in m n)) (type_name_pieces m) (λ n. named_prints defs m listed d n.name n.ty) m.type_names types.0)
-    (both defs d _ _ (flat_map comdat_line_pieces m.head) _ (all defs d comdat_items comdat_line_pieces (comdat_prints defs d) m.head comdats.0)
-    (all defs d (λ s. for_one symbol_items (symbol_in m s)) (symbol_pieces m) (λ s. kind_prints defs m listed d s s.kind) m.symbols comdats.1)))
+  front_prints : (m : ModuleTree) → AllByRecursion IsItem (front_items m) → Prints defs d (front_items m) (front_pieces m)
+  unfolding front_pieces
+  front_prints m h =
+      let heads = each_split IsItem (flat_map head_items m.head) _ h in
+      let types = each_split IsItem (flat_map type_items m.type_names) _ heads.1 in
+      let comdats = each_split IsItem (flat_map comdat_items m.head) _ types.1 in
+      both defs d _ _ (flat_map head_line_pieces m.head) _ (all defs d head_items head_line_pieces (head_prints defs d) m.head heads.0)
+      (both defs d _ _ (flat_map type_name_pieces m.type_names) _ (all defs d type_items type_name_pieces (λ n. named_prints n.name n.ty) m.type_names types.0)
+      (both defs d _ _ (flat_map comdat_line_pieces m.head) _ (all defs d comdat_items comdat_line_pieces (comdat_prints defs d) m.head comdats.0)
+      (all defs d symbol_items symbol_pieces (λ s. kind_prints s s.kind) m.symbols comdats.1)))
+
+  whole_prints : (m : ModuleTree) → AllByRecursion IsItem (printed_items m) → Prints defs d (printed_items m) (module_pieces m)
+  unfolding module_pieces
+  whole_prints m h =
+      let k : AllByRecursion IsItem (front_items m ++ (flat_map function_items m.functions ++ flat_map tail_items m.tail)) = rw (items_parted m) at h in
+      let front = each_split IsItem (front_items m) _ k in
+      let functions = each_split IsItem (flat_map function_items m.functions) _ front.1 in
+      rw (items_parted m) (both defs d _ _ (front_pieces m) _ (front_prints m front.0)
+      (both defs d _ _ (functions_behind (text_of (front_pieces m)) (map function_pieces m.functions)) _ (functions_print (text_of (front_pieces m)) m.functions functions.0)
+      (all defs d tail_items whole_line (tail_prints defs d) m.tail functions.1)))
 
 -- whatever names of types stand for
-pub record IsPrinted (defs : Definitions) (m : Module) : Type 0 where
-  pub says : Says (many (item defs (memory_type (length (tokens_of (module_pieces m)))))) (map written_item (printed_items (tree_of m))) (tokens_of (module_pieces m))
+pub record IsPrinted (defs : Definitions) (m : ModuleTree) : Type 0 where
+  pub says : Says (many (item defs (memory_type (length (tokens_of (module_pieces m)))))) (map written_item (printed_items m)) (tokens_of (module_pieces m))
   pub laid : IsLaid (module_pieces m)
 
-whole_prints : (defs : Definitions) (d : ℕ) (m : Module) → AreTypes (type_names_of m) 0 m.types → AllByRecursion IsItem (printed_items (tree_of m)) → Prints defs d (printed_items (tree_of m)) (module_pieces m)
-unfolding module_pieces
-whole_prints defs d m listed h =
-    let trees = map (function_in (tables_of m)) m.functions in
-    let k : AllByRecursion IsItem (front_items m ++ (flat_map function_items trees ++ flat_map tail_items m.tail)) = rw (items_parted m) at h in
-    let front = each_split IsItem (front_items m) _ k in
-    let functions = each_split IsItem (flat_map function_items trees) _ front.1 in
-    rw (items_parted m) (both defs d _ _ (front_pieces m) _ (front_prints defs d m listed front.0)
-    (both defs d _ _ (functions_behind (text_of (front_pieces m)) (map (function_pieces (tables_of m)) m.functions)) _ (functions_print defs (tables_of m) listed d (text_of (front_pieces m)) m.functions functions.0)
-    (all defs d tail_items whole_line (tail_prints defs d) m.tail functions.1)))
-
 -- What is printed of a module spells its items and joins.
-pub module_printed : (defs : Definitions) (m : Module) → AreTypes (type_names_of m) 0 m.types → AllByRecursion IsItem (printed_items (tree_of m)) → IsPrinted defs m
-module_printed defs m listed h =
-    let p = whole_prints defs (length (tokens_of (module_pieces m))) m listed h in
+pub module_printed : (defs : Definitions) (m : ModuleTree) → AllByRecursion IsItem (printed_items m) → IsPrinted defs m
+module_printed defs m h =
+    let p = whole_prints defs (length (tokens_of (module_pieces m))) m h in
     record { says = p.says (omega arith); laid = subst IsLaid (append-nil (module_pieces m)) (p.laid.before [] (loose nothing_behind)) }

@@ -1,5 +1,5 @@
 -- The tokens that lines, named types and variables are printed as spell them as items.
-use Rattle.std.proofs.Common.{◌≡◌, ◌≤◌, ℕ, Bool, true, false, List, [], ◌∷◌, ◌++◌, length, Some, None, refl, ap, ◌∙◌, append_assoc, arith, inl, inr, length-append}
+use Rattle.std.proofs.Common.{◌≡◌, ◌≤◌, ℕ, Bool, true, false, List, [], ◌∷◌, ◌++◌, length, Some, None, refl, ap, ◌∙◌, arith, inl, inr, length-append}
 use Rattle.std.specs.Prelude.{map, codes}
 use Rattle.std.proofs.lemmas.List.{append-nil}
 use Rattle.forms.specs.declared.TokenKind.TheVariants as kinds
@@ -10,20 +10,18 @@ use Rattle.text_lex.proofs.KeptTexts.{line_tokens}
 use Rattle.text_lex.proofs.Layouts.{tokens_of-append}
 use Rattle.ir_types.specs.declared.name.Name.{Name}
 use Rattle.ir_types.specs.declared.opcode.ItemWord.TheVariants as items
-use Rattle.ir_types.specs.declared.module.Symbol.{Symbol}
-use Rattle.ir_types.specs.declared.module.Module.{Module}
-use Rattle.ir_types.specs.declared.memory_type.TypeId.{TypeId}
 use Rattle.ir_types.specs.Offsets.{Definitions}
 use Rattle.ir_types.specs.TypeNodes.{TypeNode}
-use Rattle.ir_types.specs.Tree.{KeptTexts, head_line, comdat_line, type_item, variable_item, attribute_line, metadata_line}
+use Rattle.ir_types.specs.Tree.{KeptTexts, VariableTree, head_line, comdat_line, type_item, variable_item, attribute_line, metadata_line}
 use Rattle.ir_types.specs.Grammar.{kept, comdat, metadata, type_definition, variable_word, variable_definition, behind_type, item_words, item}
 use Rattle.ir_shape.specs.Shape.{IsName, IsKept, head_form, attributes_form}
 use Rattle.type_printer.specs.Texts.{name_text}
+use Rattle.type_printer.specs.MemoryPieces.{node_pieces}
 use Rattle.type_printer.specs.Pieces.{token, word, global_token, local_token}
 use Rattle.type_printer.proofs.Names.{local_again, global_again}
 use Rattle.type_printer.proofs.Says.{Says, pair_says, left_says, right_says, mapped_says, made_says, word_says, ahead_says, by_word_says, behind_says, after_mark_says}
 use Rattle.ir_printer.specs.Print as print
-use Rattle.ir_printer.specs.Print.{whole_line, definition_pieces, type_at, variable_pieces}
+use Rattle.ir_printer.specs.Print.{whole_line, definition_pieces, variable_pieces}
 use Rattle.ir_printer.proofs.Lines.{head_parts, group_parts}
 use Rattle.ir_printer.proofs.KeptWritten.{kept_says, then_blank_tokens, behind_tokens}
 
@@ -79,18 +77,16 @@ unfolding variable_word
 word_tokens true = left_says (word_says _ true)
 word_tokens false = right_says (word_says _ false)
 
-variable_tokens : (m : Module) (s : Symbol) (id : TypeId) (writable : Bool) → tokens_of (variable_pieces m s id writable)
-    ≡ global_token s.name ∷ token kinds.Equal (codes "=") ∷ (map token_of s.before ++ (token kinds.Word (print.variable_word writable) ∷ (tokens_of (type_at m id) ++ map token_of s.after)))
-variable_tokens m s id writable = rw (← then_blank_tokens s.before, ← behind_tokens s.after) (simp (tokens_of-append, append-nil))
+variable_tokens : (v : VariableTree) → tokens_of (variable_pieces v) ≡ global_token v.name ∷ token kinds.Equal (codes "=") ∷ (map token_of v.before ++ (token kinds.Word (print.variable_word v.writable) ∷ (tokens_of (node_pieces v.ty) ++ map token_of v.after)))
+variable_tokens v = rw (← then_blank_tokens v.before, ← behind_tokens v.after) (simp (tokens_of-append, append-nil))
 
-pub variable_says : (defs : Definitions) (m : Module) (s : Symbol) (id : TypeId) (writable : Bool) (f : Form (List TypeNode)) (nodes : List TypeNode) → IsName s.name → IsKept kept s.before → IsKept behind_type s.after → Says f nodes (tokens_of (type_at m id))
-    → Says (item defs f) (variable_item (record { name = s.name; before = s.before; writable = writable; ty = nodes; after = s.after })) (tokens_of (variable_pieces m s id writable))
+pub variable_says : (defs : Definitions) (v : VariableTree) (f : Form (List TypeNode)) → IsName v.name → IsKept kept v.before → IsKept behind_type v.after → Says f v.ty (tokens_of (node_pieces v.ty)) → Says (item defs f) (variable_item v) (tokens_of (variable_pieces v))
 unfolding item variable_definition
-variable_says defs m s id writable f nodes h before after p =
-    rw (variable_tokens m s id writable) (right_says (right_says (right_says (right_says (made_says (64 ∷ name_text s.name, (s.before, (writable, (nodes, s.after)))) _ (rw (global_again s.name h) refl) (ahead_says kinds.Global _ (after_mark_says kinds.Equal _
-    (pair_says (map token_of s.before) _ (kept_says before) (pair_says (token kinds.Word (print.variable_word writable) ∷ []) _ (word_tokens writable) (pair_says (tokens_of (type_at m id)) _ p (kept_says after)))))))))))
+variable_says defs v f h before after p =
+    rw (variable_tokens v) (right_says (right_says (right_says (right_says (made_says (64 ∷ name_text v.name, (v.before, (v.writable, (v.ty, v.after)))) _ (rw (global_again v.name h) refl) (ahead_says kinds.Global _ (after_mark_says kinds.Equal _
+    (pair_says (map token_of v.before) _ (kept_says before) (pair_says (token kinds.Word (print.variable_word v.writable) ∷ []) _ (word_tokens v.writable) (pair_says (tokens_of (node_pieces v.ty)) _ p (kept_says after)))))))))))
 
 -- nor has that of a variable
-pub variable_within : (m : Module) (s : Symbol) (id : TypeId) (writable : Bool) (d : ℕ) → length (tokens_of (variable_pieces m s id writable)) ≤ d → length (tokens_of (type_at m id)) ≤ d
-variable_within m s id writable d le =
-    omega (arith, ap length (variable_tokens m s id writable), length-append (map token_of s.before) (token kinds.Word (print.variable_word writable) ∷ (tokens_of (type_at m id) ++ map token_of s.after)), length-append (tokens_of (type_at m id)) (map token_of s.after))
+pub variable_within : (v : VariableTree) (d : ℕ) → length (tokens_of (variable_pieces v)) ≤ d → length (tokens_of (node_pieces v.ty)) ≤ d
+variable_within v d le =
+    omega (arith, ap length (variable_tokens v), length-append (map token_of v.before) (token kinds.Word (print.variable_word v.writable) ∷ (tokens_of (node_pieces v.ty) ++ map token_of v.after)), length-append (tokens_of (node_pieces v.ty)) (map token_of v.after))

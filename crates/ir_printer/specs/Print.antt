@@ -1,7 +1,6 @@
 -- The text that a module is printed as, in pieces: its tokens and the white space between them.
 use Rattle.std.specs.Prelude.{ℕ, zero, suc, Bool, true, false, ◌==◌, List, [], ◌∷◌, ◌++◌, map, flat_map, codes, decimal, length, Option, Some, None, if◌then◌else◌}
 use Rattle.std.specs.List.{zip}
-use Rattle.std.specs.Option.{option_map}
 use Rattle.forms.specs.declared.TokenKind.TheVariants as kinds
 use Rattle.forms.specs.Form.{Lexeme}
 use Rattle.text_lex.specs.Layout.{Piece, gap, lexeme, text_of}
@@ -10,7 +9,7 @@ use Rattle.ir_types.specs.declared.name.Name.{Name}
 use Rattle.ir_types.specs.declared.inst.Ty.{Ty}
 use Rattle.ir_types.specs.declared.inst.Ty.TheVariants.{Int, Ptr}
 use Rattle.ir_types.specs.declared.inst.BinOp.{BinOp}
-use Rattle.ir_types.specs.declared.inst.BinOp.TheVariants.{Add, Sub, Mul, Shl, UDiv, SDiv, URem, SRem, LShr, AShr, And, Or, Xor}
+use Rattle.ir_types.specs.declared.inst.BinOp.TheVariants.{Add, Sub, Mul, Shl, UDiv, SDiv, URem, SRem, LShr, AShr, And, Or, Xor, SMin, SMax, UMin, UMax}
 use Rattle.ir_types.specs.declared.inst.Flags.{Flags}
 use Rattle.ir_types.specs.declared.inst.Pred.{Pred}
 use Rattle.ir_types.specs.declared.inst.Pred.TheVariants.{Eq, Ne, Ugt, Uge, Ult, Ule, Sgt, Sge, Slt, Sle}
@@ -19,26 +18,11 @@ use Rattle.ir_types.specs.declared.call.Callee.{Callee}
 use Rattle.ir_types.specs.declared.call.Signature.{Signature}
 use Rattle.ir_types.specs.declared.call.TailKind.{TailKind}
 use Rattle.ir_types.specs.declared.call.TailKind.TheVariants.{Unmarked, Tail, MustTail, NoTail}
-use Rattle.ir_types.specs.declared.inst.Inst.{Inst}
-use Rattle.ir_types.specs.declared.inst.InstKind.{InstKind}
-use Rattle.ir_types.specs.declared.inst.InstKind.TheVariants.{Binary, Compare, Select, Freeze, Trunc, Zext, Sext, PtrToInt, Phi, Offset, Load, Store, Call, Extract, Insert, Shuffle, Jump, Branch, Switch, ReturnVoid, Return, Unreachable}
-use Rattle.ir_types.specs.declared.module.Block.{Block}
-use Rattle.ir_types.specs.declared.module.Function.{Function}
-use Rattle.ir_types.specs.declared.memory_type.TypeId.{TypeId}
-use Rattle.ir_types.specs.declared.memory_type.TypeName.{TypeName}
-use Rattle.ir_types.specs.declared.memory_type.NamedType.{NamedType}
-use Rattle.ir_types.specs.declared.memory_type.NamedType.TheVariants.{Defined, Opaque, Missing}
-use Rattle.ir_types.specs.declared.module.Symbol.{Symbol}
-use Rattle.ir_types.specs.declared.module.SymbolKind.{SymbolKind}
-use Rattle.ir_types.specs.declared.module.SymbolKind.TheVariants.{Variable}
-use Rattle.ir_types.specs.declared.module.SymbolKind.TheVariants as symbols
-use Rattle.ir_types.specs.declared.module.Module.{Module}
-use Rattle.ir_types.specs.Denotes.{Tables, name_in, operand_in, param_in, type_names_of, tables_of}
+use Rattle.ir_types.specs.Kinds.{Kind, Binary, Compare, Select, Freeze, Trunc, Zext, Sext, PtrToInt, Phi, Offset, Load, Store, Call, Extract, Insert, Shuffle, Jump, Branch, Switch, ReturnVoid, Return, Unreachable, operand_types}
 use Rattle.ir_types.specs.Grammar.{width_of, element_of}
-use Rattle.ir_types.specs.Meaning.{operand_types}
-use Rattle.ir_types.specs.Tree.{KeptTexts, OperandTree, local, number, null, poison, lanes, global, out_of_range, ParamTree}
+use Rattle.ir_types.specs.Tree.{KeptTexts, OperandTree, local, number, null, poison, lanes, global, out_of_range, InstTree, BlockTree, ParamTree, FunctionTree, NamedTree, defined, opaque, TypeNameTree, SymbolKindTree, variable, function, SymbolTree, ModuleTree, VariableTree}
 use Rattle.type_printer.specs.Texts.{signed_text}
-use Rattle.type_printer.specs.MemoryPieces.{memory_pieces}
+use Rattle.type_printer.specs.MemoryPieces.{node_pieces}
 use Rattle.type_printer.specs.Pieces.{token, word, comma, equal, left_paren, right_paren, left_bracket, right_bracket, left_brace, right_brace, less, greater, blank, line_feed, indent, each_behind, separated, with_commas, local_token, global_token, label_token, width_word, type_pieces}
 
 -- ---- tokens
@@ -51,6 +35,11 @@ dots = lexeme (token kinds.Dots (codes "..."))
 abbrev pub comma_before : ℕ → List Piece
 comma_before zero = []
 comma_before (suc i) = comma ∷ blank ∷ []
+
+-- what is printed for the one that there may be
+abbrev pub for_one : {A B : Type 0} → (A → List B) → Option A → List B
+for_one f None = []
+for_one f (Some a) = f a
 
 -- ---- values
 
@@ -95,7 +84,7 @@ typed_operand t a = type_pieces t ++ (blank ∷ operand_pieces t a)
 
 -- ---- words of instructions
 
--- the word of an operator
+-- the word of an operator; of the minima and maxima, which no instruction has, their names
 unfoldable pub operator_word : BinOp → List ℕ
 operator_word Add = codes "add"
 operator_word Sub = codes "sub"
@@ -110,6 +99,10 @@ operator_word AShr = codes "ashr"
 operator_word And = codes "and"
 operator_word Or = codes "or"
 operator_word Xor = codes "xor"
+operator_word SMin = codes "smin"
+operator_word SMax = codes "smax"
+operator_word UMin = codes "umin"
+operator_word UMax = codes "umax"
 
 -- the word of a predicate
 unfoldable pub predicate_word : Pred → List ℕ
@@ -148,7 +141,7 @@ call_words MustTail = word (codes "musttail") ∷ blank ∷ word (codes "call") 
 call_words NoTail = word (codes "notail") ∷ blank ∷ word (codes "call") ∷ []
 
 -- the word of an instruction, with its flags or its predicate
-abbrev pub opening_pieces : InstKind → List Piece
+abbrev pub opening_pieces : Kind → List Piece
 opening_pieces (Binary op flags) = word (operator_word op) ∷ flags_pieces flags
 opening_pieces (Compare p u) = word (codes "icmp") ∷ blank ∷ word (predicate_word p) ∷ []
 opening_pieces (Select condition last) = word (codes "select") ∷ []
@@ -158,7 +151,7 @@ opening_pieces (Zext from nneg) = word (codes "zext") ∷ flag_pieces nneg (code
 opening_pieces (Sext from) = word (codes "sext") ∷ []
 opening_pieces PtrToInt = word (codes "ptrtoint") ∷ []
 opening_pieces Phi = word (codes "phi") ∷ []
-opening_pieces (Offset id indexes inbounds nuw nusw) = word (codes "getelementptr") ∷ offset_flags inbounds nuw nusw
+opening_pieces (Offset nodes widths inbounds nuw nusw) = word (codes "getelementptr") ∷ offset_flags inbounds nuw nusw
 opening_pieces (Load align) = word (codes "load") ∷ []
 opening_pieces (Store of align) = word (codes "store") ∷ []
 opening_pieces (Call callee) = call_words callee.tail
@@ -240,18 +233,18 @@ call_pieces c t args =
 
 -- ---- all operands
 
--- the operands of an instruction with their types; a memory type has its place in the module's list
-abbrev pub operands_pieces : Tables → InstKind → Ty → List OperandTree → List Name → List Piece
-operands_pieces tables (Binary op flags) t args labels = typed_pieces t args
-operands_pieces tables (Compare p u) t args labels = typed_pieces u args
-operands_pieces tables Phi t args labels = blank ∷ (type_pieces t ++ (blank ∷ with_commas (entries_of t args labels)))
-operands_pieces tables (Offset id indexes inbounds nuw nusw) t args labels = blank ∷ (memory_pieces tables.type_names tables.types id ++ (comma ∷ listed_pieces (Ptr ∷ map Int indexes) args))
-operands_pieces tables (Load align) t args labels = blank ∷ (type_pieces t ++ (comma ∷ listed_pieces (Ptr ∷ []) args))
-operands_pieces tables (Call callee) t args labels = call_pieces callee t args
-operands_pieces tables Jump t args labels = []
-operands_pieces tables ReturnVoid t args labels = blank ∷ word (codes "void") ∷ []
-operands_pieces tables Unreachable t args labels = []
-operands_pieces tables kind t args labels = listed_pieces (operand_types kind t) args
+-- the operands of an instruction with their types
+abbrev pub operands_pieces : Kind → Ty → List OperandTree → List Name → List Piece
+operands_pieces (Binary op flags) t args labels = typed_pieces t args
+operands_pieces (Compare p u) t args labels = typed_pieces u args
+operands_pieces Phi t args labels = blank ∷ (type_pieces t ++ (blank ∷ with_commas (entries_of t args labels)))
+operands_pieces (Offset nodes widths inbounds nuw nusw) t args labels = blank ∷ (node_pieces nodes ++ (comma ∷ listed_pieces (Ptr ∷ map Int widths) args))
+operands_pieces (Load align) t args labels = blank ∷ (type_pieces t ++ (comma ∷ listed_pieces (Ptr ∷ []) args))
+operands_pieces (Call callee) t args labels = call_pieces callee t args
+operands_pieces Jump t args labels = []
+operands_pieces ReturnVoid t args labels = blank ∷ word (codes "void") ∷ []
+operands_pieces Unreachable t args labels = []
+operands_pieces kind t args labels = listed_pieces (operand_types kind t (length args)) args
 
 -- ---- what stands behind the operands
 
@@ -292,7 +285,7 @@ switch_pieces w ns [] = []
 switch_pieces w ns (l ∷ labels) = comma ∷ blank ∷ (target_pieces l ++ (blank ∷ left_bracket ∷ (each_behind (before_case ∷ []) (cases_of w ns labels) ++ (before_end ∷ right_bracket ∷ []))))
 
 -- the type of a cast, an alignment, what is kept behind a call, or labels
-abbrev pub ending_pieces : InstKind → Ty → List Name → List Piece
+abbrev pub ending_pieces : Kind → Ty → List Name → List Piece
 ending_pieces (Trunc from nuw nsw) t labels = to_pieces t
 ending_pieces (Zext from nneg) t labels = to_pieces t
 ending_pieces (Sext from) t labels = to_pieces t
@@ -308,8 +301,8 @@ ending_pieces kind t labels = []
 -- ---- instructions
 
 -- an instruction behind its result, without attachments
-abbrev pub kind_pieces : Tables → InstKind → Ty → List OperandTree → List Name → List Piece
-kind_pieces tables kind t args labels = opening_pieces kind ++ (operands_pieces tables kind t args labels ++ ending_pieces kind t labels)
+abbrev pub kind_pieces : Kind → Ty → List OperandTree → List Name → List Piece
+kind_pieces kind t args labels = opening_pieces kind ++ (operands_pieces kind t args labels ++ ending_pieces kind t labels)
 
 -- %name =
 abbrev pub result_pieces : Option Name → List Piece
@@ -317,14 +310,14 @@ result_pieces None = []
 result_pieces (Some n) = lexeme (local_token n) ∷ blank ∷ equal ∷ blank ∷ []
 
 -- a line, behind its indentation
-unfoldable pub inst_pieces : Tables → List Name → Inst → List Piece
-inst_pieces t ns i = result_pieces (option_map (name_in ns) i.result) ++ (kind_pieces t i.kind i.ty (map (operand_in t ns) i.args) (map (name_in ns) i.labels) ++ (kept_behind [] i.kept ++ (line_feed ∷ [])))
+unfoldable pub inst_pieces : InstTree → List Piece
+inst_pieces i = result_pieces i.result ++ (kind_pieces i.kind i.ty i.args i.labels ++ (kept_behind [] i.kept ++ (line_feed ∷ [])))
 
 -- ---- blocks
 
 -- the label on a line, and a line for each instruction
-unfoldable pub block_pieces : Tables → List Name → Block → List Piece
-block_pieces t ns b = lexeme (label_token (name_in ns b.name)) ∷ line_feed ∷ each_behind (indent ∷ []) (map (inst_pieces t ns) b.insts)
+unfoldable pub block_pieces : BlockTree → List Piece
+block_pieces b = lexeme (label_token b.name) ∷ line_feed ∷ each_behind (indent ∷ []) (map inst_pieces b.insts)
 
 -- ---- kept lines
 
@@ -348,18 +341,18 @@ function_word [] = codes "declare"
 function_word (b ∷ bs) = codes "define"
 
 -- define K R @name(T K %name, ..) K
-unfoldable pub head_pieces : Function → List Piece
+unfoldable pub head_pieces : FunctionTree → List Piece
 head_pieces f =
-    word (function_word f.body) ∷ blank ∷ (kept_then_blank f.before ++ (type_pieces f.ret ++ (blank ∷ lexeme (global_token f.name) ∷ left_paren ∷ (params_pieces (map (param_in f.names) f.params) f.varargs ++ (right_paren ∷ blank_then_kept f.after)))))
+    word (function_word f.body) ∷ blank ∷ (kept_then_blank f.before ++ (type_pieces f.ret ++ (blank ∷ lexeme (global_token f.name) ∷ left_paren ∷ (params_pieces f.params f.varargs ++ (right_paren ∷ blank_then_kept f.after)))))
 
 -- the blocks with empty lines between them in braces, the last on a line of its own; without a block nothing but the line's end
-abbrev pub body_pieces : Tables → List Name → List Block → List Piece
-body_pieces t ns [] = line_feed ∷ []
-body_pieces t ns (b ∷ bs) = blank ∷ left_brace ∷ line_feed ∷ (separated (line_feed ∷ []) (map (block_pieces t ns) (b ∷ bs)) ++ (right_brace ∷ line_feed ∷ []))
+abbrev pub body_pieces : List BlockTree → List Piece
+body_pieces [] = line_feed ∷ []
+body_pieces (b ∷ bs) = blank ∷ left_brace ∷ line_feed ∷ (separated (line_feed ∷ []) (map block_pieces (b ∷ bs)) ++ (right_brace ∷ line_feed ∷ []))
 
 -- the head, and what stands behind it
-unfoldable pub function_pieces : Tables → Function → List Piece
-function_pieces t f = head_pieces f ++ body_pieces t f.names f.body
+unfoldable pub function_pieces : FunctionTree → List Piece
+function_pieces f = head_pieces f ++ body_pieces f.body
 
 -- an empty line, behind a text that isn't empty
 abbrev pub parting : List ℕ → List Piece
@@ -373,23 +366,18 @@ functions_behind text (f ∷ fs) = parting text ++ separated (line_feed ∷ []) 
 
 -- ---- named types
 
--- a type at its place
-abbrev pub type_at : Module → TypeId → List Piece
-type_at m id = memory_pieces (type_names_of m) m.types id
-
 -- %name = type M
 abbrev pub definition_pieces : Name → List Piece → List Piece
 definition_pieces n ps = lexeme (local_token n) ∷ blank ∷ equal ∷ blank ∷ word (codes "type") ∷ blank ∷ (ps ++ (line_feed ∷ []))
 
--- the definition of a name, `opaque` where nothing is known of the type, and nothing where it is missing
-abbrev pub named_pieces : Module → Name → NamedType → List Piece
-named_pieces m n (Defined id) = definition_pieces n (type_at m id)
-named_pieces m n Opaque = definition_pieces n (word (codes "opaque") ∷ [])
-named_pieces m n Missing = []
+-- what a name is defined as, `opaque` where nothing is known of the type
+abbrev pub named_pieces : NamedTree → List Piece
+named_pieces (defined nodes) = node_pieces nodes
+named_pieces opaque = word (codes "opaque") ∷ []
 
--- the same of a name of a module's list
-abbrev pub type_name_pieces : Module → TypeName → List Piece
-type_name_pieces m n = named_pieces m n.name n.ty
+-- the definition of a name
+abbrev pub type_name_pieces : TypeNameTree → List Piece
+type_name_pieces n = definition_pieces n.name (named_pieces n.ty)
 
 -- ---- variables
 
@@ -399,19 +387,18 @@ variable_word true = codes "global"
 variable_word false = codes "constant"
 
 -- @name = K global M ..
-abbrev pub variable_pieces : Module → Symbol → TypeId → Bool → List Piece
-variable_pieces m s id writable =
-    lexeme (global_token s.name) ∷ blank ∷ equal ∷ blank ∷ (kept_then_blank s.before ++ (word (variable_word writable) ∷ blank ∷ (type_at m id ++ (kept_behind [] s.after ++ (line_feed ∷ [])))))
+abbrev pub variable_pieces : VariableTree → List Piece
+variable_pieces v =
+    lexeme (global_token v.name) ∷ blank ∷ equal ∷ blank ∷ (kept_then_blank v.before ++ (word (variable_word v.writable) ∷ blank ∷ (node_pieces v.ty ++ (kept_behind [] v.after ++ (line_feed ∷ [])))))
 
 -- of the symbols only variables are printed by themselves
-abbrev pub symbol_kind_pieces : Module → Symbol → SymbolKind → List Piece
-symbol_kind_pieces m s (Variable id writable) = variable_pieces m s id writable
-symbol_kind_pieces m s (symbols.Function f) = []
-symbol_kind_pieces m s symbols.Missing = []
+abbrev pub symbol_kind_pieces : SymbolTree → SymbolKindTree → List Piece
+symbol_kind_pieces s (variable nodes writable) = variable_pieces (record { name = s.name; before = s.before; writable = writable; ty = nodes; after = s.after })
+symbol_kind_pieces s function = []
 
--- a symbol of a module's list: its line where it is a variable
-abbrev pub symbol_pieces : Module → Symbol → List Piece
-symbol_pieces m s = symbol_kind_pieces m s s.kind
+-- a symbol: its line where it is a variable
+abbrev pub symbol_pieces : SymbolTree → List Piece
+symbol_pieces s = symbol_kind_pieces s s.kind
 
 -- ---- lines, and the whole
 
@@ -433,9 +420,9 @@ abbrev pub comdat_line_pieces : KeptTexts → List Piece
 comdat_line_pieces xs = if is_comdat xs then whole_line xs else []
 
 -- what stands before the functions: the other lines of the head, the named types, the comdats and the variables
-unfoldable pub front_pieces : Module → List Piece
-front_pieces m = flat_map head_line_pieces m.head ++ (flat_map (type_name_pieces m) m.type_names ++ (flat_map comdat_line_pieces m.head ++ flat_map (symbol_pieces m) m.symbols))
+unfoldable pub front_pieces : ModuleTree → List Piece
+front_pieces m = flat_map head_line_pieces m.head ++ (flat_map type_name_pieces m.type_names ++ (flat_map comdat_line_pieces m.head ++ flat_map symbol_pieces m.symbols))
 
 -- behind these the functions, and the lines of the tail
-unfoldable pub module_pieces : Module → List Piece
-module_pieces m = front_pieces m ++ (functions_behind (text_of (front_pieces m)) (map (function_pieces (tables_of m)) m.functions) ++ flat_map whole_line m.tail)
+unfoldable pub module_pieces : ModuleTree → List Piece
+module_pieces m = front_pieces m ++ (functions_behind (text_of (front_pieces m)) (map function_pieces m.functions) ++ flat_map whole_line m.tail)

@@ -4,7 +4,7 @@ ghost use Rattle.std.specs.Prelude.{◌≡◌, ◌++◌, ◌∷◌, [], map, cod
 ghost use Rattle.std.specs.List.{AllByRecursion};
 ghost use Rattle.text_lex.specs.Layout.{text_of};
 ghost use Rattle.ir_types.specs.Types.{AreTypes};
-ghost use Rattle.ir_types.specs.Denotes.{type_names_of, tables_of, inst_in, block_in, param_in, function_in};
+ghost use Rattle.ir_types.specs.Denotes.{Tables, type_names_of, tables_of, inst_in, block_in, param_in, function_in};
 ghost use Rattle.ir_shape.specs.Shape.{IsInst, IsBlock, IsParam, IsFunction};
 ghost use Rattle.type_printer.specs.Pieces.{line_feed, indent, each_behind, separated, with_commas};
 ghost use Rattle.ir_printer.specs.Print.{inst_pieces, block_pieces, param_pieces, params_pieces, function_word, head_pieces, body_pieces, function_pieces, parting, functions_behind};
@@ -28,7 +28,7 @@ fn put_insts(
     requires known { AllByRecursion IsInst (map (inst_in (tables_of m.now) names.now) insts.now) }
     ensures { OnOk result (out.new.items ≡ out.old.items
         ++ text_of (each_behind (indent ∷ [])
-        (map (inst_pieces (tables_of m.now) names.now) insts.now))) }
+        (map inst_pieces (map (inst_in (tables_of m.now) names.now) insts.now)))) }
 {
     for inst in insts {
         out.extend_from_slice(b"  ")?;
@@ -48,7 +48,7 @@ fn put_block(
     requires types { AreTypes (type_names_of m.now) 0 m.now.types }
     requires known { IsBlock (block_in (tables_of m.now) names.now block.now) }
     ensures { OnOk result (out.new.items ≡ out.old.items
-        ++ text_of (block_pieces (tables_of m.now) names.now block.now)) }
+        ++ text_of (block_pieces (block_in (tables_of m.now) names.now block.now))) }
 {
     put_name(out, names.get(block.name))?;
     out.extend_from_slice(b":\n")?;
@@ -66,7 +66,7 @@ fn put_blocks(
     requires known { AllByRecursion IsBlock (map (block_in (tables_of m.now) names.now) blocks.now) }
     ensures { OnOk result (out.new.items ≡ out.old.items
         ++ text_of (separated (line_feed ∷ [])
-        (map (block_pieces (tables_of m.now) names.now) blocks.now))) }
+        (map block_pieces (map (block_in (tables_of m.now) names.now) blocks.now)))) }
 {
     let [first, rest @ ..] = blocks else {
         return Ok(());
@@ -136,8 +136,8 @@ fn word_of_function(function: &Function) -> &'static [u8]
 fn put_head(out: &mut Vec<u8>, function: &Function) -> Result<(), AllocError>
     requires { AllByRecursion IsParam
         (map (param_in function.now.names) function.now.params) }
-    ensures { OnOk result (out.new.items ≡ out.old.items
-        ++ text_of (head_pieces function.now)) }
+    ensures { (tables : Tables) → OnOk result (out.new.items ≡ out.old.items
+        ++ text_of (head_pieces (function_in tables function.now))) }
 {
     out.extend_from_slice(word_of_function(function))?;
     out.push(b' ')?;
@@ -163,7 +163,7 @@ fn put_body(
     requires types { AreTypes (type_names_of m.now) 0 m.now.types }
     requires known { AllByRecursion IsBlock (map (block_in (tables_of m.now) names.now) blocks.now) }
     ensures { OnOk result (out.new.items ≡ out.old.items
-        ++ text_of (body_pieces (tables_of m.now) names.now blocks.now)) }
+        ++ text_of (body_pieces (map (block_in (tables_of m.now) names.now) blocks.now))) }
 {
     if blocks.is_empty() {
         return out.extend_from_slice(b"\n");
@@ -174,7 +174,6 @@ fn put_body(
     Ok(())
 }
 
-#[tactic(auto, unfolding(crate::specs::Print::function_pieces), using(type_printer::proofs::Appended::text_of_both, std::proofs::lemmas::Grind::common_steps))]
 fn put_function(
     alloc: Global,
     out: &mut Vec<u8>,
@@ -184,7 +183,7 @@ fn put_function(
     requires types { AreTypes (type_names_of m.now) 0 m.now.types }
     requires known { IsFunction (function_in (tables_of m.now) function.now) }
     ensures { OnOk result (out.new.items ≡ out.old.items
-        ++ text_of (function_pieces (tables_of m.now) function.now)) }
+        ++ text_of (function_pieces (function_in (tables_of m.now) function.now))) }
 {
     put_head(out, function)?;
     put_body(alloc, out, m, &function.names, function.body.as_slice())
@@ -212,7 +211,7 @@ pub(crate) fn put_functions(
         (map (function_in (tables_of m.now)) functions.now) }
     ensures { OnOk result (out.new.items ≡ out.old.items
         ++ text_of (functions_behind out.old.items
-        (map (function_pieces (tables_of m.now)) functions.now))) }
+        (map function_pieces (map (function_in (tables_of m.now)) functions.now)))) }
 {
     let [first, rest @ ..] = functions else {
         return Ok(());

@@ -1,13 +1,14 @@
 // The lines of a module, its named types and its variables.
 
-ghost use Rattle.std.specs.Prelude.{◌≡◌, ◌<◌, ◌++◌, ◌∷◌, [], map, flat_map, codes, length, OnOk};
+ghost use Rattle.std.specs.Prelude.{◌≡◌, ◌<◌, ◌++◌, ◌∷◌, [], map, flat_map, filter_map, codes, length, OnOk};
 ghost use Rattle.text_lex.specs.Layout.{text_of};
-ghost use Rattle.ir_types.specs.Reads.{IsReadable};
 ghost use Rattle.ir_types.specs.Types.{AreTypes};
-ghost use Rattle.ir_types.specs.Denotes.{type_names_of};
+ghost use Rattle.ir_types.specs.Denotes.{type_names_of, nodes_in, type_name_in, symbol_in};
+ghost use Rattle.ir_shape.specs.Modules.{IsModule};
 ghost use Rattle.ir_shape.specs.Placed.{IsNamedPlaced, IsSymbolPlaced};
 ghost use Rattle.type_printer.specs.Pieces.{local_token};
-ghost use Rattle.ir_printer.specs.Print.{type_at, definition_pieces, named_pieces, type_name_pieces, variable_word, variable_pieces, symbol_pieces, is_comdat, whole_line, head_line_pieces, comdat_line_pieces};
+ghost use Rattle.type_printer.specs.MemoryPieces.{node_pieces};
+ghost use Rattle.ir_printer.specs.Print.{for_one, definition_pieces, type_name_pieces, variable_word, variable_pieces, symbol_pieces, is_comdat, whole_line, head_line_pieces, comdat_line_pieces};
 
 use crate::kept::{put_kept_behind, put_kept_then_blank, put_line};
 use ir_types::{Kept, Module, Name, NamedType, Symbol, SymbolKind, TypeId, TypeName};
@@ -86,7 +87,7 @@ pub(crate) fn put_type_at(
 ) -> Result<(), AllocError>
     requires types { AreTypes (type_names_of m.now) 0 m.now.types }
     requires place { id.0 < length m.now.types }
-    ensures { OnOk result (out.new.items ≡ out.old.items ++ text_of (type_at m.now id)) }
+    ensures { OnOk result (out.new.items ≡ out.old.items ++ text_of (node_pieces (nodes_in m.now id))) }
 {
     put_memory_type(alloc, out, m.types.as_slice(), m.type_names.as_slice(), id)
 }
@@ -112,7 +113,7 @@ fn put_type_name(
     requires types { AreTypes (type_names_of m.now) 0 m.now.types }
     requires place { IsNamedPlaced m.now.types name.now.ty }
     ensures { OnOk result (out.new.items ≡ out.old.items
-        ++ text_of (type_name_pieces m.now name.now)) }
+        ++ text_of (for_one type_name_pieces (type_name_in m.now name.now))) }
 {
     match name.ty {
         NamedType::Missing => Ok(()),
@@ -132,9 +133,9 @@ fn put_type_name(
 
 /// Appends the named types.
 pub(crate) fn put_type_names(alloc: Global, out: &mut Vec<u8>, m: &Module) -> Result<(), AllocError>
-    requires { IsReadable m.now }
+    requires { IsModule m.now }
     ensures { OnOk result (out.new.items ≡ out.old.items
-        ++ text_of (flat_map (type_name_pieces m.now) m.now.type_names)) }
+        ++ text_of (flat_map type_name_pieces (filter_map (type_name_in m.now) m.now.type_names))) }
 {
     for name in m.type_names.as_slice() {
         put_type_name(alloc, out, m, name)?;
@@ -160,7 +161,13 @@ fn put_variable(
     requires types { AreTypes (type_names_of m.now) 0 m.now.types }
     requires place { id.0 < length m.now.types }
     ensures { OnOk result (out.new.items ≡ out.old.items
-        ++ text_of (variable_pieces m.now symbol.now id writable)) }
+        ++ text_of (variable_pieces (record {
+          name = symbol.now.name;
+          before = symbol.now.before;
+          writable = writable;
+          ty = nodes_in m.now id;
+          after = symbol.now.after;
+        }))) }
 {
     out.push(b'@')?;
     put_name(out, &symbol.name)?;
@@ -184,7 +191,7 @@ fn put_symbol(
     requires types { AreTypes (type_names_of m.now) 0 m.now.types }
     requires place { IsSymbolPlaced m.now symbol.now.kind }
     ensures { OnOk result (out.new.items ≡ out.old.items
-        ++ text_of (symbol_pieces m.now symbol.now)) }
+        ++ text_of (for_one symbol_pieces (symbol_in m.now symbol.now))) }
 {
     match symbol.kind {
         SymbolKind::Variable(id, writable) => put_variable(alloc, out, m, symbol, id, writable),
@@ -194,9 +201,9 @@ fn put_symbol(
 
 /// Appends the variables.
 pub(crate) fn put_variables(alloc: Global, out: &mut Vec<u8>, m: &Module) -> Result<(), AllocError>
-    requires { IsReadable m.now }
+    requires { IsModule m.now }
     ensures { OnOk result (out.new.items ≡ out.old.items
-        ++ text_of (flat_map (symbol_pieces m.now) m.now.symbols)) }
+        ++ text_of (flat_map symbol_pieces (filter_map (symbol_in m.now) m.now.symbols))) }
 {
     for symbol in m.symbols.as_slice() {
         put_symbol(alloc, out, m, symbol)?;

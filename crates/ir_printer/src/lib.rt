@@ -3,7 +3,11 @@
 
 ghost use Rattle.std.specs.Prelude.{◌≡◌, ◌++◌, OnOk, OnErr};
 ghost use Rattle.text_lex.specs.Layout.{text_of};
-ghost use Rattle.ir_types.specs.Reads.{Reads, IsReadable};
+ghost use Rattle.ir_types.specs.Tree.{ModuleTree};
+ghost use Rattle.ir_types.specs.Denotes.{tree_of};
+ghost use Rattle.ir_types.specs.Reads.{Reads};
+ghost use Rattle.ir_shape.specs.Shape.{IsPrintable};
+ghost use Rattle.ir_shape.specs.Modules.{IsModule};
 ghost use Rattle.ir_shape.specs.Narrow.{IsNarrow};
 ghost use Rattle.ir_printer.specs.Print.{front_pieces, module_pieces};
 
@@ -27,8 +31,9 @@ use std::alloc::{AllocError, Global};
 // Appends what stands before the functions.
 #[tactic(auto, unfolding(crate::specs::Print::front_pieces), using(type_printer::proofs::Appended::text_of_both, std::proofs::lemmas::Grind::common_steps))]
 fn put_front(alloc: Global, m: &Module, out: &mut Vec<u8>) -> Result<(), AllocError>
-    requires { IsReadable m.now }
-    ensures { OnOk result (out.new.items ≡ out.old.items ++ text_of (front_pieces m.now)) }
+    requires { IsModule m.now }
+    ensures { OnOk result (out.new.items ≡ out.old.items
+        ++ text_of (front_pieces (tree_of m.now))) }
 {
     put_head_lines(out, m.head.as_slice())?;
     put_type_names(alloc, out, m)?;
@@ -41,13 +46,13 @@ fn put_front(alloc: Global, m: &Module, out: &mut Vec<u8>) -> Result<(), AllocEr
 /// # Errors
 ///
 /// Where there is no room for the text; then nothing is appended.
-#[tactic(auto, unfolding(crate::specs::Print::module_pieces), using(crate::proofs::Printed::readable_functions, crate::proofs::Printed::readable_types, crate::proofs::Printed::printed_reads, type_printer::proofs::Appended::text_of_both, std::proofs::lemmas::Grind::common_steps))]
+#[tactic(auto, unfolding(crate::specs::Print::module_pieces), using(crate::proofs::Printed::module_functions, crate::proofs::Printed::module_types, crate::proofs::Printed::module_reads, type_printer::proofs::Appended::text_of_both, std::proofs::lemmas::Grind::common_steps))]
 pub fn print_module(alloc: Global, m: &Module, out: &mut Vec<u8>) -> Result<(), AllocError>
-    requires readable { IsReadable m.now }
-    requires narrow { IsNarrow m.now }
+    requires known { IsModule m.now }
+    requires narrow { IsNarrow (tree_of m.now) }
     ensures text { OnOk result (out.new.items ≡ out.old.items
-        ++ text_of (module_pieces m.now)) }
-    ensures reads { OnOk result (Reads (text_of (module_pieces m.now)) m.now) }
+        ++ text_of (module_pieces (tree_of m.now))) }
+    ensures reads { OnOk result (Reads (text_of (module_pieces (tree_of m.now))) (tree_of m.now)) }
     ensures err { OnErr result (out.new.items ≡ out.old.items) }
 {
     let mut text = Vec::new(alloc);
@@ -56,3 +61,9 @@ pub fn print_module(alloc: Global, m: &Module, out: &mut Vec<u8>) -> Result<(), 
     put_lines(&mut text, m.tail.as_slice())?;
     out.extend_from_slice(&text)
 }
+
+/// What is printed of a tree that can be printed reads as it.
+pub fn what_is_printed_reads_as_its_tree()
+    ensures { (tree : ModuleTree) → IsPrintable tree
+        → Reads (text_of (module_pieces tree)) tree }
+{}

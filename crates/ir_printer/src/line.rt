@@ -4,9 +4,10 @@ ghost use Rattle.std.specs.Prelude.{◌≡◌, ◌<◌, ◌++◌, ◌∷◌, [],
 ghost use Rattle.std.specs.Option.{option_map};
 ghost use Rattle.text_lex.specs.Layout.{text_of};
 ghost use Rattle.ir_types.specs.Types.{AreTypes};
-ghost use Rattle.ir_types.specs.Denotes.{Tables, name_in, type_names_of, tables_of, operand_in, inst_in};
+ghost use Rattle.ir_types.specs.Denotes.{Tables, name_in, type_names_of, nodes_in, tables_of, operand_in, kind_in, inst_in};
 ghost use Rattle.ir_shape.specs.Shape.{IsBody, IsResult, IsInst};
-ghost use Rattle.ir_printer.specs.Print.{type_at, operands_pieces, to_pieces, align_pieces, ending_pieces, result_pieces, inst_pieces};
+ghost use Rattle.type_printer.specs.MemoryPieces.{node_pieces};
+ghost use Rattle.ir_printer.specs.Print.{operands_pieces, to_pieces, align_pieces, ending_pieces, result_pieces, inst_pieces};
 
 use crate::branching::{put_entries, put_switch, put_targets};
 use crate::call::{put_call, put_steps};
@@ -29,7 +30,7 @@ fn put_stepped_type(
     requires types { AreTypes (type_names_of m.now) 0 m.now.types }
     requires place { id.0 < length m.now.types }
     ensures { OnOk result (out.new.items ≡ out.old.items
-        ++ 32 ∷ (text_of (type_at m.now id) ++ 44 ∷ [])) }
+        ++ 32 ∷ (text_of (node_pieces (nodes_in m.now id)) ++ 44 ∷ [])) }
 {
     out.push(b' ')?;
     put_type_at(alloc, out, m, id)?;
@@ -38,7 +39,7 @@ fn put_stepped_type(
 }
 
 // Appends the operands of an instruction with their types.
-#[tactic(auto, using(crate::proofs::Operands::all_alike, type_printer::proofs::MemoryPrinted::within_types, type_printer::proofs::Appended::text_of_both, std::proofs::lemmas::Grind::common_steps))]
+#[tactic(auto, using(crate::proofs::Operands::all_alike, type_printer::proofs::Appended::text_of_both, std::proofs::lemmas::Grind::common_steps))]
 fn put_operands_of(
     alloc: Global,
     out: &mut Vec<u8>,
@@ -49,7 +50,7 @@ fn put_operands_of(
     requires types { AreTypes (type_names_of m.now) 0 m.now.types }
     requires known { IsBody (inst_in (tables_of m.now) names.now inst.now) }
     ensures { OnOk result (out.new.items ≡ out.old.items
-        ++ text_of (operands_pieces (tables_of m.now) inst.now.kind inst.now.ty
+        ++ text_of (operands_pieces (kind_in (tables_of m.now) inst.now.kind) inst.now.ty
         (map (operand_in (tables_of m.now) names.now) inst.now.args)
         (map (name_in names.now) inst.now.labels))) }
 {
@@ -117,8 +118,8 @@ fn put_align(out: &mut Vec<u8>, align: u64) -> Result<(), AllocError>
 #[tactic(auto, using(crate::proofs::Operands::first_type, type_printer::proofs::Appended::text_of_both, std::proofs::lemmas::Grind::common_steps))]
 fn put_ending(out: &mut Vec<u8>, names: &Names, inst: &Inst) -> Result<(), AllocError>
     requires { (tables : Tables) × IsBody (inst_in tables names.now inst.now) }
-    ensures { OnOk result (out.new.items ≡ out.old.items
-        ++ text_of (ending_pieces inst.now.kind inst.now.ty
+    ensures { (tables : Tables) → OnOk result (out.new.items ≡ out.old.items
+        ++ text_of (ending_pieces (kind_in tables inst.now.kind) inst.now.ty
         (map (name_in names.now) inst.now.labels))) }
 {
     let labels = inst.labels.as_slice();
@@ -173,7 +174,6 @@ fn put_result(
 }
 
 /// Appends an instruction and a line feed.
-#[tactic(auto, using(crate::proofs::Appended::inst_text, std::proofs::lemmas::Grind::common_steps))]
 pub(crate) fn put_inst(
     alloc: Global,
     out: &mut Vec<u8>,
@@ -184,7 +184,7 @@ pub(crate) fn put_inst(
     requires types { AreTypes (type_names_of m.now) 0 m.now.types }
     requires known { IsInst (inst_in (tables_of m.now) names.now inst.now) }
     ensures { OnOk result (out.new.items ≡ out.old.items
-        ++ text_of (inst_pieces (tables_of m.now) names.now inst.now)) }
+        ++ text_of (inst_pieces (inst_in (tables_of m.now) names.now inst.now))) }
 {
     put_result(out, names, inst.ty, inst.result)?;
     put_opening(out, &inst.kind)?;

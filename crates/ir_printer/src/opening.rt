@@ -2,6 +2,7 @@
 
 ghost use Rattle.std.specs.Prelude.{◌≡◌, ◌++◌, ◌∷◌, [], codes, OnOk};
 ghost use Rattle.text_lex.specs.Layout.{text_of};
+ghost use Rattle.ir_types.specs.Denotes.{Tables, kind_in};
 ghost use Rattle.ir_printer.specs.Print.{operator_word, predicate_word, flag_pieces, wrap_pieces, flags_pieces, offset_flags, call_words, opening_pieces};
 
 use ir_types::{BinOp, Flags, InstKind, Pred, TailKind};
@@ -25,6 +26,10 @@ fn word_of_operator(operator: BinOp) -> &'static [u8]
         BinOp::And => b"and",
         BinOp::Or => b"or",
         BinOp::Xor => b"xor",
+        BinOp::SMin => b"smin",
+        BinOp::SMax => b"smax",
+        BinOp::UMin => b"umin",
+        BinOp::UMax => b"umax",
     }
 }
 
@@ -103,7 +108,8 @@ fn put_call_words(out: &mut Vec<u8>, tail: TailKind) -> Result<(), AllocError>
 
 /// Appends the word of an instruction, with its flags or its predicate.
 pub(crate) fn put_opening(out: &mut Vec<u8>, kind: &InstKind) -> Result<(), AllocError>
-    ensures { OnOk result (out.new.items ≡ out.old.items ++ text_of (opening_pieces kind.now)) }
+    ensures { (tables : Tables) → OnOk result (out.new.items ≡ out.old.items
+        ++ text_of (opening_pieces (kind_in tables kind.now))) }
 {
     match kind {
         InstKind::Binary(operator, flags) => {

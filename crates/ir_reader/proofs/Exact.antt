@@ -10,9 +10,8 @@ use Rattle.text_lex.specs.declared.fault.TextFault.TheVariants.{BadToken, LeftOu
 use Rattle.text_lex.specs.Fault.{IsFaultOf}
 use Rattle.text_lex.proofs.Unique.{lexes_unique}
 use Rattle.ir_types.specs.declared.module.Module.{Module}
-use Rattle.ir_types.specs.Tree.{FunctionTree, ModuleTree, Item}
+use Rattle.ir_types.specs.Tree.{FunctionTree, Item}
 use Rattle.ir_types.specs.Denotes.{tree_of, Denotes}
-use Rattle.ir_types.specs.Collected.{collected}
 use Rattle.ir_types.specs.Skimmed.{items_read}
 use Rattle.ir_types.specs.Numbered.{numbered_module}
 use Rattle.ir_types.specs.Reads.{Reads}

@@ -4,7 +4,6 @@ use Rattle.std.specs.List.{filter_map, range_with_len}
 use Rattle.std.proofs.lemmas.List.{map-append, length-map}
 use Rattle.std.proofs.lemmas.List.Elements.{filter_map-append}
 use Rattle.forms.specs.View.{Extends}
-use Rattle.ir_types.specs.declared.name.Name.{Name}
 use Rattle.ir_types.specs.declared.module.Symbol.{Symbol}
 use Rattle.ir_types.specs.declared.memory_type.MemTy.{MemTy}
 use Rattle.ir_types.specs.declared.memory_type.TypeName.{TypeName}

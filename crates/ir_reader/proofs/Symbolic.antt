@@ -26,7 +26,7 @@ function_more old before names n place h e =
     let first = function_symbols 0 names in
     ap (λ (l : List Symbol). l ++ function_symbol place n ∷ []) h
     ∙ append_assoc old first (function_symbol place n ∷ [])
-    ∙ ap (λ (k : ℕ). old ++ first ++ function_symbol k n ∷ []) z
+    ∙ ap (λ (k : ℕ). old ++ (first ++ function_symbol k n ∷ [])) z
     ∙ ap (λ (l : List Symbol). old ++ l) (sym (symbols_push 0 names n))
 
 -- those of functions are those of their names

@@ -14,7 +14,7 @@ use Rattle.ir_types.specs.Tree.{ModuleTree}
 use Rattle.ir_types.specs.Reads.{Reads}
 use Rattle.ir_limits.specs.Limits.{limit_passed}
 
--- the text reads as the tree, which passes no limit
+-- the text reads as the tree, and its items, as they stand in the text, pass no limit
 pub record IsWithinLimits (text : List ℕ) (tree : ModuleTree) : Type 0 where
   pub reads : Reads text tree
   pub within : limit_passed reads.numbered ≡ None
@@ -47,6 +47,6 @@ abbrev pub IsRefusal : List ℕ → TextFault → Type 0
 IsRefusal text (BadToken place) = (length text ≤ TEXT_LIMIT) × StopsAt text place
 IsRefusal text (LeftOut word offset) = (length text ≤ TEXT_LIMIT) × IsLeftOutAt text word offset
 IsRefusal text (TextLimit size) = (size ≡ length text) × (TEXT_LIMIT < length text)
-IsRefusal text (NoReading place) = (length text ≤ TEXT_LIMIT) × HasNoReading text × IsStop text place
+IsRefusal text (NoReading n) = (length text ≤ TEXT_LIMIT) × HasNoReading text × IsStop text n
 IsRefusal text (CountLimit count n) = (length text ≤ TEXT_LIMIT) × HasNoneLeftOut text × PassesLimit text count n
 IsRefusal text Memory = Unit {0}

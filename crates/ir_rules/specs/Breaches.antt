@@ -1,5 +1,5 @@
 -- Lists of places at which a rule may be broken.
-use Rattle.std.specs.Prelude.{ℕ, zero, suc, Bool, List, [], ◌∷◌, ◌++◌, map, filter, Option, Some, None}
+use Rattle.std.specs.Prelude.{ℕ, suc, List, [], ◌∷◌, ◌++◌, map, Some, None}
 use Rattle.forms.specs.Nested.{concat}
 use Rattle.ir_types.specs.declared.name.Name.{Name}
 use Rattle.ir_types.specs.Tree.{InstTree, FunctionTree, ModuleTree}
@@ -37,7 +37,7 @@ inside n x = record { function = Some n; subject = x.0; place = x.1 }
 
 -- the breaches in all functions, from what is found in each
 abbrev pub in_functions : (FunctionTree → List Found) → ModuleTree → List Breach
-in_functions found m = concat (map (λ (f : FunctionTree). map (inside f.name) (found f)) m.functions)
+in_functions by m = concat (map (λ (f : FunctionTree). map (inside f.name) (by f)) m.functions)
 
 -- subjects at one place
 abbrev pub all_at : ℕ → List Subject → List Found

@@ -1,6 +1,6 @@
 -- Rule: what is called is a function whose types are the call's, and a name that this project gives a meaning has the signature that goes with it
 -- and no body.
-use Rattle.std.specs.Prelude.{ℕ, Bool, true, false, not, ◌&&◌, List, [], ◌∷◌, ◌++◌, map, take, length, Option, Some, None, if◌then◌else◌}
+use Rattle.std.specs.Prelude.{Bool, true, false, not, ◌&&◌, List, [], ◌∷◌, ◌++◌, map, take, length, Option, Some, None, if◌then◌else◌}
 use Rattle.std.specs.List.{list_any}
 use Rattle.forms.specs.Nested.{concat}
 use Rattle.ir_types.specs.declared.name.Name.{Name}
@@ -9,7 +9,7 @@ use Rattle.ir_types.specs.declared.call.Signature.{Signature}
 use Rattle.ir_types.specs.declared.inst.Ty.{Ty}
 use Rattle.ir_types.specs.Names.{same_name}
 use Rattle.ir_types.specs.Kinds.{Kind, Call, actual_types}
-use Rattle.ir_types.specs.Tree.{InstTree, ParamTree, BlockTree, FunctionTree, SymbolKindTree, variable, function, SymbolTree, ModuleTree}
+use Rattle.ir_types.specs.Tree.{ParamTree, BlockTree, FunctionTree, SymbolKindTree, variable, function, SymbolTree, ModuleTree}
 use Rattle.ir_rules.specs.declared.fault.Subject.{Subject}
 use Rattle.ir_rules.specs.declared.fault.Subject.TheVariants.{Symbol}
 use Rattle.ir_rules.specs.declared.fault.Breach.{Breach}
@@ -39,7 +39,7 @@ abbrev pub is_declared : List BlockTree → Bool
 is_declared [] = true
 is_declared (b ∷ bs) = false
 
--- a function has this signature, and nothing of its own to do
+-- a function has this signature, takes no further arguments, and has no body
 abbrev pub has_signature : FunctionTree → Signed → Bool
 has_signature f s = is_declared f.body && (not f.varargs && (same_type s.ret f.ret && same_types s.params (param_types f)))
 

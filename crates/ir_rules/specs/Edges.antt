@@ -1,11 +1,11 @@
 -- Rules about the edges between blocks: no branch goes to an entry block; phis stand first in their block, and have an entry for each edge into it.
-use Rattle.std.specs.Prelude.{ℕ, zero, suc, ◌+◌, Bool, true, false, not, ◌&&◌, nat_eq, List, [], ◌∷◌, ◌++◌, map, filter, length, zip, count_by, Option, Some, None, if◌then◌else◌}
-use Rattle.std.specs.List.{list_any, list_all}
+use Rattle.std.specs.Prelude.{ℕ, suc, ◌+◌, Bool, true, false, not, ◌&&◌, nat_eq, List, [], ◌∷◌, ◌++◌, map, filter, length, zip, count_by, Option, Some, None, if◌then◌else◌}
+use Rattle.std.specs.List.{list_all}
 use Rattle.forms.specs.Nested.{concat}
 use Rattle.ir_types.specs.declared.name.Name.{Name}
 use Rattle.ir_types.specs.Names.{same_name}
 use Rattle.ir_types.specs.Kinds.{Kind, Phi, Jump, Branch, Switch}
-use Rattle.ir_types.specs.Tree.{OperandTree, local, number, null, poison, lanes, global, out_of_range, InstTree, BlockTree, FunctionTree, ModuleTree}
+use Rattle.ir_types.specs.Tree.{OperandTree, local, number, null, poison, lanes, global, InstTree, BlockTree, FunctionTree, ModuleTree}
 use Rattle.ir_rules.specs.declared.fault.Subject.{Subject}
 use Rattle.ir_rules.specs.declared.fault.Subject.TheVariants.{Local}
 use Rattle.ir_rules.specs.declared.fault.Breach.{Breach}
@@ -94,7 +94,7 @@ same_lanes [] [] = true
 same_lanes (x ∷ xs) (y ∷ ys) = same_lane x y && same_lanes xs ys
 same_lanes xs ys = false
 
--- whether two operands are one; none that is out of range is any other
+-- whether two operands are one; one that is out of range is equal to none, not even to itself
 abbrev pub same_operand : OperandTree → OperandTree → Bool
 same_operand (local n) (local m) = same_name n m
 same_operand (number n) (number m) = nat_eq n m

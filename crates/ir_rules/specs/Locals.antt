@@ -1,5 +1,5 @@
 -- What the local names of a function are given to.
-use Rattle.std.specs.Prelude.{ℕ, zero, suc, ◌+◌, Bool, true, false, List, [], ◌∷◌, ◌++◌, map, length, filter_map, Option, Some, None}
+use Rattle.std.specs.Prelude.{ℕ, suc, ◌+◌, Bool, true, false, List, [], ◌∷◌, ◌++◌, map, length, Some, None}
 use Rattle.ir_types.specs.declared.name.Name.{Name}
 use Rattle.ir_types.specs.declared.name.Name.TheVariants.{Text, Number}
 use Rattle.ir_types.specs.declared.inst.Ty.{Ty}
@@ -18,7 +18,7 @@ pub record Definition : Type 0 where
 
 -- of the parameters
 abbrev pub of_params : List ParamTree → List Definition
-of_params params = map (λ (p : ParamTree). record { place = 0; name = p.name; given = value p.ty }) params
+of_params ps = map (λ (p : ParamTree). record { place = 0; name = p.name; given = value p.ty }) ps
 
 -- of the results, where the first instruction has this number
 abbrev pub of_results : ℕ → List InstTree → List Definition

@@ -4,9 +4,8 @@ use Rattle.std.specs.Prelude.{ℕ, zero, suc, ◌^◌, Bool, true, false, not, �
 use Rattle.std.specs.List.{list_any, list_all}
 use Rattle.forms.specs.Nested.{concat}
 use Rattle.ir_types.specs.declared.name.Name.{Name}
-use Rattle.ir_types.specs.declared.call.Callee.{Callee}
 use Rattle.ir_types.specs.declared.inst.Ty.{Ty}
-use Rattle.ir_types.specs.declared.inst.Ty.TheVariants.{Int, Ptr, Vector, Void}
+use Rattle.ir_types.specs.declared.inst.Ty.TheVariants.{Int, Vector, Void}
 use Rattle.ir_types.specs.Kinds.{Kind, Binary, Compare, Select, Freeze, Trunc, Zext, Sext, PtrToInt, Phi, Offset, Load, Store, Call, Extract, Insert, Shuffle, Jump, Branch, Switch, ReturnVoid, Return, Unreachable, operand_types, actual_types}
 use Rattle.ir_types.specs.Tree.{OperandTree, local, number, InstTree, FunctionTree, SymbolKindTree, variable, function, SymbolTree, ModuleTree}
 use Rattle.ir_types.specs.TypeNodes.{TypeNode}
@@ -50,7 +49,7 @@ abbrev pub is_element_of : Ty → Ty → Bool
 is_element_of (Vector n v) (Int w) = nat_eq w v
 is_element_of t u = false
 
--- a mask is no local
+-- the operand is no local: a mask has to be a constant
 abbrev pub is_constant : OperandTree → Bool
 is_constant (local n) = false
 is_constant a = true
@@ -96,7 +95,7 @@ kind_fits x Phi ty args = true
 kind_fits x (Offset nodes widths inbounds nuw nusw) ty args = leads_on x.types nodes widths args
 kind_fits x (Load align) ty args = not (is_bits ty) && is_alignment align
 kind_fits x (Store of align) ty args = not (is_bits of) && is_alignment align
-kind_fits x (Call callee) ty args = is_meant_right (meant_by callee.name) ty (actual_types callee) args
+kind_fits x (Call c) ty args = is_meant_right (meant_by c.name) ty (actual_types c) args
 kind_fits x (Extract of width) ty args = is_vector of
 kind_fits x (Insert element width) ty args = is_element_of ty element
 kind_fits x (Shuffle of other mask) ty args = is_vector of && (same_type of other && (is_mask_type mask && list_all is_constant (drop 2 args)))

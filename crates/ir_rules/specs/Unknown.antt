@@ -1,5 +1,5 @@
 -- Rule: a local, a label, a type or a symbol that is used is defined or declared. What is called is not looked at here.
-use Rattle.std.specs.Prelude.{List, [], ◌∷◌, ◌++◌, map, filter, not, Bool, true, Option, Some, None}
+use Rattle.std.specs.Prelude.{List, [], ◌∷◌, ◌++◌, map, filter, not, Bool, true, Some}
 use Rattle.forms.specs.Nested.{concat}
 use Rattle.ir_types.specs.declared.name.Name.{Name}
 use Rattle.ir_types.specs.Names.{has_name}
@@ -31,14 +31,14 @@ used_as_labels labels = map Local labels
 
 -- the entries of a phi: each operand before its label
 abbrev pub used_by_entries : List OperandTree → List Name → List Subject
-used_by_entries (a ∷ args) (l ∷ labels) = used_by_operand a ++ (Local l ∷ used_by_entries args labels)
+used_by_entries (a ∷ args) (l ∷ ls) = used_by_operand a ++ (Local l ∷ used_by_entries args ls)
 used_by_entries [] labels = used_as_labels labels
 used_by_entries args [] = used_by_operands args
 
 -- an instruction of a kind: a memory type before the operands, and labels behind them; those of a phi in pairs
 abbrev pub used_by : Kind → List OperandTree → List Name → List Subject
 used_by Phi args labels = used_by_entries args labels
-used_by kind args labels = map TypeOf (types_in kind) ++ (used_by_operands args ++ used_as_labels labels)
+used_by kind args ls = map TypeOf (types_in kind) ++ (used_by_operands args ++ used_as_labels ls)
 
 abbrev pub used_by_inst : InstTree → List Subject
 used_by_inst i = used_by i.kind i.args i.labels

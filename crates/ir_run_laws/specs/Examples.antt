@@ -95,9 +95,9 @@ reads_the_old =
 abbrev pub calling : Name → FunctionTree
 calling name = function_named f (param i32 0 ∷ []) (block 1 (call 2 name (i32 ∷ []) (at 0 ∷ []) ∷ add 3 (at 2) (number 1) ∷ ret (at 3) ∷ []) ∷ [])
 
--- define i32 @name(i32 %0), with its block %4: %5 = add i32 %0, %0; ret i32 %5
+-- define i32 @name(i32 %3), with its block %4: %5 = add i32 %3, %3; ret i32 %5
 abbrev pub doubling : Name → FunctionTree
-doubling name = function_named name (param i32 0 ∷ []) (block 4 (add 5 (at 0) (at 0) ∷ ret (at 5) ∷ []) ∷ [])
+doubling name = function_named name (param i32 3 ∷ []) (block 4 (add 5 (at 3) (at 3) ∷ ret (at 5) ∷ []) ∷ [])
 
 -- the name `@g`
 abbrev pub g : Name

@@ -29,7 +29,7 @@ pub fn worked_runs()
     ensures poison_lanes { (memory : Memory) (v : World) → observed (gives_back i8x2 poison) f [] memory v 1 ≡ returned_with (of_type i8x2 (Lanes 8 (None ∷ None ∷ []))) memory }
     ensures lanes { (memory : Memory) (v : World) → observed (gives_back i8x2 (lanes (Some 255 ∷ None ∷ []))) f [] memory v 1 ≡ returned_with (of_type i8x2 (Lanes 8 (Some 255 ∷ None ∷ []))) memory }
     ensures old { (memory : Memory) (v : World) → observed reads_the_old f [] memory v 6 ≡ returned_with (of_i32 5) memory }
-    ensures call { (memory : Memory) (v : World) → run (step calls_g) 1 (start calls_g f (int32 5 ∷ []) memory v) ≡ live_with (frame_in g 4 0 (set_value no_values (Number 0) (int32 5))) (frame_in f 1 0 (set_value no_values (Number 0) (int32 5)) ∷ []) memory v }
+    ensures call { (memory : Memory) (v : World) → run (step calls_g) 1 (start calls_g f (int32 5 ∷ []) memory v) ≡ live_with (frame_in g 4 0 (set_value no_values (Number 3) (int32 5))) (frame_in f 1 0 (set_value no_values (Number 0) (int32 5)) ∷ []) memory v }
     ensures back { (memory : Memory) (v : World) → run (step calls_g) 3 (start calls_g f (int32 5 ∷ []) memory v) ≡ live_with (frame_in f 1 1 (set_value (set_value no_values (Number 0) (int32 5)) (Number 2) (int32 10))) [] memory v }
     ensures called { (memory : Memory) (v : World) → observed calls_g f (int32 5 ∷ []) memory v 5 ≡ returned_with (of_i32 11) memory }
 {}

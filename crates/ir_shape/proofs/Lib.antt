@@ -14,3 +14,4 @@ pub mod Numbering
 pub mod Narrowed
 pub mod Known
 pub mod Placing
+pub mod FunctionPlaces

@@ -1,5 +1,5 @@
 -- In a module each position is one of its list.
-use Rattle.std.proofs.Common.{◌≡◌, ◌+◌, ◌<◌, ◌≤◌, ℕ, zero, suc, Bool, List, [], ◌∷◌, ◌++◌, length, Option, Some, None, sym, subst, zero-add, arith}
+use Rattle.std.proofs.Common.{◌≡◌, ◌+◌, ◌<◌, ℕ, zero, suc, Bool, List, [], ◌∷◌, ◌++◌, length, Option, Some, None, sym, subst, zero-add, arith}
 use Rattle.std.specs.Prelude.{map, IfSome}
 use Rattle.std.specs.Option.{option_map}
 use Rattle.std.specs.List.{AllByRecursion, AllZip, filter_map, cons_option, range_with_len}
@@ -32,9 +32,10 @@ use Rattle.ir_types.specs.Collected.{as_type, as_variable, as_function, of_defin
 use Rattle.ir_types.specs.Names.{name_at}
 use Rattle.ir_types.specs.TypeNodes.{TypeNode, nodes_at, nodes_from, all_nodes, type_nodes}
 use Rattle.ir_types.specs.Tree.{FunctionTree, NamedTree, defined, opaque, SymbolKindTree, variable, function, ModuleTree, Item, head_line, comdat_line, type_item, variable_item, function_item, attribute_line, metadata_line}
-use Rattle.ir_shape.specs.Shape.{IsName, IsNameThere, IsOperandIn, IsTypedIn, IsResult, HasParts, IsReadInst, IsBlockOf, IsParam, IsFunctionOf, IsDefinition, IsItemOf, HasShape}
+use Rattle.ir_shape.specs.Shape.{IsName, IsNameThere, IsMemory, IsOperandIn, IsTypedIn, IsResult, HasParts, IsReadInst, IsBlockOf, IsParam, IsFunctionOf, IsDefinition, IsItemOf, HasShape}
 use Rattle.ir_shape.specs.Modules.{IsModule}
 use Rattle.ir_shape.specs.Placed.{IsPlace, IsOperandPlaced, IsInstPlaced, IsKindPlaced, IsBlockPlaced, IsParamPlaced, IsFunctionPlaced, IsNamedPlaced, IsSymbolPlaced, IsPlaced}
+use Rattle.ir_shape.proofs.Memory.{has_node}
 use Rattle.ir_shape.proofs.Narrowed.{by_both}
 use Rattle.ir_shape.proofs.Names.{within_names}
 use Rattle.ir_shape.proofs.Sure.{IsThere}
@@ -60,7 +61,7 @@ node_within [] i h = absurd (omega arith)
 node_within (x ∷ xs) zero h = omega arith
 node_within (x ∷ xs) (suc i) h = omega (arith, node_within xs i h)
 
-as_many : (names : List Name) (before : List (List TypeNode)) (ts : List MemTy) → length (all_nodes names before ts) ≡ length before + length ts
+pub as_many : (names : List Name) (before : List (List TypeNode)) (ts : List MemTy) → length (all_nodes names before ts) ≡ length before + length ts
 as_many names before [] = omega arith
 as_many names before (t ∷ ts) =
     let e = as_many names (before ++ nodes_from names before t ∷ []) ts in
@@ -73,6 +74,9 @@ type_placed names types id h =
     let w = node_within (all_nodes names [] types) id.0 h in
     let e = as_many names [] types in
     omega (arith, w, e)
+
+pub memory_placed : (names : List Name) (types : List MemTy) (id : TypeId) → IsMemory (type_nodes names types id) → id.0 < length types
+memory_placed names types id m = type_placed names types id (has_node (type_nodes names types id) m)
 
 -- ---- positions in functions
 
@@ -99,8 +103,8 @@ operands_placed wide t names ts [] h = tt
 operands_placed wide t names [] (a ∷ args) h = absurd h
 operands_placed wide t names (ty ∷ ts) (a ∷ args) h = (operand_placed wide t names ty a h.0.1, operands_placed wide t names ts args h.1)
 
-kind_placed : (t : Tables) (k : InstKind) (n : ℕ) → HasParts (kind_in t k) n → IsKindPlaced t k
-kind_placed t (Offset id widths inbounds nuw nusw) n h = type_placed t.type_names t.types id h.0.some
+pub kind_placed : (t : Tables) (k : InstKind) (n : ℕ) → HasParts (kind_in t k) n → IsKindPlaced t k
+kind_placed t (Offset id widths inbounds nuw nusw) n h = memory_placed t.type_names t.types id h.0
 kind_placed t k n h = tt
 
 result_placed : (names : List Name) (t : Ty) (o : Option ValueId) → IsResult t (option_map (name_in names) o) → IfSome o (IsPlace names)
@@ -161,7 +165,7 @@ HasPlace function = Unit {0}
 
 definition_known : (t : Option (List TypeNode)) → IsDefinition t → HasNode (of_definition t)
 definition_known None h = tt
-definition_known (Some nodes) h = h.some
+definition_known (Some nodes) h = has_node nodes h
 
 types_known : (items : List (Item FunctionTree)) → AllByRecursion (IsItemOf IsReadInst) items → AllByRecursion (λ t. HasNode t.ty) (filter_map as_type items)
 types_known [] h = tt
@@ -178,7 +182,7 @@ variables_known [] h = tt
 variables_known (head_line xs ∷ items) h = variables_known items h.1
 variables_known (comdat_line xs ∷ items) h = variables_known items h.1
 variables_known (type_item name t ∷ items) h = variables_known items h.1
-variables_known (variable_item v ∷ items) h = (h.0.ty.some, variables_known items h.1)
+variables_known (variable_item v ∷ items) h = (has_node v.ty h.0.ty, variables_known items h.1)
 variables_known (function_item f ∷ items) h = variables_known items h.1
 variables_known (attribute_line xs ∷ items) h = variables_known items h.1
 variables_known (metadata_line xs ∷ items) h = variables_known items h.1

@@ -6,10 +6,9 @@ use Rattle.forms.specs.declared.TokenKind.TheVariants.{Comma, Word}
 use Rattle.forms.specs.Form.{Lexeme, Form, Spells, texts, exactly, one, ahead, pair, either, mapped, made, optional, many, by_word}
 use Rattle.forms.specs.Gives.{mark}
 use Rattle.forms.specs.Reading.{for_all}
-use Rattle.forms.specs.Nested.{joined, concat}
 use Rattle.forms.proofs.Parts.{for_entry}
 use Rattle.text_lex.specs.KeptText.{token_of, IsToken, AreLexed}
-use Rattle.text_lex.proofs.Lexed.{lexed_split, each_append, tokens_again, lexed_are_tokens}
+use Rattle.text_lex.proofs.Lexed.{lexed_split, tokens_again, lexed_are_tokens}
 use Rattle.kept_runs.specs.Verbatim.{Verbatim}
 use Rattle.ir_types.specs.Tree.{KeptTexts}
 use Rattle.ir_types.specs.Grammar.{word, behind, after_mark, between, marked, some, commas, list, or_none}
@@ -118,28 +117,6 @@ all_or_none P (Some xs) h = h.1
 
 pub list_sure : {A : Type 0} {P : A → Type 0} {f : Form A} → Sure f P → Sure (list f) (AllByRecursion P)
 list_sure {A} {P} p = mapped_sure {Q = AllByRecursion P} (optional_sure (commas_sure p)) (all_or_none P)
-
--- ---- lists behind one another
-
-pub joined_sure : {A : Type 0} {P : A → Type 0} {f g : Form (List A)} → Sure f (AllByRecursion P) → Sure g (AllByRecursion P) → Sure (joined f g) (AllByRecursion P)
-joined_sure {A} {P} p q = mapped_sure {Q = AllByRecursion P} (pair_sure p q) (λ x h. each_append P x.0 x.1 h.0 h.1)
-
-longer : {A : Type 0} (xs ys : List A) → 0 < length xs → 0 < length (xs ++ ys)
-longer [] ys h = absurd (omega arith)
-longer (x ∷ xs) ys h = omega arith
-
-pub joined_filled : {A : Type 0} {P : A → Type 0} {f g : Form (List A)} → Sure f (Filled P) → Sure g (AllByRecursion P) → Sure (joined f g) (Filled P)
-joined_filled {A} {P} p q = mapped_sure {Q = Filled P} (pair_sure p q) (λ x h. (longer x.0 x.1 h.0.0, each_append P x.0 x.1 h.0.1 h.1))
-
-all_concat : {A : Type 0} (P : A → Type 0) (xs : List (List A)) → AllByRecursion (AllByRecursion P) xs → AllByRecursion P (concat xs)
-all_concat P [] h = tt
-all_concat P (x ∷ xs) h = each_append P x (concat xs) h.0 (all_concat P xs h.1)
-
-pub concat_sure : {A : Type 0} {P : A → Type 0} {f : Form (List A)} → Sure f (AllByRecursion P) → Sure (mapped concat (many f)) (AllByRecursion P)
-concat_sure {A} {P} p = mapped_sure {Q = AllByRecursion P} (many_sure p) (all_concat P)
-
-pub filled_all : {A : Type 0} {P : A → Type 0} {f : Form (List A)} → Sure f (Filled P) → Sure f (AllByRecursion P)
-filled_all p = record { known = λ a ts l h. (p.known a ts l h).1 }
 
 -- ---- what is kept
 

@@ -1,22 +1,22 @@
 -- The shape of a module's tree, and what more is known of one that can be printed: no number in that is out of its type's range.
-use Rattle.std.specs.Prelude.{codes, Bool, true, false, ◌≡◌, ◌<◌, ◌^◌, ℕ, suc, List, [], ◌∷◌, length, map, Option, Some, None}
+use Rattle.std.specs.Prelude.{codes, Bool, true, false, ◌≡◌, ◌<◌, ◌^◌, ℕ, zero, suc, List, [], ◌∷◌, ◌++◌, length, map, Option, Some, None}
 use Rattle.std.specs.List.{AllByRecursion, AllZip}
 use Rattle.forms.specs.declared.TokenKind.TheVariants.{Word}
 use Rattle.forms.specs.Form.{Form, Spells, either}
-use Rattle.forms.specs.Nested.{joined}
+use Rattle.forms.specs.Nested.{concat, joined}
 use Rattle.forms.specs.Kept.{kept_token, attachments}
 use Rattle.text_lex.specs.KeptText.{token_of, IsToken}
 use Rattle.ir_types.specs.declared.name.Name.{Name}
 use Rattle.ir_types.specs.declared.name.Name.TheVariants.{Text, Number}
 use Rattle.ir_types.specs.declared.inst.Ty.{Ty}
-use Rattle.ir_types.specs.declared.inst.Ty.TheVariants.{Int, Ptr, Vector, Void}
+use Rattle.ir_types.specs.declared.inst.Ty.TheVariants.{Ptr, Vector, Void}
 use Rattle.ir_types.specs.declared.inst.BinOp.{BinOp}
 use Rattle.ir_types.specs.declared.inst.BinOp.TheVariants.{Add, Sub, Mul, Shl, UDiv, SDiv, URem, SRem, LShr, AShr, And, Or, Xor, SMin, SMax, UMin, UMax}
 use Rattle.ir_types.specs.declared.inst.Flags.{Flags}
 use Rattle.ir_types.specs.declared.call.Actual.{Actual}
 use Rattle.ir_types.specs.declared.call.Callee.{Callee}
 use Rattle.ir_types.specs.declared.call.Signature.{Signature}
-use Rattle.ir_types.specs.Kinds.{Kind, Binary, Compare, Select, Freeze, Trunc, Zext, Sext, PtrToInt, Phi, Offset, Load, Store, Call, Extract, Insert, Shuffle, Jump, Branch, Switch, ReturnVoid, Return, Unreachable, operand_types}
+use Rattle.ir_types.specs.Kinds.{Kind, Binary, Compare, Phi, Offset, Load, Store, Call, Extract, Shuffle, Jump, Branch, Switch, ReturnVoid, Return, Unreachable, operand_types}
 pub use Rattle.ir_types.specs.Types.{IsOneOf, widths, IsType}
 use Rattle.ir_types.specs.TypeNodes.{TypeNode, scalar, called, array, opening, closing}
 use Rattle.ir_types.specs.Collected.{collected}
@@ -45,18 +45,20 @@ pub record IsKept (form : Form KeptTexts) (xs : KeptTexts) : Type 0 where
 
 -- ---- memory types
 
--- a node of a memory type as it can be written
-abbrev pub IsNode : TypeNode → Type 0
-IsNode (scalar t) = IsType t
-IsNode (called n) = IsName n
-IsNode (array n) = n < 2 ^ 64
-IsNode (opening packed) = Unit {0}
-IsNode closing = Unit {0}
+-- a memory type by its nodes, nested at most so deep: a type of values, a name, an array of so many of one, or a struct of some behind which it is closed
+abbrev pub IsNested : ℕ → List TypeNode → Type 0
+IsNested zero nodes = ⊥
+IsNested (suc depth) [] = ⊥
+IsNested (suc depth) (scalar t ∷ rest) = IsType t × (rest ≡ [])
+IsNested (suc depth) (called n ∷ rest) = IsName n × (rest ≡ [])
+IsNested (suc depth) (array n ∷ rest) = (n < 2 ^ 64) × IsNested depth rest
+IsNested (suc depth) (opening packed ∷ rest) = (members : List (List TypeNode)) × (rest ≡ concat members ++ closing ∷ []) × AllByRecursion (IsNested depth) members
+IsNested (suc depth) (closing ∷ rest) = ⊥
 
--- nodes of a memory type: there is one at least, and each can be written
+-- the nodes of one memory type, as it can be written
 pub record IsMemory (nodes : List TypeNode) : Type 0 where
-  pub some : 0 < length nodes
-  pub each : AllByRecursion IsNode nodes
+  pub depth : ℕ
+  pub nested : IsNested depth nodes
 
 -- ---- instructions
 

@@ -16,8 +16,6 @@ mod prepare;
 mod single;
 mod size;
 mod step;
-#[cfg(test)]
-mod tests;
 
 pub use added::extents_behind;
 pub use extents::extents_of;

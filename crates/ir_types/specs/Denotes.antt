@@ -124,7 +124,7 @@ IsBare s = elim s.kind as (λ _. Type 0) [ symbols.Variable id writable ↦ Unit
 abbrev pub function_place : Symbol → Option ℕ
 function_place s = elim s.kind [ symbols.Variable id writable ↦ None | symbols.Function f ↦ Some f.0 | symbols.Missing ↦ None ]
 
--- the module says what the tree says
+-- the module says what the tree says, and has its names, its types and what goes by places as that asks
 pub record Denotes (m : Module) (tree : ModuleTree) : Type 0 where
   pub says : tree_of m ≡ tree
   -- in no function's names a name stands twice, and there are fewer than 2^32

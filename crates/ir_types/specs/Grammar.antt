@@ -237,7 +237,7 @@ typed_lane = pair value_type lane
 abbrev pub comma_index : Form (ℕ × List ℕ)
 comma_index = after_mark Comma (pair width (one Number))
 
--- getelementptr [inbounds] [nuw] [nusw] ( M, ptr @name, iN number, .. ): the flags are left out
+-- getelementptr [inbounds] [nuw] [nusw] ( M, ptr @name, iN number, .. ): the flags are read and not kept
 unfoldable pub constant_offset : Form (List TypeNode × (Name × List (ℕ × List ℕ)))
 constant_offset =
     behind (codes "getelementptr") (mapped (λ x. x.1) (pair three_flags (between LeftParen RightParen (pair inst_memory (pair (after_mark Comma (behind (codes "ptr") global_name)) (some comma_index))))))
@@ -335,48 +335,30 @@ value_words = codes "true" ∷ codes "false" ∷ codes "null" ∷ codes "poison"
 -- the words with which items begin
 unfoldable pub item_words : List (List ℕ × ItemWord)
 item_words =
-    (codes "source_filename", items.SourceFilename) ∷
-    (codes "target", items.Target) ∷
-    (codes "declare", items.Declare) ∷
-    (codes "define", items.Define) ∷
-    (codes "attributes", items.Attributes) ∷
-    []
+    (codes "source_filename", items.SourceFilename) ∷ (codes "target", items.Target) ∷
+    (codes "declare", items.Declare) ∷ (codes "define", items.Define) ∷
+    (codes "attributes", items.Attributes) ∷ []
 
 -- the words with which an instruction begins that doesn't end a block
 unfoldable pub operation_words : List (List ℕ × Operation)
 operation_words =
-    (codes "add", operations.Overflowing Add) ∷
-    (codes "sub", operations.Overflowing Sub) ∷
-    (codes "mul", operations.Overflowing Mul) ∷
-    (codes "shl", operations.Overflowing Shl) ∷
-    (codes "udiv", operations.PossiblyExact UDiv) ∷
-    (codes "sdiv", operations.PossiblyExact SDiv) ∷
-    (codes "lshr", operations.PossiblyExact LShr) ∷
-    (codes "ashr", operations.PossiblyExact AShr) ∷
-    (codes "urem", operations.Plain URem) ∷
-    (codes "srem", operations.Plain SRem) ∷
-    (codes "and", operations.Plain And) ∷
-    (codes "xor", operations.Plain Xor) ∷
-    (codes "or", operations.Or) ∷
-    (codes "icmp", operations.Icmp) ∷
-    (codes "select", operations.Select) ∷
-    (codes "freeze", operations.Freeze) ∷
-    (codes "trunc", operations.Trunc) ∷
-    (codes "zext", operations.Zext) ∷
-    (codes "sext", operations.Sext) ∷
-    (codes "ptrtoint", operations.PtrToInt) ∷
-    (codes "phi", operations.Phi) ∷
-    (codes "getelementptr", operations.GetElementPtr) ∷
-    (codes "load", operations.Load) ∷
-    (codes "store", operations.Store) ∷
-    (codes "call", operations.Call Unmarked) ∷
-    (codes "tail", operations.Call Tail) ∷
-    (codes "musttail", operations.Call MustTail) ∷
-    (codes "notail", operations.Call NoTail) ∷
+    (codes "add", operations.Overflowing Add) ∷ (codes "sub", operations.Overflowing Sub) ∷
+    (codes "mul", operations.Overflowing Mul) ∷ (codes "shl", operations.Overflowing Shl) ∷
+    (codes "udiv", operations.PossiblyExact UDiv) ∷ (codes "sdiv", operations.PossiblyExact SDiv) ∷
+    (codes "lshr", operations.PossiblyExact LShr) ∷ (codes "ashr", operations.PossiblyExact AShr) ∷
+    (codes "urem", operations.Plain URem) ∷ (codes "srem", operations.Plain SRem) ∷
+    (codes "and", operations.Plain And) ∷ (codes "xor", operations.Plain Xor) ∷
+    (codes "or", operations.Or) ∷ (codes "icmp", operations.Icmp) ∷
+    (codes "select", operations.Select) ∷ (codes "freeze", operations.Freeze) ∷
+    (codes "trunc", operations.Trunc) ∷ (codes "zext", operations.Zext) ∷
+    (codes "sext", operations.Sext) ∷ (codes "ptrtoint", operations.PtrToInt) ∷
+    (codes "phi", operations.Phi) ∷ (codes "getelementptr", operations.GetElementPtr) ∷
+    (codes "load", operations.Load) ∷ (codes "store", operations.Store) ∷
+    (codes "call", operations.Call Unmarked) ∷ (codes "tail", operations.Call Tail) ∷
+    (codes "musttail", operations.Call MustTail) ∷ (codes "notail", operations.Call NoTail) ∷
     (codes "extractelement", operations.ExtractElement) ∷
     (codes "insertelement", operations.InsertElement) ∷
-    (codes "shufflevector", operations.ShuffleVector) ∷
-    []
+    (codes "shufflevector", operations.ShuffleVector) ∷ []
 
 -- the words with which a terminator begins that has something behind its word
 unfoldable pub terminator_words : List (List ℕ × Terminator)
@@ -391,7 +373,7 @@ unfoldable pub excluded_words : List (List ℕ)
 excluded_words =
     codes "align" ∷ codes "cc" ∷ codes "global" ∷ codes "constant" ∷ (type_words ++ (value_words ++ (map (λ e. e.0) item_words ++ (instruction_words ++ left_out_words))))
 
--- K
+-- K: as many words, attributes and other pieces as stand there, which are kept as they are
 unfoldable pub kept : Form KeptTexts
 kept = kept_run excluded_words
 
@@ -492,17 +474,9 @@ or_operation defs = mapped (λ x. binary_tree Or (disjoint_flag x.0) x.1) (pair 
 -- the ten predicates
 unfoldable pub predicates : List (List ℕ × Pred)
 predicates =
-    (codes "eq", Eq) ∷
-    (codes "ne", Ne) ∷
-    (codes "ugt", Ugt) ∷
-    (codes "uge", Uge) ∷
-    (codes "ult", Ult) ∷
-    (codes "ule", Ule) ∷
-    (codes "sgt", Sgt) ∷
-    (codes "sge", Sge) ∷
-    (codes "slt", Slt) ∷
-    (codes "sle", Sle) ∷
-    []
+    (codes "eq", Eq) ∷ (codes "ne", Ne) ∷ (codes "ugt", Ugt) ∷ (codes "uge", Uge) ∷
+    (codes "ult", Ult) ∷ (codes "ule", Ule) ∷ (codes "sgt", Sgt) ∷ (codes "sge", Sge) ∷
+    (codes "slt", Slt) ∷ (codes "sle", Sle) ∷ []
 
 -- the type of a comparison's result: a bit, or a bit for each lane
 abbrev pub bits_for : Ty → Ty
@@ -598,7 +572,7 @@ load_tree x = bare_inst (kinds.Load (align_or x.0 x.1.1)) x.0 (x.1.0 ∷ []) []
 
 -- T, ptr V [, align n]
 unfoldable pub load : Definitions → Form InstTree
-load defs = mapped load_tree (pair value_type (pair (after_mark Comma (pointer_value defs)) alignment))
+load ds = mapped load_tree (pair value_type (pair (after_mark Comma (pointer_value ds)) alignment))
 
 -- a store of a value to a pointer
 abbrev pub store_tree : (Ty × OperandTree) × (OperandTree × Option ℕ) → InstTree
@@ -621,7 +595,7 @@ extract_tree x = bare_inst (kinds.Extract x.0.0 x.1.0) (element_of x.0.0) (x.0.1
 
 -- T V, iN V
 unfoldable pub extractelement : Definitions → Form InstTree
-extractelement defs = mapped extract_tree (pair (typed_value defs) (after_mark Comma (index_value defs)))
+extractelement ds = mapped extract_tree (pair (typed_value ds) (after_mark Comma (index_value ds)))
 
 -- a vector with another lane
 abbrev pub insert_tree : (Ty × OperandTree) × ((Ty × OperandTree) × (ℕ × OperandTree)) → InstTree
@@ -668,7 +642,7 @@ call_tree tail x = bare_inst (kinds.Call (callee_of tail x)) x.1.0 (map (λ a. a
 unfoldable pub call : Definitions → TailKind → Form InstTree
 call defs tail = mapped (call_tree tail) (pair kept (pair return_type (pair (optional signature) (pair global_name (pair (between LeftParen RightParen (list (argument defs))) kept)))))
 
--- the same behind `call`, or where a word stands before it behind that and `call`
+-- what is behind the first word of a call: the same, and where that word is `tail`, `musttail` or `notail`, `call` before it
 abbrev pub call_behind : Definitions → TailKind → Form InstTree
 call_behind defs Unmarked = call defs Unmarked
 call_behind defs Tail = behind (codes "call") (call defs Tail)
@@ -942,4 +916,4 @@ module_form defs depth = many (item defs (memory_type depth))
 -- By these tokens a module's items are spelled. In constants the names of types are those that the items themselves define, wherever they
 -- stand; no type is nested deeper than there are tokens.
 abbrev pub SpellsModule : List (Item WrittenFunction) → List Lexeme → Type 0
-SpellsModule written tokens = Spells (module_form (definitions_in written) (length tokens)) written tokens
+SpellsModule written ts = Spells (module_form (definitions_in written) (length ts)) written ts

@@ -9,26 +9,37 @@ use Rattle.ir_types.specs.declared.inst.Flags.{Flags}
 use Rattle.ir_types.specs.declared.inst.Pred.{Pred}
 use Rattle.ir_types.specs.TypeNodes.{TypeNode}
 
--- as `InstKind`, but that the memory type of `getelementptr` is there by its nodes
+-- What an instruction does, with the types that the grammar writes beside the result's type. (`InstKind` is the same, but that `getelementptr`
+-- holds its memory type's place, and not its nodes.)
 pub data Kind : Type 0 where
+  -- an operator with its flags
   Binary : BinOp → Flags → Kind
+  -- `icmp`: the predicate, and the operands' type
   Compare : Pred → Ty → Kind
+  -- `select`: the condition's type, and that of the last arm
   Select : Ty → Ty → Kind
   Freeze : Kind
+  -- `trunc`: the operand's type, `nuw` and `nsw`; `zext`: the operand's type and `nneg`; `sext`: the operand's type
   Trunc : Ty → Bool → Bool → Kind
   Zext : Ty → Bool → Kind
   Sext : Ty → Kind
   PtrToInt : Kind
   Phi : Kind
+  -- `getelementptr`: the memory type, the indexes' widths, `inbounds`, `nuw` and `nusw`
   Offset : List TypeNode → List ℕ → Bool → Bool → Bool → Kind
+  -- `load` and `store`: the alignment; of a store the value's type before it
   Load : ℕ → Kind
   Store : Ty → ℕ → Kind
   Call : Callee → Kind
+  -- `extractelement`: the vector's type and the index's width; `insertelement`: the element's type and the index's width
   Extract : Ty → ℕ → Kind
   Insert : Ty → ℕ → Kind
+  -- `shufflevector`: the types of both vectors and of the mask
   Shuffle : Ty → Ty → Ty → Kind
+  -- `br label`, `br i1`
   Jump : Kind
   Branch : Kind
+  -- `switch`: the value's width, and the numbers of the cases
   Switch : ℕ → List ℕ → Kind
   ReturnVoid : Kind
   Return : Ty → Kind

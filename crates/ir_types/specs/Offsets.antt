@@ -62,7 +62,7 @@ cell_before sizes (called n) cells = sizes n >>= λ l. Some (whole (record { nod
 cell_before sizes (array n) [] = None
 cell_before sizes (array n) (end ∷ cells) = None
 cell_before sizes (array n) (whole x ∷ cells) = Some (whole (array_of n x) ∷ cells)
-cell_before sizes (opening packed) cells = up_to_end cells >>= λ y. Some (whole (struct_of packed y.0) ∷ y.1)
+cell_before sizes (opening p) cells = up_to_end cells >>= λ y. Some (whole (struct_of p y.0) ∷ y.1)
 cell_before sizes closing cells = Some (end ∷ cells)
 
 -- the types and ends that nodes are, where each name that they use has a layout
@@ -94,11 +94,11 @@ layout_of defs nodes = layout_by (layout_of_name defs) nodes
 
 -- its size; from 2^61 on a type counts as having none
 abbrev pub small_size : Definitions → List TypeNode → Option ℕ
-small_size defs nodes = layout_of defs nodes >>= λ l. if nat_lt l.size SIZE_CAP then Some l.size else None
+small_size ds ns = layout_of ds ns >>= λ l. if nat_lt l.size SIZE_CAP then Some l.size else None
 
 -- ---- steps
 
--- so many bytes for each of a number of w bits that is read as signed, modulo 2^64
+-- a size times a number of w bits, which is read as signed, modulo 2^64
 abbrev pub scaled : ℕ → ℕ × ℕ → ℕ
 scaled size i = if nat_lt i.1 (2 ^ (i.0 - 1)) then (size * i.1) % 2 ^ 64 else (size * (2 ^ 64 - (2 ^ i.0 - i.1))) % 2 ^ 64
 
@@ -120,7 +120,7 @@ counted i = if nat_lt i.1 (2 ^ (i.0 - 1)) then Some i.1 else None
 
 -- one index into a type: how many bytes it leads on, and the nodes of the type there; it leads into an array's element or a struct's member
 abbrev pub stepped_into : Definitions → List TypeNode → ℕ × ℕ → Option (ℕ × List TypeNode)
-stepped_into defs (array n ∷ element) i = small_size defs element >>= λ s. Some (scaled s i, element)
+stepped_into ds (array n ∷ element) i = small_size ds element >>= λ s. Some (scaled s i, element)
 stepped_into defs (opening packed ∷ nodes) i = cells_of (layout_of_name defs) nodes >>= up_to_end >>= λ y. counted i >>= member_at packed y.0
 stepped_into defs nodes i = None
 

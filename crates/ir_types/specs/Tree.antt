@@ -24,7 +24,8 @@ pub data OperandTree : Type 0 where
   -- a constant with a number out of its type's range, of this symbol where one is stepped from by such a number
   out_of_range : Option Name → OperandTree
 
--- an instruction: its result's name, where it has one, whether a number that is written in it is out of its type's range, and its attachments
+-- an instruction: what it does, its result's type (`Void` where it has none), its operands and its labels in the text's order, its result's name
+-- where it has one, whether a number that is written in it is out of its type's range, and its attachments
 pub record InstTree : Type 0 where
   pub kind : Kind
   pub ty : Ty

@@ -109,23 +109,3 @@ impl Copies for Names {
         Ok(copy)
     }
 }
-
-#[cfg(test)]
-mod tests {
-    use super::*;
-    use std::test::Fail;
-
-    #[test]
-    fn equal_names_have_one_place(rt: HostRuntime) -> Result<(), Fail> {
-        let mut names = Names::new(rt.alloc());
-        let first = names.add(Name::Text(Text::from_slice(rt.alloc(), b"x")?))?;
-        let second = names.add(Name::Number(7))?;
-        let again = names.add(Name::Text(Text::from_slice(rt.alloc(), b"x")?))?;
-        assert_eq!(rt; first, ValueId(0));
-        assert_eq!(rt; second, ValueId(1));
-        assert_eq!(rt; again, ValueId(0));
-        assert_eq!(rt; names.len(), 2);
-        assert_eq!(rt; names.get(ValueId(1)), &Name::Number(7));
-        Ok(())
-    }
-}

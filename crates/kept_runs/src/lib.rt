@@ -8,8 +8,6 @@ mod awaited;
 mod enclosed;
 mod passing;
 mod pieces;
-#[cfg(test)]
-mod tests;
 mod tokens;
 mod up_to;
 

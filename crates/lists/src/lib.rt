@@ -10,8 +10,6 @@
 mod copies;
 mod few;
 mod items;
-#[cfg(test)]
-mod tests;
 mod text;
 mod texts;
 

@@ -16,8 +16,6 @@ mod front;
 mod left_out;
 mod names;
 mod table;
-#[cfg(test)]
-mod tests;
 
 use crate::blanks::blank;
 pub use crate::fault::{Count, TextFault};

@@ -10,9 +10,12 @@ use Rattle.ir_types.specs.declared.name.Name.{Name}
 use Rattle.ir_types.specs.declared.memory_type.TypeId.{TypeId}
 use Rattle.ir_types.specs.declared.memory_type.MemTy.{MemTy}
 use Rattle.ir_types.specs.Types.{AreTypes}
+use Rattle.ir_types.specs.TypeNodes.{type_nodes}
 use Rattle.type_printer.specs.declared.memory_type.Frame.{Frame}
-use Rattle.type_printer.specs.MemoryPieces.{pieces_at, all_memory_pieces, memory_pieces}
+use Rattle.type_printer.specs.MemoryPieces.{node_pieces}
 use Rattle.type_printer.specs.Parts.{HasItsName, parts_of, up_to_part}
+use Rattle.type_printer.proofs.ByPlaces.{pieces_at, all_memory_pieces}
+use Rattle.type_printer.proofs.Cells.{by_nodes}
 use Rattle.type_printer.proofs.MemoryPlaced.{placed}
 use Rattle.type_printer.proofs.MemoryRest.{rest_from, part_next, part_last, two_pieces, type_at, is_at, named_at, part_within}
 
@@ -80,8 +83,8 @@ pub record IsPrinting (names : List Name) (types : List MemTy) (out : List ℕ) 
   pub within : AllByRecursion (IsWithin types) fs
   pub printed : out ++ text_of (rest_of_all names types fs) ≡ whole
 
-pub all_begins : (names : List Name) (types : List MemTy) (out : List ℕ) (id : TypeId) → AreTypes names 0 types → id.0 < length types → IsPrinting names types out (out ++ text_of (memory_pieces names types id)) (frame id 0 ∷ [])
-all_begins names types out id h lt = record { within = (lt, tt); printed = ap (λ (ps : List Piece). out ++ text_of ps) (at_first names types id h lt) }
+pub all_begins : (names : List Name) (types : List MemTy) (out : List ℕ) (id : TypeId) → AreTypes names 0 types → id.0 < length types → IsPrinting names types out (out ++ text_of (node_pieces (type_nodes names types id))) (frame id 0 ∷ [])
+all_begins names types out id h lt = record { within = (lt, tt); printed = ap (λ (ps : List Piece). out ++ text_of ps) (at_first names types id h lt ∙ by_nodes names types id h lt) }
 
 -- a type that is taken from the list
 pub taken_within : {names : List Name} {types : List MemTy} {out whole : List ℕ} {frames : List Frame} (fs : List Frame) (f : Frame) → IsPrinting names types out whole frames → frames ≡ fs ++ f ∷ [] → f.id.0 < length types

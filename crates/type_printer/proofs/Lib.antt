@@ -7,6 +7,8 @@ pub mod Spelled
 pub mod Laid
 pub mod LaidOut
 pub mod Appended
+pub mod ByPlaces
+pub mod Cells
 pub mod MemorySays
 pub mod MemoryLaid
 pub mod MemoryPrinted

@@ -1,19 +1,18 @@
 -- The pieces that a memory type is printed as are tokens and join.
 use Rattle.std.proofs.Common.{◌<◌, ◌^◌, ℕ, Bool, true, false, List, [], ◌∷◌, ◌++◌, refl, arith}
-use Rattle.std.specs.Prelude.{map, codes, decimal}
+use Rattle.std.specs.Prelude.{codes, decimal}
 use Rattle.std.specs.List.{AllByRecursion}
 use Rattle.forms.specs.declared.TokenKind.TheVariants as kinds
 use Rattle.forms.specs.Lexical.{table}
 use Rattle.text_lex.specs.Layout.{Piece}
 use Rattle.text_lex.proofs.Decimals.{decimal_digits}
 use Rattle.text_lex.proofs.Printed.{number_digits}
-use Rattle.ir_types.specs.declared.memory_type.TypeId.{TypeId}
-use Rattle.type_printer.specs.Pieces.{token, comma, blank, right_bracket, with_commas}
-use Rattle.type_printer.specs.MemoryPieces.{pieces_at, array_head, struct_head, struct_end, inside}
-use Rattle.type_printer.proofs.Laid.{IsLaid, IsBehind, loose, nothing_behind, blank_laid, mark_laid, token_laid, laid-append, separated_laid, all_laid}
+use Rattle.type_printer.specs.Pieces.{token, comma, blank, with_commas}
+use Rattle.type_printer.specs.MemoryPieces.{struct_head, struct_end, inside, array_pieces, struct_pieces}
+use Rattle.type_printer.proofs.Laid.{IsLaid, IsBehind, loose, nothing_behind, blank_laid, mark_laid, token_laid, laid-append, separated_laid}
 use Rattle.type_printer.proofs.LaidOut.{bracket_kinds, commas_part, word_laid}
 
-pub array_laid : (n : ℕ) (ps : List Piece) → n < 2 ^ 64 → IsLaid ps → IsLaid (array_head n ++ (ps ++ right_bracket ∷ []))
+pub array_laid : (n : ℕ) (ps : List Piece) → n < 2 ^ 64 → IsLaid ps → IsLaid (array_pieces n ps)
 unfolding table
 array_laid n ps lt h =
     let behind = laid-append ps _ h (mark_laid kinds.RightBracket (codes "]") refl bracket_kinds.3 (loose nothing_behind)) in
@@ -34,6 +33,5 @@ inside_laid : (parts : List (List Piece)) → AllByRecursion IsLaid parts → Is
 inside_laid [] h = loose nothing_behind
 inside_laid (p ∷ parts) h = loose (blank_laid (laid-append (with_commas (p ∷ parts)) (blank ∷ []) (separated_laid (comma ∷ blank ∷ []) (p ∷ parts) commas_part h) (blank_laid (loose nothing_behind))))
 
-pub struct_laid : (p : Bool) (pieces : List (List Piece)) (ids : List TypeId) → AllByRecursion (λ id. IsLaid (pieces_at pieces id.0)) ids → IsLaid (struct_head p ++ (inside (map (λ id. pieces_at pieces id.0) ids) ++ struct_end p))
-struct_laid p pieces ids h =
-    head_laid p (laid-append (inside (map (λ id. pieces_at pieces id.0) ids)) _ (inside_laid _ (all_laid (λ id. IsLaid (pieces_at pieces id.0)) (λ id. pieces_at pieces id.0) (λ id i. i) ids h)) (end_laid p))
+pub struct_laid : (p : Bool) (parts : List (List Piece)) → AllByRecursion IsLaid parts → IsLaid (struct_pieces p parts)
+struct_laid p parts h = head_laid p (laid-append (inside parts) _ (inside_laid parts h) (end_laid p))

@@ -11,8 +11,8 @@ use Rattle.ir_types.specs.declared.memory_type.TypeId.{TypeId}
 use Rattle.ir_types.specs.declared.memory_type.MemTy.{MemTy}
 use Rattle.ir_types.specs.declared.memory_type.MemTy.TheVariants.{One, Array, Struct, Named}
 use Rattle.ir_types.specs.Types.{IsBefore, IsTypeAt, AreTypes}
-use Rattle.type_printer.specs.Pieces.{right_bracket}
-use Rattle.type_printer.specs.MemoryPieces.{pieces_at, array_head, struct_head, struct_end, inside, memory_pieces_from, all_memory_pieces}
+use Rattle.type_printer.specs.MemoryPieces.{array_pieces, struct_pieces}
+use Rattle.type_printer.proofs.ByPlaces.{pieces_at, memory_pieces_from, all_memory_pieces}
 
 -- those of the types before stay
 pieces_kept : (names : List Name) (before : List (List Piece)) (types : List MemTy) (k : ℕ) → k < length before → pieces_at (all_memory_pieces names before types) k ≡ pieces_at before k
@@ -31,8 +31,8 @@ members_agree n all before (id ∷ ids) a h = let first = a id.0 h.0 in let rest
 
 from_agreeing : (names : List Name) (n : ℕ) (all before : List (List Piece)) (t : MemTy) → Agree n all before → IsTypeAt names n t → memory_pieces_from names all t ≡ memory_pieces_from names before t
 from_agreeing names n all before (One t) a i = refl
-from_agreeing names n all before (Array m element) a i = ap (λ (ps : List Piece). array_head m ++ (ps ++ right_bracket ∷ [])) (a element.0 i)
-from_agreeing names n all before (Struct p members) a i = ap (λ (ps : List (List Piece)). struct_head p ++ (inside ps ++ struct_end p)) (members_agree n all before members a i)
+from_agreeing names n all before (Array m element) a i = ap (array_pieces m) (a element.0 i)
+from_agreeing names n all before (Struct p members) a i = ap (struct_pieces p) (members_agree n all before members a i)
 from_agreeing names n all before (Named k) a i = refl
 
 placed_behind : (names : List Name) (before : List (List Piece)) (types : List MemTy) (i : ℕ) → AreTypes names (length before) types → i < length types → pieces_at (all_memory_pieces names before types) (length before + i) ≡ memory_pieces_from names (all_memory_pieces names before types) (get_or types i (One Void))

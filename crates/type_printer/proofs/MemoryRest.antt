@@ -13,8 +13,9 @@ use Rattle.ir_types.specs.declared.memory_type.MemTy.{MemTy}
 use Rattle.ir_types.specs.declared.memory_type.MemTy.TheVariants.{One, Array, Struct, Named}
 use Rattle.ir_types.specs.Types.{IsBefore, IsTypeAt, AreTypes}
 use Rattle.type_printer.specs.Pieces.{comma, blank, each_behind}
-use Rattle.type_printer.specs.MemoryPieces.{pieces_at, struct_head, struct_end, memory_pieces_from}
+use Rattle.type_printer.specs.MemoryPieces.{struct_head, struct_end}
 use Rattle.type_printer.specs.Parts.{HasItsName, parts_of, end_pieces, up_to_part}
+use Rattle.type_printer.proofs.ByPlaces.{pieces_at, memory_pieces_from}
 
 -- ---- a type, of which so many parts are printed
 

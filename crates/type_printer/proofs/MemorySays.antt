@@ -1,7 +1,7 @@
 -- What a memory type is printed as spells its nodes.
 use Rattle.std.proofs.Common.{◌≡◌, ◌<◌, ◌^◌, ℕ, zero, suc, Bool, true, false, List, [], ◌∷◌, ◌++◌, Some, refl, sym, ap, append_assoc, arith}
-use Rattle.std.specs.Prelude.{map, codes, decimal, nat_lt}
-use Rattle.std.specs.List.{AllByRecursion}
+use Rattle.std.specs.Prelude.{codes, decimal, nat_lt}
+use Rattle.std.specs.List.{AllZip}
 use Rattle.std.proofs.lemmas.List.{append-nil}
 use Rattle.std.proofs.lemmas.Bool.Decides.{nat_tests}
 use Rattle.forms.specs.declared.TokenKind.TheVariants as kinds
@@ -12,13 +12,12 @@ use Rattle.text_lex.specs.Names.{is_digits}
 use Rattle.text_lex.specs.Layout.{Piece, tokens_of}
 use Rattle.text_lex.proofs.Decimals.{decimal_digits, number_of-decimal}
 use Rattle.text_lex.proofs.Layouts.{tokens_of-append}
-use Rattle.ir_types.specs.declared.memory_type.TypeId.{TypeId}
 use Rattle.ir_types.specs.Written.{number_of}
-use Rattle.ir_types.specs.TypeNodes.{TypeNode, array, opening, closing, nodes_at}
+use Rattle.ir_types.specs.TypeNodes.{TypeNode, array, opening, closing}
 use Rattle.ir_types.specs.Grammar.{elements_of, memory_leaf, array_begin, type_parts, memory_type}
 use Rattle.type_printer.specs.Pieces.{token, comma, blank, right_bracket, each_behind}
 use Rattle.type_printer.specs.MemoryPieces as pieces_of
-use Rattle.type_printer.specs.MemoryPieces.{pieces_at, array_head, inside, memory_pieces_from, all_memory_pieces, memory_pieces}
+use Rattle.type_printer.specs.MemoryPieces.{array_head, array_pieces, struct_pieces}
 use Rattle.type_printer.proofs.Numbers.{no_sign}
 use Rattle.type_printer.proofs.Says.{Says, none_says, more_says, pair_says, left_says, right_says, mapped_says, made_says, one_says, exactly_says, mark_says, ahead_says, after_mark_says}
 
@@ -44,7 +43,7 @@ unfolding array_begin
 array_begin_says n lt =
     mapped_says (n, tt) _ refl (after_mark_says kinds.LeftBracket _ (pair_says (token kinds.Number (decimal n) ∷ []) _ (made_says (decimal n) n (elements_again n lt) (one_says kinds.Number _)) (exactly_says kinds.Word (codes "x"))))
 
-pub array_says : (d n : ℕ) (nodes : List TypeNode) (ps : List Piece) → n < 2 ^ 64 → Says (memory_type d) nodes (tokens_of ps) → Says (memory_type (suc d)) (array n ∷ nodes) (tokens_of (array_head n ++ (ps ++ right_bracket ∷ [])))
+pub array_says : (d n : ℕ) (nodes : List TypeNode) (ps : List Piece) → n < 2 ^ 64 → Says (memory_type d) nodes (tokens_of ps) → Says (memory_type (suc d)) (array n ∷ nodes) (tokens_of (array_pieces n ps))
 unfolding type_parts
 array_says d n nodes ps lt p =
     let behind : Says (remainder type_parts (memory_type d) InArray) [] (token kinds.RightBracket (codes "]") ∷ []) = mapped_says tt [] refl (mark_says kinds.RightBracket _) in
@@ -63,16 +62,18 @@ end_says true = mapped_says (tt, tt) _ refl (pair_says (token kinds.RightBrace (
 end_says false = mapped_says tt _ refl (mark_says kinds.RightBrace _)
 
 -- what is printed of a part spells its nodes, at this depth
-abbrev pub IsSaid : ℕ → List (List TypeNode) → List (List Piece) → TypeId → Type 0
-IsSaid d nodes pieces id = Says (memory_type d) (nodes_at nodes id.0) (tokens_of (pieces_at pieces id.0))
+abbrev pub IsSaid : ℕ → List TypeNode → List Piece → Type 0
+IsSaid d nodes ps = Says (memory_type d) nodes (tokens_of ps)
 
-abbrev pub behind_commas : List (List Piece) → List TypeId → List Piece
-behind_commas pieces ids = each_behind (comma ∷ blank ∷ []) (map (λ id. pieces_at pieces id.0) ids)
+abbrev pub behind_commas : List (List Piece) → List Piece
+behind_commas qs = each_behind (comma ∷ blank ∷ []) qs
 
-more_members : (d : ℕ) (nodes : List (List TypeNode)) (pieces : List (List Piece)) (ids : List TypeId) → AllByRecursion (IsSaid d nodes pieces) ids → Says (many (comma_then (memory_type d))) (map (λ id. nodes_at nodes id.0) ids) (tokens_of (behind_commas pieces ids))
-more_members d nodes pieces [] h = none_says (comma_then (memory_type d))
-more_members d nodes pieces (id ∷ ids) h =
-    more_says (token kinds.Comma (codes ",") ∷ tokens_of (pieces_at pieces id.0)) _ _ (ap (λ (ts : List Lexeme). token kinds.Comma (codes ",") ∷ ts) (tokens_of-append (pieces_at pieces id.0) _)) (after_mark_says kinds.Comma _ h.0) (more_members d nodes pieces ids h.1)
+more_members : (d : ℕ) (xs : List (List TypeNode)) (qs : List (List Piece)) → AllZip (IsSaid d) xs qs → Says (many (comma_then (memory_type d))) xs (tokens_of (behind_commas qs))
+more_members d [] [] h = none_says (comma_then (memory_type d))
+more_members d [] (q ∷ qs) h = absurd h
+more_members d (x ∷ xs) [] h = absurd h
+more_members d (x ∷ xs) (q ∷ qs) h =
+    more_says (token kinds.Comma (codes ",") ∷ tokens_of q) _ _ (ap (λ (ts : List Lexeme). token kinds.Comma (codes ",") ∷ ts) (tokens_of-append q _)) (after_mark_says kinds.Comma _ h.0) (more_members d xs qs h.1)
 
 pub struct_tokens : (p : Bool) (q rest : List Piece) → tokens_of (pieces_of.struct_head p ++ ((blank ∷ ((q ++ rest) ++ blank ∷ [])) ++ pieces_of.struct_end p)) ≡ tokens_of (pieces_of.struct_head p) ++ (tokens_of q ++ (tokens_of rest ++ tokens_of (pieces_of.struct_end p)))
 struct_tokens p q rest = simp (tokens_of-append, append_assoc)
@@ -81,13 +82,12 @@ struct_form : (d : ℕ) (p : Bool) (nodes : List TypeNode) (ts : List Lexeme) �
 struct_form d true nodes ts s = right_says (right_says (right_says s))
 struct_form d false nodes ts s = right_says (right_says (left_says s))
 
-pub struct_says : (d : ℕ) (p : Bool) (nodes : List (List TypeNode)) (pieces : List (List Piece)) (ids : List TypeId) → AllByRecursion (IsSaid d nodes pieces) ids
-    → Says (memory_type (suc d)) (opening p ∷ (concat (map (λ id. nodes_at nodes id.0) ids) ++ closing ∷ [])) (tokens_of (pieces_of.struct_head p ++ (inside (map (λ id. pieces_at pieces id.0) ids) ++ pieces_of.struct_end p)))
-struct_says d p nodes pieces [] h =
+pub struct_says : (d : ℕ) (p : Bool) (xs : List (List TypeNode)) (qs : List (List Piece)) → AllZip (IsSaid d) xs qs → Says (memory_type (suc d)) (opening p ∷ (concat xs ++ closing ∷ [])) (tokens_of (struct_pieces p qs))
+struct_says d p [] [] h =
     rw (tokens_of-append (pieces_of.struct_head p) (pieces_of.struct_end p)) (struct_form d p _ _ (joined_says (tokens_of (pieces_of.struct_head p)) _ _ refl (head_says p) (left_says (end_says p))))
-struct_says d p nodes pieces (id ∷ ids) h =
-    let first = nodes_at nodes id.0 in
-    let others = concat (map (λ i. nodes_at nodes i.0) ids) in
-    let rest = joined_says {f = mapped concat (many (comma_then (memory_type d)))} (tokens_of (behind_commas pieces ids)) (tokens_of (pieces_of.struct_end p)) (others ++ closing ∷ []) refl (mapped_says (map (λ i. nodes_at nodes i.0) ids) others refl (more_members d nodes pieces ids h.1)) (end_says p) in
-    let members = joined_says {f = memory_type d} {g = remainder type_parts (memory_type d) (InStruct p)} (tokens_of (pieces_at pieces id.0)) _ ((first ++ others) ++ closing ∷ []) (sym (append_assoc first others (closing ∷ []))) h.0 rest in
-    rw (struct_tokens p (pieces_at pieces id.0) (behind_commas pieces ids)) (struct_form d p _ _ (joined_says (tokens_of (pieces_of.struct_head p)) _ _ refl (head_says p) (right_says members)))
+struct_says d p [] (q ∷ qs) h = absurd h
+struct_says d p (x ∷ xs) [] h = absurd h
+struct_says d p (x ∷ xs) (q ∷ qs) h =
+    let rest = joined_says {f = mapped concat (many (comma_then (memory_type d)))} (tokens_of (behind_commas qs)) (tokens_of (pieces_of.struct_end p)) (concat xs ++ closing ∷ []) refl (mapped_says xs (concat xs) refl (more_members d xs qs h.1)) (end_says p) in
+    let members = joined_says {f = memory_type d} {g = remainder type_parts (memory_type d) (InStruct p)} (tokens_of q) _ ((x ++ concat xs) ++ closing ∷ []) (sym (append_assoc x (concat xs) (closing ∷ []))) h.0 rest in
+    rw (struct_tokens p q (behind_commas qs)) (struct_form d p _ _ (joined_says (tokens_of (pieces_of.struct_head p)) _ _ refl (head_says p) (right_says members)))

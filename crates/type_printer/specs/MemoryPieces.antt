@@ -1,17 +1,11 @@
--- The pieces that memory types are printed as.
-use Rattle.std.specs.Prelude.{ℕ, Bool, true, false, List, [], ◌∷◌, ◌++◌, map, codes, decimal, slice_index_or}
+-- The pieces that memory types are printed as, by their nodes.
+use Rattle.std.specs.Prelude.{ℕ, Bool, true, false, List, [], ◌∷◌, ◌++◌, codes, decimal}
 use Rattle.forms.specs.declared.TokenKind.TheVariants as kinds
 use Rattle.text_lex.specs.Layout.{Piece, lexeme}
-use Rattle.ir_types.specs.declared.name.Name.{Name}
-use Rattle.ir_types.specs.declared.memory_type.TypeId.{TypeId}
-use Rattle.ir_types.specs.declared.memory_type.MemTy.{MemTy}
-use Rattle.ir_types.specs.declared.memory_type.MemTy.TheVariants.{One, Array, Struct, Named}
-use Rattle.ir_types.specs.Names.{name_at}
+use Rattle.ir_types.specs.TypeNodes.{TypeNode, scalar, called, array, opening, closing}
 use Rattle.type_printer.specs.Pieces.{token, word, left_bracket, right_bracket, left_brace, right_brace, less, greater, blank, with_commas, local_token, type_pieces}
 
--- the pieces at a place, or none
-abbrev pub pieces_at : List (List Piece) → ℕ → List Piece
-pieces_at before i = slice_index_or before i []
+-- ---- around the types in a type
 
 -- [n x, and a space behind it
 abbrev pub array_head : ℕ → List Piece
@@ -32,18 +26,48 @@ abbrev pub inside : List (List Piece) → List Piece
 inside [] = []
 inside (p ∷ ps) = blank ∷ (with_commas (p ∷ ps) ++ blank ∷ [])
 
--- the pieces of a type, from those of the types before it
-abbrev pub memory_pieces_from : List Name → List (List Piece) → MemTy → List Piece
-memory_pieces_from names before (One t) = type_pieces t
-memory_pieces_from names before (Array n element) = array_head n ++ (pieces_at before element.0 ++ right_bracket ∷ [])
-memory_pieces_from names before (Struct packed members) = struct_head packed ++ (inside (map (λ id. pieces_at before id.0) members) ++ struct_end packed)
-memory_pieces_from names before (Named k) = lexeme (local_token (name_at names k)) ∷ []
+-- [n x M]
+abbrev pub array_pieces : ℕ → List Piece → List Piece
+array_pieces n element = array_head n ++ (element ++ right_bracket ∷ [])
 
--- the pieces of each type, behind those of the types before
-abbrev pub all_memory_pieces : List Name → List (List Piece) → List MemTy → List (List Piece)
-all_memory_pieces names before [] = before
-all_memory_pieces names before (t ∷ ts) = all_memory_pieces names (before ++ memory_pieces_from names before t ∷ []) ts
+-- { M, .. }, or <{ M, .. }> where it is packed
+abbrev pub struct_pieces : Bool → List (List Piece) → List Piece
+struct_pieces packed members = struct_head packed ++ (inside members ++ struct_end packed)
 
--- the pieces of the type at a place of a list
-abbrev pub memory_pieces : List Name → List MemTy → TypeId → List Piece
-memory_pieces names types id = pieces_at (all_memory_pieces names [] types) id.0
+-- ---- nodes, from the right
+
+-- the pieces of a type, or the end of a struct
+pub data Cell : Type 0 where
+  whole : List Piece → Cell
+  end : Cell
+
+-- the types before the first end, and what stands behind that
+abbrev pub up_to_end : List Cell → List (List Piece) × List Cell
+up_to_end [] = ([], [])
+up_to_end (end ∷ cells) = ([], cells)
+up_to_end (whole ps ∷ cells) = (ps ∷ (up_to_end cells).0, (up_to_end cells).1)
+
+-- a node before cells: an array takes the type that stands first, a struct all up to an end; an array before none is nothing
+abbrev pub cell_before : TypeNode → List Cell → List Cell
+cell_before (scalar t) cells = whole (type_pieces t) ∷ cells
+cell_before (called n) cells = whole (lexeme (local_token n) ∷ []) ∷ cells
+cell_before (array n) [] = []
+cell_before (array n) (end ∷ cells) = end ∷ cells
+cell_before (array n) (whole ps ∷ cells) = whole (array_pieces n ps) ∷ cells
+cell_before (opening packed) cells = whole (struct_pieces packed (up_to_end cells).0) ∷ (up_to_end cells).1
+cell_before closing cells = end ∷ cells
+
+-- the types and ends that nodes are
+abbrev pub cells_of : List TypeNode → List Cell
+cells_of [] = []
+cells_of (n ∷ nodes) = cell_before n (cells_of nodes)
+
+-- the pieces of the type that stands first
+abbrev pub first_type : List Cell → List Piece
+first_type [] = []
+first_type (end ∷ cells) = []
+first_type (whole ps ∷ cells) = ps
+
+-- the pieces of a memory type
+unfoldable pub node_pieces : List TypeNode → List Piece
+node_pieces nodes = first_type (cells_of nodes)

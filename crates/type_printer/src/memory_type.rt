@@ -3,9 +3,10 @@
 ghost use Rattle.std.specs.Prelude.{◌≡◌, ◌<◌, ◌++◌, map, length, OnOk};
 ghost use Rattle.text_lex.specs.Layout.{text_of};
 ghost use Rattle.ir_types.specs.Types.{AreTypes};
+ghost use Rattle.ir_types.specs.TypeNodes.{type_nodes};
 ghost use Rattle.ir_types.specs.Names.{name_at};
 ghost use Rattle.type_printer.specs.Pieces.{local_token};
-ghost use Rattle.type_printer.specs.MemoryPieces.{struct_head, struct_end, memory_pieces};
+ghost use Rattle.type_printer.specs.MemoryPieces.{struct_head, struct_end, node_pieces};
 ghost use Rattle.type_printer.specs.Parts.{HasItsName, parts_of, front_pieces, end_pieces, up_to_part};
 
 use crate::name::{put_digits, put_name};
@@ -125,7 +126,7 @@ pub fn put_memory_type(
     requires listed { AreTypes (map (λ n. n.name) names.now) 0 types.now }
     requires place { id.0 < length types.now }
     ensures { OnOk result (out.new.items ≡ out.old.items
-        ++ text_of (memory_pieces (map (λ n. n.name) names.now) types.now id)) }
+        ++ text_of (node_pieces (type_nodes (map (λ n. n.name) names.now) types.now id))) }
 {
     let mut frames = Vec::new(alloc);
     frames.push(Frame { id, printed: 0 })?;

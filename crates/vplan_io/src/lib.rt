@@ -65,6 +65,3 @@ pub trait Sink {
         ensures bytes { Takes (taken self.old) (taken self.new) bytes.now result }
         ensures cause { HasCause (faults self.old) (faults self.new) result };
 }
-
-#[cfg(test)]
-mod tests;

@@ -21,7 +21,7 @@ took-allowed (Some text) (Some old) now t =
     let p = t.is_printed in (
       t.printed,
       t.taken,
-      record { file = p.meant; print = p.meant; file_reads = p.file_reads.2.reads; print_reads = p.print_reads; allows = λ first. tree-allows p.meant },
+      record { file = p.tree; print = p.tree; file_reads = p.file_reads.within.reads; print_reads = p.print_reads; keeps = p.keeps; allows = λ first. (first, tree-allows p.tree) },
     )
 
 -- the same for any words

@@ -68,26 +68,26 @@ none-is-left-out text word place free out =
 not-over : {A : Type 0} (text : List ℕ) → IsAccepted text → (count : Count) (n : ℕ) → IsRefusal text (CountLimit count n) → A
 not-over text ok count n r =
     let p = r.2 in
-    let same = ap limit_passed (one_numbering text ok.meant p.read_as ok.reads.reads p.reads) in
-    let within = ok.reads.within in
+    let same = ap limit_passed (one_numbering text ok.tree p.read_as ok.read.within.reads p.reads) in
+    let within = ok.read.within.within in
     let over = p.passed in
     absurd (cc)
 
 -- an accepted text breaks no rule
 not-broken : (text : List ℕ) → IsAccepted text → (rule : Rule) (names : List ℕ) (place : ℕ) → IsBroken text rule names place → ⊥
 not-broken text ok rule names place b =
-    let same = one_reading text ok.meant b.read_as ok.reads.reads b.reads.reads in
-    verdict b.read_as rule b.breach (subst KeepsRules same ok.keeps) b.cause
+    let same = one_reading text ok.tree b.tree ok.read.within.reads b.read.within.reads in
+    verdict b.tree rule b.breach (subst KeepsRules same ok.keeps) b.cause
 
 -- an accepted file, with no fault, is printed, or memory is short
 accepted-done : (text : List ℕ) (before now last out_before out_now : ℕ) (status : Status) → FileCause (Some text) before now last status → WriteCause out_before out_now status → IsAccepted text → ¬ Rose before now → ¬ Rose out_before out_now → (status ≡ Done) ⊎ (status ≡ Memory)
 accepted-done text b n l ob on Done cause write ok read wrote = inl refl
 accepted-done text b n l ob on Memory cause write ok read wrote = inr refl
 accepted-done text b n l ob on BadWords cause write ok read wrote = absurd cause
-accepted-done text b n l ob on (Text (TextLimit size)) cause write ok read wrote = absurd (omega (arith, ok.short, cause.2))
-accepted-done text b n l ob on (Text (BadToken place)) cause write ok read wrote = absurd (stops_lexes text place ok.nothing_left_out.tokens cause.1.1 ok.nothing_left_out.lexed)
-accepted-done text b n l ob on (Text (LeftOut word place)) cause write ok read wrote = absurd (none-is-left-out text word place ok.nothing_left_out cause.1.1)
-accepted-done text b n l ob on (Text (NoReading place)) cause write ok read wrote = absurd (cause.1.1 ok.meant ok.reads.reads)
+accepted-done text b n l ob on (Text (TextLimit size)) cause write ok read wrote = absurd (omega (arith, ok.read.short, cause.2))
+accepted-done text b n l ob on (Text (BadToken place)) cause write ok read wrote = absurd (stops_lexes text place ok.read.nothing_left_out.tokens cause.1.1 ok.read.nothing_left_out.lexed)
+accepted-done text b n l ob on (Text (LeftOut word place)) cause write ok read wrote = absurd (none-is-left-out text word place ok.read.nothing_left_out cause.1.1)
+accepted-done text b n l ob on (Text (NoReading place)) cause write ok read wrote = absurd (cause.1.1 ok.tree ok.read.within.reads)
 accepted-done text b n l ob on (Text (CountLimit count c)) cause write ok read wrote = not-over text ok count c cause.1
 accepted-done text b n l ob on (Text TextMemory) cause write ok read wrote = absurd cause
 accepted-done text b n l ob on (Check rule names place) cause write ok read wrote = absurd (not-broken text ok rule names place cause.1)
@@ -110,7 +110,7 @@ completes (Some file) told before now l ob on status cause write = file-complete
 -- the tree that a file reads as breaks a rule, and that is the answer
 broken-text : (told : Option (List ℕ)) (m : ModuleTree) (rule : Rule) (breach : Breach) → IsMeant told m → BreachCause m (Broken rule breach) → IfSome told (λ text. IsBroken text rule (breach_text breach) breach.place)
 broken-text None m rule breach meant cause = tt
-broken-text (Some text) m rule breach meant cause = record { nothing_left_out = meant.1; read_as = m; reads = meant.2; breach = breach; cause = cause; names_are = refl; place_is = refl }
+broken-text (Some text) m rule breach meant cause = record { tree = m; read = meant; breach = breach; cause = cause; names_are = refl; place_is = refl }
 
 pub refused-tree : (told : Option (List ℕ)) (before now last : ℕ) (m : ModuleTree) (fault : CheckFault) (s : Status) → IsMeant told m → last ≤ longest → BreachCause m fault → IsCheckStatus fault s → IsBeforeOut s × FileCause told before now last s
 refused-tree told b n last m (Broken rule breach) s meant short cause (inl is) = subst (λ x. IsBeforeOut x × FileCause told b n last x) (sym is) (tt, (short, broken-text told m rule breach meant cause))

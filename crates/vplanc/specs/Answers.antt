@@ -15,7 +15,7 @@ use Rattle.ir_types.specs.declared.name.Name.{Name}
 use Rattle.ir_types.specs.Reads.{Reads}
 use Rattle.ir_types.specs.Tree.{ModuleTree}
 use Rattle.ir_meaning.specs.Allows.{Allows, factor_of}
-use Rattle.ir_meaning.specs.First.{HasMeaning}
+use Rattle.ir_meaning.specs.First.{IsFirstModule}
 use Rattle.type_printer.specs.Texts.{name_text}
 use Rattle.ir_rules.specs.declared.fault.Rule.{Rule}
 use Rattle.ir_rules.specs.declared.fault.Rule.TheVariants as rules
@@ -104,7 +104,7 @@ abbrev pub line_of : Status → List ℕ
 line_of Done = []
 line_of BadWords = line (codes "words")
 line_of (Text (BadToken place)) = line (codes "text: bad token at " ++ decimal place)
-line_of (Text (LeftOut word place)) = line (codes "text: left out " ++ word ++ codes " at " ++ decimal place)
+line_of (Text (LeftOut w n)) = line (codes "text: left out " ++ w ++ codes " at " ++ decimal n)
 line_of (Text (TextLimit n)) = line (codes "text: " ++ decimal n ++ codes " bytes")
 line_of (Text (NoReading place)) = line (codes "text: no reading at " ++ decimal place)
 line_of (Text (CountLimit count n)) = line (codes "text: " ++ count_name count ++ codes " limit " ++ decimal n)
@@ -114,25 +114,28 @@ line_of (ReadFault which) = line (codes "read fault: " ++ name_of which)
 line_of (WriteFault which) = line (codes "write fault: " ++ name_of which)
 line_of Memory = line (codes "memory")
 
--- a text within the limit that has no token that is left out, and reads as a tree within the limits that breaks no rule
-pub record IsAccepted (text : List ℕ) : Type 0 where
+-- a text within the limit that has no token that is left out, and reads as the tree within the limits
+pub record IsRead (text : List ℕ) (tree : ModuleTree) : Type 0 where
   pub short : length text ≤ longest
   pub nothing_left_out : HasNoneLeftOut text
-  pub meant : ModuleTree
-  pub reads : IsWithinLimits text meant
-  pub keeps : KeepsRules meant
+  pub within : IsWithinLimits text tree
 
--- the tree that the file reads as, where the file is told
+-- a text that reads so as a tree that breaks no rule
+pub record IsAccepted (text : List ℕ) : Type 0 where
+  pub tree : ModuleTree
+  pub read : IsRead text tree
+  pub keeps : KeepsRules tree
+
+-- the file reads so as the tree, where it is told
 abbrev pub IsMeant : Option (List ℕ) → ModuleTree → Type 0
-IsMeant told tree = IfSome told (λ text. (length text ≤ longest) × HasNoneLeftOut text × IsWithinLimits text tree)
+IsMeant told tree = IfSome told (λ text. IsRead text tree)
 
--- the text reads as a tree that breaks this rule first, in this function, of this name, and at this place
+-- the text reads so as a tree that breaks this rule first, in this function, of this name, and at this place
 pub record IsBroken (text : List ℕ) (rule : Rule) (names : List ℕ) (place : ℕ) : Type 0 where
-  pub nothing_left_out : HasNoneLeftOut text
-  pub read_as : ModuleTree
-  pub reads : IsWithinLimits text read_as
+  pub tree : ModuleTree
+  pub read : IsRead text tree
   pub breach : Breach
-  pub cause : BreachCause read_as (Broken rule breach)
+  pub cause : BreachCause tree (Broken rule breach)
   pub names_are : names ≡ breach_text breach
   pub place_is : place ≡ breach.place
 
@@ -143,19 +146,16 @@ IsCheckStatus CheckMemory status = status ≡ Memory
 
 -- what is printed of a file: a text that reads as the tree that the file reads as, which breaks no rule
 pub record IsPrinted (told : Option (List ℕ)) (printed : List ℕ) : Type 0 where
-  pub meant : ModuleTree
-  pub file_reads : IsMeant told meant
-  pub keeps : KeepsRules meant
-  pub print_reads : Reads printed meant
+  pub tree : ModuleTree
+  pub file_reads : IsMeant told tree
+  pub keeps : KeepsRules tree
+  pub print_reads : Reads printed tree
 
 -- The causes of the answers that speak of the file: what is told of it, its count of faults before and now, and the last load's length.
 abbrev pub FileCause : Option (List ℕ) → (before now last : ℕ) → Status → Type 0
 FileCause told before now last (Text (TextLimit n)) = (n ≡ longest + 1) × (last ≡ n) × IfSome told (λ text. longest < length text)
-FileCause told before now last (Text (BadToken place)) = (last ≤ longest) × IfSome told (λ text. IsRefusal text (BadToken place))
-FileCause told before now last (Text (LeftOut word place)) = (last ≤ longest) × IfSome told (λ text. IsRefusal text (LeftOut word place))
-FileCause told before now last (Text (NoReading place)) = (last ≤ longest) × IfSome told (λ text. IsRefusal text (NoReading place))
-FileCause told before now last (Text (CountLimit count n)) = (last ≤ longest) × IfSome told (λ text. IsRefusal text (CountLimit count n))
 FileCause told before now last (Text TextMemory) = ⊥
+FileCause told before now last (Text fault) = (last ≤ longest) × IfSome told (λ text. IsRefusal text fault)
 FileCause told before now last (Check rule names place) = (last ≤ longest) × IfSome told (λ text. IsBroken text rule names place)
 FileCause told before now last (ReadFault TheModule) = Rose before now
 FileCause told before now last (ReadFault Out) = ⊥
@@ -167,18 +167,13 @@ FileCause told before now last Memory = Unit {0}
 -- where the words give no command, that is the answer; else the answer has its cause in the file
 abbrev pub Cause : Option (List ℕ) → (List ℕ → Option (List ℕ)) → (before now : List ℕ → ℕ) → (last : ℕ) → Status → Type 0
 Cause None told before now last status = status ≡ BadWords
-Cause (Some file) told before now last status = FileCause (told file) (before file) (now file) last status
+Cause (Some f) told before now last status = FileCause (told f) (before f) (now f) last status
 
 -- only `out` has a write fault, and its count of faults rose
 abbrev pub WriteCause : (before now : ℕ) → Status → Type 0
 WriteCause before now (WriteFault TheModule) = ⊥
 WriteCause before now (WriteFault Out) = Rose before now
-WriteCause before now Done = Unit {0}
-WriteCause before now BadWords = Unit {0}
-WriteCause before now (Text fault) = Unit {0}
-WriteCause before now (Check rule names place) = Unit {0}
-WriteCause before now (ReadFault which) = Unit {0}
-WriteCause before now Memory = Unit {0}
+WriteCause before now status = Unit {0}
 
 -- where nothing stands in the way, the program is done, or memory is short
 abbrev pub FileCompletes : Option (List ℕ) → (file_rose out_rose : Type 0) → Status → Type 0
@@ -187,28 +182,19 @@ FileCompletes told file_rose out_rose status = IfSome told (λ text. IsAccepted 
 -- the same for any words
 abbrev pub Completes : Option (List ℕ) → (List ℕ → Option (List ℕ)) → (file_rose : List ℕ → Type 0) → (out_rose : Type 0) → Status → Type 0
 Completes None told file_rose out_rose status = Unit {0}
-Completes (Some file) told file_rose out_rose status = FileCompletes (told file) (file_rose file) out_rose status
+Completes (Some f) told rose out_rose status = FileCompletes (told f) (rose f) out_rose status
 
 -- the answers that come before `out` has its turn
 abbrev pub IsBeforeOut : Status → Type 0
 IsBeforeOut Done = ⊥
 IsBeforeOut (WriteFault which) = ⊥
-IsBeforeOut BadWords = Unit {0}
-IsBeforeOut (Text fault) = Unit {0}
-IsBeforeOut (Check rule names place) = Unit {0}
-IsBeforeOut (ReadFault which) = Unit {0}
-IsBeforeOut Memory = Unit {0}
+IsBeforeOut status = Unit {0}
 
 -- what `out` took of a text
 abbrev pub Delivered : (before now : Option (List ℕ)) → List ℕ → Status → Type 0
 Delivered before now text Done = now ≡ and_then before text
 Delivered before now text (WriteFault Out) = (n : ℕ) × (now ≡ and_then before (take n text))
-Delivered before now text (WriteFault TheModule) = ⊥
-Delivered before now text BadWords = ⊥
-Delivered before now text (Text fault) = ⊥
-Delivered before now text (Check rule names place) = ⊥
-Delivered before now text (ReadFault which) = ⊥
-Delivered before now text Memory = ⊥
+Delivered before now text status = ⊥
 
 -- `out` took what is printed of the file
 pub record TookAll (told before now : Option (List ℕ)) : Type 0 where
@@ -228,26 +214,23 @@ abbrev pub OutHolds : (told before now : Option (List ℕ)) → Status → Type 
 OutHolds told before now Done = TookAll told before now
 OutHolds told before now (WriteFault Out) = TookFront told before now
 OutHolds told before now (WriteFault TheModule) = ⊥
-OutHolds told before now BadWords = now ≡ before
-OutHolds told before now (Text fault) = now ≡ before
-OutHolds told before now (Check rule names place) = now ≡ before
-OutHolds told before now (ReadFault which) = now ≡ before
-OutHolds told before now Memory = now ≡ before
+OutHolds told before now status = now ≡ before
 
 -- the same for any words
 abbrev pub OutLeft : Option (List ℕ) → (List ℕ → Option (List ℕ)) → (before now : Option (List ℕ)) → Status → Type 0
 OutLeft None told before now status = now ≡ before
 OutLeft (Some file) told before now status = OutHolds (told file) before now status
 
--- Of a file's text and what was printed of it: the file reads as a tree, the print reads as a tree, and the first, where it is of i1 and i32
--- alone and has no variable, allows the second, with one more than the number of the second's instructions as the factor. (A text reads as
--- one tree at most.)
+-- Of a file's text and what was printed of it: the file reads as a tree, the print reads as a tree that breaks no rule, and where the file's is one of
+-- those of which this is claimed by now, so is the print's, and the first allows the second, with one more than the number of the second's
+-- instructions as the factor. (A text reads as one tree at most.)
 pub record IsAllowed (text printed : List ℕ) : Type 0 where
   pub file : ModuleTree
   pub print : ModuleTree
   pub file_reads : Reads text file
   pub print_reads : Reads printed print
-  pub allows : HasMeaning file → Allows file print (factor_of print)
+  pub keeps : KeepsRules print
+  pub allows : IsFirstModule file → IsFirstModule print × Allows file print (factor_of print)
 
 -- where the file and `out` are told, `out` took a text that the file's allows
 abbrev pub TookAllowed : (told before now : Option (List ℕ)) → Type 0

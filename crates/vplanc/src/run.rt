@@ -123,7 +123,8 @@ pub fn run<F: Files, O: Sink, N: Sink>(
     ensures complete { Completes (command_of (map string_bytes words.now)) (F.told files.old) (λ name. Rose (F.faults files.old name) (F.faults files.new name)) (Rose (O.faults out.old) (O.faults out.new)) result }
 
     // What the sinks took. Before `out` has its turn it is as it was, and so are the notes where all is done. Where all is done, the file
-    // reads as a tree, what `out` took reads as a tree, and the first allows the second.
+    // reads as a tree, what `out` took reads as a tree, and where the first is one of those of which this is claimed by now, it allows the
+    // second.
     ensures out { OutLeft (command_of (map string_bytes words.now)) (F.told files.old) (O.taken out.old) (O.taken out.new) result }
     ensures allowed { AllowedLeft (command_of (map string_bytes words.now)) (F.told files.old) (O.taken out.old) (O.taken out.new) result }
     ensures untouched { IsBeforeOut result → out.new ≡ out.old }

@@ -11,5 +11,5 @@ use Rattle.ir_printer.proofs.function.put_blocks.Given as goal
 abbrev pub invariant-loop-block : goal.invariant-loop-block
 invariant-loop-block l = record {
   known : AllByRecursion IsBlock (map (block_in (tables_of l.m) l.names) (drop l.block-index l.rest));
-  printed : l.out.items ++ text_of (each_behind (line_feed ∷ []) (map (block_pieces (tables_of l.m) l.names) (drop l.block-index l.rest))) ≡ l.initial.out.items ++ text_of (each_behind (line_feed ∷ []) (map (block_pieces (tables_of l.m) l.names) l.rest));
+  printed : l.out.items ++ text_of (each_behind (line_feed ∷ []) (map (λ b. block_pieces (block_in (tables_of l.m) l.names b)) (drop l.block-index l.rest))) ≡ l.initial.out.items ++ text_of (each_behind (line_feed ∷ []) (map (λ b. block_pieces (block_in (tables_of l.m) l.names b)) l.rest));
 }

@@ -11,5 +11,5 @@ use Rattle.ir_printer.proofs.function.put_functions.Given as goal
 abbrev pub invariant-loop-function : goal.invariant-loop-function
 invariant-loop-function l = record {
   known : AllByRecursion IsFunction (map (function_in (tables_of l.m)) (drop l.function-index l.rest));
-  printed : l.out.items ++ text_of (each_behind (line_feed ∷ []) (map (function_pieces (tables_of l.m)) (drop l.function-index l.rest))) ≡ l.initial.out.items ++ text_of (each_behind (line_feed ∷ []) (map (function_pieces (tables_of l.m)) l.rest));
+  printed : l.out.items ++ text_of (each_behind (line_feed ∷ []) (map (λ f. function_pieces (function_in (tables_of l.m) f)) (drop l.function-index l.rest))) ≡ l.initial.out.items ++ text_of (each_behind (line_feed ∷ []) (map (λ f. function_pieces (function_in (tables_of l.m) f)) l.rest));
 }

@@ -3,8 +3,8 @@ use Rattle.ir_printer.proofs.Appended.{head_text}
 use Rattle.ir_printer.proofs.function.put_head.Goals as goal
 
 pub returns : goal.returns
-returns c = rw (
-  head_text c.args.function.now,
+returns c tables = rw (
+  head_text tables c.args.function.now,
   c.in_ok-put_blank_then_kept.ensures,
   c.in_ok-push-3.ensures.items,
   c.in_ok-put_all_params.ensures,

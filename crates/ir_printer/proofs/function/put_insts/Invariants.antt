@@ -11,5 +11,5 @@ use Rattle.ir_printer.proofs.function.put_insts.Given as goal
 abbrev pub invariant-loop-inst : goal.invariant-loop-inst
 invariant-loop-inst l = record {
   known : AllByRecursion IsInst (map (inst_in (tables_of l.m) l.names) (drop l.inst-index l.insts));
-  printed : l.out.items ++ text_of (each_behind (indent ∷ []) (map (inst_pieces (tables_of l.m) l.names) (drop l.inst-index l.insts))) ≡ l.initial.out.items ++ text_of (each_behind (indent ∷ []) (map (inst_pieces (tables_of l.m) l.names) l.insts));
+  printed : l.out.items ++ text_of (each_behind (indent ∷ []) (map (λ i. inst_pieces (inst_in (tables_of l.m) l.names i)) (drop l.inst-index l.insts))) ≡ l.initial.out.items ++ text_of (each_behind (indent ∷ []) (map (λ i. inst_pieces (inst_in (tables_of l.m) l.names i)) l.insts));
 }

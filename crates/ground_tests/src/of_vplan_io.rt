@@ -1,46 +1,58 @@
 // Each public call once, and the faults that come from outside.
 
-use super::*;
+use std::alloc::Global;
 use std::fs;
 use std::test::Fail;
+use vplan_io::{
+    Files, Folder, LONGEST, LoadFault, Shelf, Sink, Stream, SureShelf, SureTray, Tray, put_text,
+    put_three,
+};
 
-fn named(alloc: Global, name: &str, bytes: &[u8]) -> Result<(String, Vec<u8>), Fail> {
-    Ok((
-        String::from_str(alloc, name)?,
-        Vec::from_slice(alloc, bytes)?,
-    ))
+/// Files with these names and bytes.
+fn files(alloc: Global, named: &[(&str, &[u8])]) -> Result<Vec<(String, Vec<u8>)>, Fail> {
+    let mut files = Vec::new(alloc);
+    for (name, bytes) in named {
+        files.push((
+            String::from_str(alloc, name)?,
+            Vec::from_slice(alloc, bytes)?,
+        ))?;
+    }
+    Ok(files)
 }
 
-fn gives(outcome: &Result<Vec<u8>, LoadFault>, want: &[u8]) -> bool {
-    match outcome {
-        Ok(bytes) => bytes.as_slice() == want,
-        Err(_) => false,
+/// Whether the bytes are loaded, or none where the source fails.
+fn gives(outcome: Result<Vec<u8>, LoadFault>, want: Option<&[u8]>) -> bool {
+    match (outcome, want) {
+        (Ok(bytes), Some(want)) => bytes.as_slice() == want,
+        (Err(LoadFault::Failed), None) => true,
+        _ => false,
     }
 }
 
 #[test]
 fn second_load_fails(rt: HostRuntime) -> Result<(), Fail> {
     let alloc = rt.alloc();
-    let files = vec![in alloc; named(alloc, "a", b"xyz")?, named(alloc, "b", b"")?]?;
+    let files = files(alloc, &[("a", b"xyz"), ("b", b""), ("a", b"second")])?;
     let mut shelf = Shelf::new(files, vec![in alloc; 2]?);
-    assert!(rt; gives(&shelf.load(alloc, "a"), b"xyz"));
-    assert!(rt; matches!(&shelf.load(alloc, "a"), Err(LoadFault::Failed)));
-    assert!(rt; gives(&shelf.load(alloc, "b"), b""));
-    assert!(rt; matches!(&shelf.load(alloc, "c"), Err(LoadFault::Failed)));
-    assert!(rt; gives(&shelf.load(alloc, "a"), b"xyz"));
+    let loads: [(&str, Option<&[u8]>); 5] = [
+        ("a", Some(b"xyz")),
+        ("a", None),
+        ("b", Some(b"")),
+        ("c", None),
+        ("a", Some(b"xyz")),
+    ];
+    for (name, want) in loads {
+        assert!(rt; gives(shelf.load(alloc, name), want), "{name}");
+    }
     Ok(())
 }
 
 #[test]
 fn first_of_two_counts(rt: HostRuntime) -> Result<(), Fail> {
     let alloc = rt.alloc();
-    let files = vec![in alloc; named(alloc, "a", b"first")?, named(alloc, "a", b"second")?]?;
-    let mut shelf = Shelf::new(files, Vec::new(alloc));
-    assert!(rt; gives(&shelf.load(alloc, "a"), b"first"));
-    let files = vec![in alloc; named(alloc, "a", b"first")?, named(alloc, "a", b"second")?]?;
-    let mut sure = SureShelf::new(files);
-    assert!(rt; gives(&sure.load(alloc, "a"), b"first"));
-    assert!(rt; gives(&sure.load(alloc, "c"), b""));
+    let mut sure = SureShelf::new(files(alloc, &[("a", b"first"), ("a", b"second")])?);
+    assert!(rt; gives(sure.load(alloc, "a"), Some(b"first")));
+    assert!(rt; gives(sure.load(alloc, "c"), Some(b"")));
     Ok(())
 }
 
@@ -48,7 +60,7 @@ fn first_of_two_counts(rt: HostRuntime) -> Result<(), Fail> {
 fn longest_and_too_long(rt: HostRuntime) -> Result<(), Fail> {
     let alloc = rt.alloc();
     let mut files = Vec::new(alloc);
-    for (name, len) in [("longest", 16_777_216), ("longer", 16_777_217)] {
+    for (name, len) in [("longest", LONGEST), ("longer", 16_777_217)] {
         files.push((String::from_str(alloc, name)?, vec![in alloc; 7u8; len]?))?;
     }
     let mut shelf = Shelf::new(files, Vec::new(alloc));
@@ -59,8 +71,7 @@ fn longest_and_too_long(rt: HostRuntime) -> Result<(), Fail> {
 
 #[test]
 fn third_put_fails(rt: HostRuntime) -> Result<(), Fail> {
-    let alloc = rt.alloc();
-    let mut tray = Tray::with_room(alloc, 10, vec![in alloc; 3]?)?;
+    let mut tray = Tray::with_room(rt.alloc(), 10, vec![in rt.alloc(); 3]?)?;
     for (bytes, taken) in [("ab", true), ("cd", true), ("x", false), ("ef", true)] {
         assert_eq!(rt; tray.put(bytes.as_bytes()).is_ok(), taken);
     }
@@ -70,13 +81,10 @@ fn third_put_fails(rt: HostRuntime) -> Result<(), Fail> {
 
 #[test]
 fn tray_without_room(rt: HostRuntime) -> Result<(), Fail> {
-    let alloc = rt.alloc();
-    let mut tray = Tray::with_room(alloc, 3, Vec::new(alloc))?;
-    assert!(rt; tray.put(b"abcd").is_err());
-    assert_eq!(rt; tray.bytes(), b"".as_slice());
-    assert!(rt; tray.put(b"abc").is_ok());
-    assert!(rt; tray.put(b"d").is_err());
-    assert!(rt; tray.put(b"").is_ok());
+    let mut tray = Tray::with_room(rt.alloc(), 3, Vec::new(rt.alloc()))?;
+    for (bytes, taken) in [("abcd", false), ("abc", true), ("d", false), ("", true)] {
+        assert_eq!(rt; tray.put(bytes.as_bytes()).is_ok(), taken, "{bytes}");
+    }
     assert_eq!(rt; tray.bytes(), b"abc".as_slice());
     Ok(())
 }
@@ -95,7 +103,7 @@ fn text_in_pieces(rt: HostRuntime) -> Result<(), Fail> {
     assert!(rt; tray.put(b"").is_err());
     assert_eq!(rt; tray.bytes(), text.as_slice());
     let mut sure = SureTray::new();
-    assert!(rt; put_text(&mut sure, text.as_slice()).is_ok());
+    assert!(rt; put_three(&mut sure, b"a", text.as_slice(), b"b").is_ok());
     Ok(())
 }
 
@@ -107,14 +115,9 @@ fn real_files(rt: HostRuntime) -> Result<(), Fail> {
     let mut folder = Folder::new(&rt);
     let loaded = folder.load(alloc, "vplan_io_written");
     fs::remove_file(&rt, "vplan_io_written")?;
-    assert!(rt; gives(&loaded, text.as_slice()));
-    assert!(rt;
-        matches!(
-            &folder.load(alloc, "vplan_io_written"),
-            Err(LoadFault::Failed)
-        )
-    );
-    assert!(rt; gives(&folder.load(alloc, "/dev/null"), b""));
+    assert!(rt; gives(loaded, Some(text.as_slice())));
+    assert!(rt; gives(folder.load(alloc, "vplan_io_written"), None));
+    assert!(rt; gives(folder.load(alloc, "/dev/null"), Some(b"")));
     assert!(rt; matches!(&folder.load(alloc, "/dev/zero"), Err(LoadFault::TooLong)));
     Ok(())
 }
@@ -123,8 +126,7 @@ fn real_files(rt: HostRuntime) -> Result<(), Fail> {
 fn stream_takes_until_full(rt: HostRuntime) {
     let mut space = [0u8; 4];
     let mut stream = Stream::new(space.as_mut_slice());
-    assert!(rt; stream.put(b"abc").is_ok());
-    assert!(rt; stream.put(b"").is_ok());
+    assert!(rt; stream.put(b"abc").is_ok() && stream.put(b"").is_ok());
     assert!(rt; stream.put(b"de").is_err());
     assert_eq!(rt; space.as_slice(), b"abcd".as_slice());
 }

@@ -1,11 +1,14 @@
-ghost use Rattle.std.specs.Prelude.{◌≡◌, [], IfOk};
+// Sizes of types, and the bytes that indexes lead on.
+
+ghost use Rattle.std.specs.Prelude.{◌≡◌, IfOk};
 ghost use Rattle.ir_types.specs.declared.memory_type.MemTy.TheVariants.{Struct};
 ghost use Rattle.ir_types.specs.Types.{AreTypes};
 ghost use Rattle.ir_sizes.specs.Definitions.{names_in};
 
-use crate::{Index, extents_of, offset, size_of, steps_behind, steps_of};
-use ir_types::{Extent, MemTy, Module, Name, NamedType, Ty, TypeId, TypeName};
-use lists::{Items, Text};
+use crate::shared::name;
+use ir_sizes::{Index, extents_of, offset, size_of, steps_of};
+use ir_types::{Extent, MemTy, Module, NamedType, Ty, TypeId, TypeName};
+use lists::Items;
 use std::alloc::{AllocError, Global};
 use std::test::Fail;
 
@@ -17,9 +20,9 @@ fn structure(alloc: Global, packed: bool, members: &[TypeId]) -> Result<MemTy, A
     Ok(MemTy::Struct(packed, Items::from_vec(members.to_vec(alloc)?)))
 }
 
-fn named(alloc: Global, name: &[u8], ty: NamedType) -> Result<TypeName, AllocError> {
+fn named(alloc: Global, bytes: &[u8], ty: NamedType) -> Result<TypeName, AllocError> {
     Ok(TypeName {
-        name: Name::Text(Text::from_slice(alloc, name)?),
+        name: name(alloc, bytes)?,
         ty,
     })
 }
@@ -56,41 +59,34 @@ fn types(alloc: Global) -> Result<Items<MemTy>, AllocError> {
     ]?))
 }
 
-#[test]
-fn each_type_has_its_extent(rt: HostRuntime) -> Result<(), Fail> {
-    let types = types(rt.alloc())?;
-    let names = names(rt.alloc())?;
-    let extents = extents_of(rt.alloc(), types.as_slice(), names.as_slice())?;
-    let expected = [
-        Extent::Size(1, 1),
-        Extent::Size(4, 4),
-        Extent::Size(2, 2),
-        Extent::Size(12, 4),
-        Extent::Size(7, 1),
-        Extent::Size(8, 8),
-        Extent::Size(CAP, 8),
-        Extent::Size(0, 8),
-        Extent::Size(1, 1),
-        Extent::Size(3, 1),
-        Extent::Size(16, 4),
-        Extent::Size(32, 4),
-        Extent::Size(16, 4),
-        Extent::NoSize,
-        Extent::NoSize,
-        Extent::NoSize,
-        Extent::NoSize,
-        Extent::Size(CAP - 1, 1),
-    ];
-    assert_eq!(rt; extents.as_slice(), expected.as_slice());
-    Ok(())
-}
+const EXTENTS: [Extent; 18] = [
+    Extent::Size(1, 1),
+    Extent::Size(4, 4),
+    Extent::Size(2, 2),
+    Extent::Size(12, 4),
+    Extent::Size(7, 1),
+    Extent::Size(8, 8),
+    Extent::Size(CAP, 8),
+    Extent::Size(0, 8),
+    Extent::Size(1, 1),
+    Extent::Size(3, 1),
+    Extent::Size(16, 4),
+    Extent::Size(32, 4),
+    Extent::Size(16, 4),
+    Extent::NoSize,
+    Extent::NoSize,
+    Extent::NoSize,
+    Extent::NoSize,
+    Extent::Size(CAP - 1, 1),
+];
 
 #[test]
-fn sizes_end_below_the_cap(rt: HostRuntime) -> Result<(), Fail> {
+fn each_type_has_its_extent(rt: HostRuntime) -> Result<(), Fail> {
     let alloc = rt.alloc();
     let types = types(alloc)?;
     let type_names = names(alloc)?;
     let extents = extents_of(alloc, types.as_slice(), type_names.as_slice())?;
+    assert_eq!(rt; extents.as_slice(), EXTENTS.as_slice());
     let m = Module {
         head: Items::from_vec(Vec::new(alloc)),
         types,
@@ -100,17 +96,16 @@ fn sizes_end_below_the_cap(rt: HostRuntime) -> Result<(), Fail> {
         functions: Items::from_vec(Vec::new(alloc)),
         tail: Items::from_vec(Vec::new(alloc)),
     };
-    assert_eq!(rt; size_of(&m, &MemTy::Named(0)), Some(16));
-    assert_eq!(rt;
-        size_of(&m, &structure(alloc, true, &[TypeId(17)])?),
-        Some(CAP - 1)
-    );
-    assert_eq!(rt;
-        size_of(&m, &structure(alloc, true, &[TypeId(17), TypeId(0)])?),
-        None
-    );
-    assert_eq!(rt; size_of(&m, &MemTy::Array(2, TypeId(6))), None);
-    assert_eq!(rt; size_of(&m, &MemTy::Array(0, TypeId(14))), None);
+    let sizes = [
+        (MemTy::Named(0), Some(16)),
+        (structure(alloc, true, &[TypeId(17)])?, Some(CAP - 1)),
+        (structure(alloc, true, &[TypeId(17), TypeId(0)])?, None),
+        (MemTy::Array(2, TypeId(6)), None),
+        (MemTy::Array(0, TypeId(14)), None),
+    ];
+    for (ty, size) in &sizes {
+        assert_eq!(rt; size_of(&m, ty), *size);
+    }
     Ok(())
 }
 
@@ -129,9 +124,8 @@ fn lists(alloc: Global) -> Result<Stepped, AllocError>
             MemTy::One(Ty::Int(32)),
             MemTy::Array(3, TypeId(1)),
             structure(alloc, false, &[TypeId(0), TypeId(1), TypeId(2)])?,
-            structure(alloc, true, &[TypeId(0), TypeId(1)])?,
             MemTy::Named(0),
-            MemTy::Array(2, TypeId(5)),
+            MemTy::Array(2, TypeId(4)),
         ]?,
         names: vec![in alloc; named(alloc, b"s", NamedType::Defined(TypeId(3)))?]?,
     })
@@ -147,41 +141,12 @@ fn index(width: u32, number: u64) -> Index
 #[test]
 fn indexes_lead_into_types(rt: HostRuntime) -> Result<(), Fail> {
     let alloc = rt.alloc();
-    let s = lists(alloc)?;
-    let extents = extents_of(alloc, s.types.as_slice(), s.names.as_slice())?;
-    let steps = steps_of(
-        alloc,
-        s.types.as_slice(),
-        s.names.as_slice(),
-        extents.as_slice(),
-    )?;
+    let Stepped { types, names } = lists(alloc)?;
+    let extents = extents_of(alloc, types.as_slice(), names.as_slice())?;
+    let extents = extents.as_slice();
+    let steps = steps_of(alloc, types.as_slice(), names.as_slice(), extents)?;
     let two_deep = [index(64, 1), index(64, 1), index(32, 2), index(64, 2)];
-    assert_eq!(rt;
-        offset(&s.types, &steps, extents.as_slice(), TypeId(6), &two_deep),
-        Some(76)
-    );
-    Ok(())
-}
-
-fn scalars(alloc: Global) -> Result<Vec<MemTy>, AllocError>
-    ensures { IfOk result (λ types. AreTypes [] 0 types.items) }
-{
-    Ok(vec![in alloc; MemTy::One(Ty::Int(8)), MemTy::One(Ty::Int(32))]?)
-}
-
-#[test]
-fn indexes_lead_into_types_that_are_added(rt: HostRuntime) -> Result<(), Fail> {
-    let alloc = rt.alloc();
-    let first = scalars(alloc)?;
-    let extents = extents_of(alloc, first.as_slice(), &[])?;
-    let mut steps = steps_of(alloc, first.as_slice(), &[], extents.as_slice())?;
-    let s = lists(alloc)?;
-    let extents = extents_of(alloc, s.types.as_slice(), s.names.as_slice())?;
-    steps_behind(s.types.as_slice(), extents.as_slice(), &mut steps)?;
-    let indexes = [index(64, 1), index(32, 2), index(64, 2)];
-    assert_eq!(rt;
-        offset(&s.types, &steps, extents.as_slice(), TypeId(3), &indexes),
-        Some(36)
-    );
+    let bytes = offset(&types, &steps, extents, TypeId(5), &two_deep);
+    assert_eq!(rt; bytes, Some(76));
     Ok(())
 }

@@ -1,18 +1,17 @@
-//! Each public function once, with memory to spare.
+// Each public call once.
 
-use crate::{Copies, Few, Items, Text, Texts};
+use lists::{Copies, Few, Items, Text, Texts};
 use std::test::Fail;
 
 #[test]
 fn items(rt: HostRuntime) -> Result<(), Fail> {
     let items = Items::from_vec([5_u32, 7].to_vec(rt.alloc())?);
     assert_eq!(rt; items.len(), 2);
-    assert!(rt; !items.is_empty());
-    assert_eq!(rt; *items.at(1), 7);
+    assert!(rt; !items.is_empty() && *items.at(1) == 7);
     assert_eq!(rt; items.as_slice(), [5, 7].as_slice());
     let copy = items.copy()?;
     assert_eq!(rt; copy, items);
-    assert_eq!(rt; copy.into_vec().as_slice(), [5, 7].as_slice());
+    assert_eq!(rt; copy.into_vec().len(), 2);
     Ok(())
 }
 
@@ -36,11 +35,9 @@ fn text(rt: HostRuntime) -> Result<(), Fail> {
     let text = Text::from_slice(rt.alloc(), b"x\xff")?;
     assert_eq!(rt; text.as_bytes(), [120, 255].as_slice());
     assert_eq!(rt; text.len(), 2);
-    assert!(rt; !text.is_empty());
-    assert_eq!(rt; *text.at(1), 255);
+    assert!(rt; !text.is_empty() && *text.at(1) == 255);
     assert_eq!(rt; text, text.copy()?);
-    let shorter = Text::from_vec([120_u8].to_vec(rt.alloc())?);
-    assert_ne!(rt; text, shorter);
+    assert_ne!(rt; text, Text::from_vec([120_u8].to_vec(rt.alloc())?));
     Ok(())
 }
 
@@ -48,10 +45,9 @@ fn text(rt: HostRuntime) -> Result<(), Fail> {
 fn texts(rt: HostRuntime) -> Result<(), Fail> {
     let mut texts = Texts::new(rt.alloc());
     assert!(rt; texts.is_empty());
-    texts.push(b"one")?;
-    texts.push(b"")?;
-    texts.push(b"three")?;
-    assert_eq!(rt; texts.len(), 3);
+    for text in [b"one".as_slice(), b"", b"three"] {
+        texts.push(text)?;
+    }
     let copy = texts.copy()?;
     assert_eq!(rt; copy.len(), 3);
     assert_eq!(rt; copy.at(0), b"one".as_slice());

@@ -1,14 +1,18 @@
 // What a text is made of, and what is refused.
 
-use crate::{TEXT_LIMIT, TextFault, TokenKind, lex};
-use std::alloc::AllocError;
+use std::test::Fail;
+use text_lex::{TEXT_LIMIT, TextFault, TokenKind, lex};
+
+/// Tokens of each kind: a line of the text has those of a line of the list.
+const TEXT: &[u8] = b"@g @\"q\" @12 = c\"hi\" \"a b\" %x.1 %\"y z\" %7
+$c $\"d\" l-1: \"s\": 12:\n; a comment\nadd c -5 42 !n !3 #7
+!{ ... ()[]{}<>*:|! -1:";
 
 #[test]
-fn has_all_kinds(rt: HostRuntime) -> Result<(), TextFault> {
-    let text =
-        b"@g = c\"hi\" \"a b\" %x.1 %\"y z\" %7 @\"q\" @12 $c $\"d\" l-1: \"s\": 12:\n; a comment\nadd -5 42 c !n !3 !{ #7 ... ()[]{}<>*:|! -1:";
-    let tokens = lex(rt.alloc(), text)?;
+fn has_all_kinds(rt: HostRuntime) -> Result<(), Fail> {
     let kinds = [
+        TokenKind::Global,
+        TokenKind::Global,
         TokenKind::Global,
         TokenKind::Equal,
         TokenKind::TextConstant,
@@ -16,22 +20,20 @@ fn has_all_kinds(rt: HostRuntime) -> Result<(), TextFault> {
         TokenKind::Local,
         TokenKind::Local,
         TokenKind::Local,
-        TokenKind::Global,
-        TokenKind::Global,
         TokenKind::Comdat,
         TokenKind::Comdat,
         TokenKind::Label,
         TokenKind::Label,
         TokenKind::Label,
         TokenKind::Word,
-        TokenKind::Number,
-        TokenKind::Number,
         TokenKind::Word,
+        TokenKind::Number,
+        TokenKind::Number,
         TokenKind::Metadata,
         TokenKind::Metadata,
+        TokenKind::AttributeGroup,
         TokenKind::Bang,
         TokenKind::LeftBrace,
-        TokenKind::AttributeGroup,
         TokenKind::Dots,
         TokenKind::LeftParen,
         TokenKind::RightParen,
@@ -47,15 +49,16 @@ fn has_all_kinds(rt: HostRuntime) -> Result<(), TextFault> {
         TokenKind::Bang,
         TokenKind::Label,
     ];
+    let tokens = lex(rt.alloc(), TEXT)?;
     assert_eq!(rt; tokens.len(), kinds.len());
     for (token, kind) in tokens.iter().zip(&kinds) {
-        assert_eq!(rt; token.kind, *kind);
+        assert_eq!(rt; token.kind, *kind, "at {}", token.start);
     }
     Ok(())
 }
 
 #[test]
-fn has_places(rt: HostRuntime) -> Result<(), TextFault> {
+fn has_places(rt: HostRuntime) -> Result<(), Fail> {
     let tokens = lex(rt.alloc(), b";a\rb-1 ...\n-2:")?;
     let places = [(3, 4), (4, 6), (7, 10), (11, 14)];
     assert_eq!(rt; tokens.len(), places.len());
@@ -67,13 +70,9 @@ fn has_places(rt: HostRuntime) -> Result<(), TextFault> {
 
 #[test]
 fn names_the_place_with_no_token(rt: HostRuntime) {
-    match lex(rt.alloc(), b"%a = \"b\"\n  %c = \"d") {
-        Ok(_) => panic!(rt; "a text with an open string has tokens"),
-        Err(fault) => assert_eq!(rt; fault, TextFault::BadToken(16)),
-    }
-    match lex(rt.alloc(), b"double \"open") {
-        Ok(_) => panic!(rt; "a text with an open string has tokens"),
-        Err(fault) => assert_eq!(rt; fault, TextFault::BadToken(7)),
+    let texts: [(&[u8], u32); 2] = [(b"%a = \"b\"\n  %c = \"d", 16), (b"double \"open", 7)];
+    for (text, place) in texts {
+        assert!(rt; matches!(lex(rt.alloc(), text), Err(TextFault::BadToken(at)) if at == place));
     }
 }
 
@@ -98,8 +97,7 @@ fn names_the_first_token_that_is_left_out(rt: HostRuntime) {
     for (text, word, place) in &cases {
         match lex(rt.alloc(), text) {
             Err(TextFault::LeftOut(found, offset)) => {
-                assert_eq!(rt; found.as_bytes(), *word);
-                assert_eq!(rt; offset, *place);
+                assert_eq!(rt; (found.as_bytes(), offset), (*word, *place));
             }
             _ => panic!(rt; "no token is left out that starts at {place}"),
         }
@@ -107,7 +105,7 @@ fn names_the_first_token_that_is_left_out(rt: HostRuntime) {
 }
 
 #[test]
-fn leaves_in_what_is_near(rt: HostRuntime) -> Result<(), TextFault> {
+fn leaves_in_what_is_near(rt: HostRuntime) -> Result<(), Fail> {
     let texts: [(&[u8], usize); 5] = [
         (
             b"target datalayout = \"e-m:e-p270:32:32-p:64:64-i64:64\"",
@@ -125,11 +123,13 @@ fn leaves_in_what_is_near(rt: HostRuntime) -> Result<(), TextFault> {
 }
 
 #[test]
-fn refuses_a_long_text(rt: HostRuntime) -> Result<(), AllocError> {
+fn refuses_a_long_text(rt: HostRuntime) -> Result<(), Fail> {
     let text = vec![in rt.alloc(); b' '; TEXT_LIMIT + 1]?;
-    match lex(rt.alloc(), &text) {
-        Ok(_) => panic!(rt; "a text above the limit has tokens"),
-        Err(fault) => assert_eq!(rt; fault, TextFault::TextLimit(16_777_217)),
-    }
+    assert!(rt;
+        matches!(
+            lex(rt.alloc(), &text),
+            Err(TextFault::TextLimit(16_777_217))
+        )
+    );
     Ok(())
 }

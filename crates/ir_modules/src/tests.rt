@@ -1,0 +1,35 @@
+// A module that is made by code goes the way of one that is read.
+
+use crate::made;
+use ir_check::check;
+use ir_printer::print_module;
+use ir_reader::read_module;
+use std::test::Fail;
+
+const PRINTED: &str = "define i32 @f(i32 %0) {
+1:
+  %2 = add i32 %0, 1
+  ret i32 %2
+}
+";
+
+#[test]
+fn made_by_code_it_is_checked_printed_and_read_back(rt: HostRuntime) -> Result<(), Fail> {
+    let checked = match check(rt.alloc(), made(rt.alloc())?) {
+        Ok(checked) => checked,
+        Err((_, fault)) => return Err(Fail::from(fault)),
+    };
+    let mut text = Vec::new(rt.alloc());
+    print_module(rt.alloc(), checked.module(), &mut text)?;
+    assert_eq!(rt; text.as_slice(), PRINTED.as_bytes());
+
+    let read = read_module(rt.alloc(), text.as_slice())?;
+    assert_eq!(rt; read.functions.len(), 1);
+    let mut again = Vec::new(rt.alloc());
+    match check(rt.alloc(), read) {
+        Ok(checked) => print_module(rt.alloc(), checked.module(), &mut again)?,
+        Err((_, fault)) => return Err(Fail::from(fault)),
+    }
+    assert_eq!(rt; again.as_slice(), text.as_slice());
+    Ok(())
+}
