@@ -32,3 +32,18 @@ returns-clause-uses c =
     let n = c.comma_target-2.new.scope in
     let value = c.in_ok-condition.ensures.stays n (widens_trans c.value_at.new.scope c.comma_target.new.scope n c.in_ok-then.ensures.grows c.in_ok-otherwise.ensures.grows) in
     rw (c.bare.ensures, c.in_ok-args.ensures, value, c.in_ok-otherwise.ensures.tables ∙ c.in_ok-then.ensures.tables) c.in_ok-condition.ensures.uses
+
+pub returns-in_err-then-clause-grows : goal.returns-in_err-then-clause-grows
+returns-in_err-then-clause-grows c = widens_trans c.args.scope.now c.value_at.new.scope c.comma_target.new.scope c.in_ok-condition.ensures.grows c.in_err-then.ensures.grows
+
+pub returns-in_err-otherwise-clause-grows : goal.returns-in_err-otherwise-clause-grows
+returns-in_err-otherwise-clause-grows c = widens_trans c.args.scope.now c.comma_target.new.scope c.comma_target-2.new.scope (widens_trans c.args.scope.now c.value_at.new.scope c.comma_target.new.scope c.in_ok-condition.ensures.grows c.in_ok-then.ensures.grows) c.in_err-otherwise.ensures.grows
+
+pub returns-in_err-args-clause-grows : goal.returns-in_err-args-clause-grows
+returns-in_err-args-clause-grows c = widens_trans c.args.scope.now c.comma_target.new.scope c.comma_target-2.new.scope (widens_trans c.args.scope.now c.value_at.new.scope c.comma_target.new.scope c.in_ok-condition.ensures.grows c.in_ok-then.ensures.grows) c.in_ok-otherwise.ensures.grows
+
+pub returns-in_err-labels-clause-grows : goal.returns-in_err-labels-clause-grows
+returns-in_err-labels-clause-grows c = widens_trans c.args.scope.now c.comma_target.new.scope c.comma_target-2.new.scope (widens_trans c.args.scope.now c.value_at.new.scope c.comma_target.new.scope c.in_ok-condition.ensures.grows c.in_ok-then.ensures.grows) c.in_ok-otherwise.ensures.grows
+
+pub returns-clause-grows : goal.returns-clause-grows
+returns-clause-grows c = widens_trans c.args.scope.now c.comma_target.new.scope c.comma_target-2.new.scope (widens_trans c.args.scope.now c.value_at.new.scope c.comma_target.new.scope c.in_ok-condition.ensures.grows c.in_ok-then.ensures.grows) c.in_ok-otherwise.ensures.grows

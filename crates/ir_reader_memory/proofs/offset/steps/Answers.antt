@@ -8,6 +8,7 @@ use Rattle.ir_reader_values.specs.Seen.{operand_seen, definitions}
 use Rattle.ir_reader_memory.specs.Offsets.{steps_in, indexes_read}
 use Rattle.ir_reader_values.proofs.Refusals.{fails}
 use Rattle.ir_reader_memory.proofs.Offsets.{steps_behind}
+use Rattle.ir_reader_values.proofs.Widening.{widens_trans}
 use Rattle.ir_reader_memory.proofs.offset.steps.Goals as goal
 
 pub returns-in_err-widths-clause-reads : goal.returns-in_err-widths-clause-reads
@@ -31,3 +32,9 @@ returns-clause-reads c =
 
 pub returns-clause-uses : goal.returns-clause-uses
 returns-clause-uses c = c.in_ok-widths.ensures.uses c.args.scope.now (rw c.in_ok-before.ensures c.in_ok-pointer.ensures.uses)
+
+pub returns-in_err-widths-clause-grows : goal.returns-in_err-widths-clause-grows
+returns-in_err-widths-clause-grows c = widens_trans c.args.scope.now c.comma_pointer.new.scope c.indexes.new.scope c.in_ok-pointer.ensures.grows c.in_err-widths.ensures.grows
+
+pub returns-clause-grows : goal.returns-clause-grows
+returns-clause-grows c = widens_trans c.args.scope.now c.comma_pointer.new.scope c.indexes.new.scope c.in_ok-pointer.ensures.grows c.in_ok-widths.ensures.grows

@@ -47,3 +47,12 @@ returns-clause-uses c =
     let second : operand_seen n two ≡ operand_seen b two = ap (λ x. x.1) (c.in_ok-second.ensures.stays n later) in
     let both = uses_behind c.args.scope.now a b (operand_seen a one ∷ []) (operand_seen b two ∷ []) c.in_ok-first.ensures.uses c.in_ok-second.ensures.uses in
     rw (first, second) (uses_behind c.args.scope.now b n (operand_seen a one ∷ operand_seen b two ∷ []) (operand_seen n c.in_ok-third.third.1 ∷ []) both c.in_ok-third.ensures.uses)
+
+pub returns-in_err-second-clause-grows : goal.returns-in_err-second-clause-grows
+returns-in_err-second-clause-grows c = widens_trans c.args.scope.now c.typed_value.new.scope c.comma_typed.new.scope c.in_ok-first.ensures.grows c.in_err-second.ensures.grows
+
+pub returns-in_err-third-clause-grows : goal.returns-in_err-third-clause-grows
+returns-in_err-third-clause-grows c = widens_trans c.args.scope.now c.comma_typed.new.scope c.comma_typed-2.new.scope (widens_trans c.args.scope.now c.typed_value.new.scope c.comma_typed.new.scope c.in_ok-first.ensures.grows c.in_ok-second.ensures.grows) c.in_err-third.ensures.grows
+
+pub returns-clause-grows : goal.returns-clause-grows
+returns-clause-grows c = widens_trans c.args.scope.now c.comma_typed.new.scope c.comma_typed-2.new.scope (widens_trans c.args.scope.now c.typed_value.new.scope c.comma_typed.new.scope c.in_ok-first.ensures.grows c.in_ok-second.ensures.grows) c.in_ok-third.ensures.grows

@@ -1,7 +1,7 @@
 use Rattle.ir_reader_values.proofs.Using.{uses_behind}
 use Rattle.std.proofs.Common.{refl, [], ◌∷◌}
 use Rattle.ir_reader_values.specs.Seen.{operand_seen}
-use Rattle.ir_reader_values.proofs.Widening.{steady_behind}
+use Rattle.ir_reader_values.proofs.Widening.{widens_trans, steady_behind}
 use Rattle.ir_reader_values.proofs.typed.typed_pair.Goals as goal
 
 pub returns-clause-stays : goal.returns-clause-stays
@@ -15,3 +15,9 @@ returns-clause-uses c =
     let n = c.value_at-2.new.scope in
     rw (c.in_ok-first.ensures.stays n c.in_ok-second.ensures.grows)
     (uses_behind c.args.scope.now a n (operand_seen a c.in_ok-first.first ∷ []) (operand_seen n c.in_ok-second.second ∷ []) c.in_ok-first.ensures.uses c.in_ok-second.ensures.uses)
+
+pub returns-in_err-second-clause-grows : goal.returns-in_err-second-clause-grows
+returns-in_err-second-clause-grows c = widens_trans c.args.scope.now c.value_at.new.scope c.value_at-2.new.scope c.in_ok-first.ensures.grows c.in_err-second.ensures.grows
+
+pub returns-clause-grows : goal.returns-clause-grows
+returns-clause-grows c = widens_trans c.args.scope.now c.value_at.new.scope c.value_at-2.new.scope c.in_ok-first.ensures.grows c.in_ok-second.ensures.grows
