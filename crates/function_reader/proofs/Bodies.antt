@@ -12,9 +12,9 @@ use Rattle.ir_types.specs.Tree.{KeptTexts, ParamTree, BlockTree, FunctionTree, W
 use Rattle.ir_types.specs.Grammar.{return_type, global_name, kept, parameter, dotted_parameters, list, some, block, between, declared_tree, declared_function, defined_tree, defined_function}
 use Rattle.ir_types.specs.Numbered.{numbered_param, numbered_block, numbered_function}
 use Rattle.ir_types.specs.Offsets.{Definitions}
-use Rattle.ir_reader_ops.specs.Between.{between_read}
+use Rattle.ir_reader_values.specs.Between.{between_read}
 use Rattle.function_reader.specs.Functions.{numbered_dotted, declared_read, defined_read}
-use Rattle.ir_reader_ops.proofs.Chains.{alike, first_apart, chained, then_made, between_is, completed_mapped, completed_alike}
+use Rattle.ir_reader_values.proofs.Chains.{alike, first_apart, chained, then_made, between_is, completed_mapped, completed_alike}
 
 -- ---- declared functions
 

@@ -11,7 +11,7 @@ use Rattle.ir_types.specs.Grammar.{parameter, value_type, vector_type, width, co
 use Rattle.ir_types.specs.Numbered.{numbered_param}
 use Rattle.function_reader.specs.Functions.{numbered_dotted, some_dotted_read}
 use Rattle.function_reader.proofs.Lines.{or_nothing}
-use Rattle.ir_reader_ops.proofs.Chains.{alike, chained, completed_mapped}
+use Rattle.ir_reader_values.proofs.Chains.{alike, chained, completed_mapped}
 
 abbrev Params : Type 0
 Params = List WrittenParam × Bool

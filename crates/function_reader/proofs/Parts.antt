@@ -9,7 +9,7 @@ use Rattle.ir_types.specs.Tree.{InstTree, BlockTree}
 use Rattle.ir_types.specs.Grammar.{label, line, operation, terminator, block, block_tree}
 use Rattle.ir_types.specs.Numbered.{named, numbered_inst, numbered_block}
 use Rattle.function_reader.specs.Blocks.{block_read}
-use Rattle.ir_reader_ops.proofs.Chains.{alike, chained, then_made, completed_mapped, completed_alike}
+use Rattle.ir_reader_values.proofs.Chains.{alike, chained, then_made, completed_mapped, completed_alike}
 
 abbrev last_one : {S A B : Type 0} → (S → A → Option (B × S)) → A → Option (List B × S) → Option (List B × S)
 last_one step x o = o >>= λ p. step p.1 x >>= λ q. Some (p.0 ++ q.0 ∷ [], q.1)

@@ -9,8 +9,8 @@ use Rattle.ir_types.specs.Tree.{InstTree, BlockTree}
 use Rattle.ir_types.specs.Offsets.{Definitions}
 use Rattle.ir_types.specs.Denotes.{block_in}
 use Rattle.type_reader.specs.Tables.{tables_in}
-use Rattle.ir_reader_ops.specs.declared.scope.Scope.{Scope}
-use Rattle.ir_reader_ops.specs.Seen.{inst_seen}
+use Rattle.ir_reader_values.specs.declared.scope.Scope.{Scope}
+use Rattle.ir_reader_values.specs.Seen.{inst_seen}
 use Rattle.ir_types.specs.Grammar.{label, line, operation, terminator}
 use Rattle.ir_types.specs.Numbered.{named, numbered_inst}
 

@@ -15,9 +15,9 @@ use Rattle.ir_types.specs.declared.module.Function.{Function}
 use Rattle.ir_types.specs.Offsets.{Definitions}
 use Rattle.ir_types.specs.Denotes.{param_in, function_in}
 use Rattle.type_reader.specs.Tables.{tables_in}
-use Rattle.ir_reader_ops.specs.declared.scope.Scope.{Scope}
-use Rattle.ir_reader_ops.specs.Between.{between_read}
-use Rattle.ir_reader_ops.specs.Calls.{comma_dots}
+use Rattle.ir_reader_values.specs.declared.scope.Scope.{Scope}
+use Rattle.ir_reader_values.specs.Between.{between_read}
+use Rattle.ir_reader_memory.specs.Calls.{comma_dots}
 use Rattle.function_reader.specs.Blocks.{block_seen}
 use Rattle.ir_types.specs.Grammar.{return_type, global_name, kept, parameter, dotted_parameters, commas, list, some, block}
 use Rattle.ir_types.specs.Numbered.{numbered_param, numbered_block}

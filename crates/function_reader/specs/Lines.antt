@@ -8,8 +8,8 @@ use Rattle.forms.specs.Reading.{◌>>=◌, any_of, mark_then, next_in}
 use Rattle.ir_types.specs.declared.name.Name.{Name}
 use Rattle.ir_types.specs.declared.name.ValueId.{ValueId}
 use Rattle.ir_types.specs.Tree.{InstTree}
-use Rattle.ir_reader_ops.specs.declared.scope.Scope.{Scope}
-use Rattle.ir_reader_ops.specs.Seen.{name_seen}
+use Rattle.ir_reader_values.specs.declared.scope.Scope.{Scope}
+use Rattle.ir_reader_values.specs.Seen.{name_seen}
 use Rattle.ir_types.specs.Grammar.{with_result, without_result}
 
 -- a token

@@ -9,7 +9,7 @@ ghost use Rattle.forms.specs.Gives.{Gives, left};
 ghost use Rattle.ir_types.specs.Grammar.{label, operation, terminator, line as line_form, block};
 ghost use Rattle.ir_types.specs.Numbered.{named, numbered_inst, numbered_block};
 ghost use Rattle.type_reader.specs.Uses.{InstsUse};
-ghost use Rattle.ir_reader_ops.specs.Seen.{name_seen, definitions, Widens, Stays};
+ghost use Rattle.ir_reader_values.specs.Seen.{name_seen, definitions, Widens, Stays};
 ghost use Rattle.function_reader.specs.Blocks.{insts_in, block_seen, block_read};
 
 use crate::line::{begins_line, line};

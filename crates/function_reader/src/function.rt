@@ -14,8 +14,8 @@ ghost use Rattle.ir_types.specs.Grammar.{parameter, dotted_parameters, list, som
 ghost use Rattle.ir_types.specs.Numbered.{numbered_param, numbered_block, numbered_function};
 ghost use Rattle.type_reader.specs.Tables.{TableLists, tables_in, definitions_of, Grows};
 ghost use Rattle.type_reader.specs.Uses.{InstsUse};
-ghost use Rattle.ir_reader_ops.specs.Seen.{definitions, Widens, Stays};
-ghost use Rattle.ir_reader_ops.specs.Between.{between_read};
+ghost use Rattle.ir_reader_values.specs.Seen.{definitions, Widens, Stays};
+ghost use Rattle.ir_reader_values.specs.Between.{between_read};
 ghost use Rattle.function_reader.specs.View.{StaysNamed};
 ghost use Rattle.function_reader.specs.Functions.{params_in, blocks_in, insts_among, function_seen, dotted_in, numbered_dotted, declared_read, defined_read};
 
@@ -227,7 +227,7 @@ fn with_names(function: Function, names: Names) -> Function
 }
 
 /// A function that is read over these tables, and the tables behind it, whether or not one is read.
-#[tactic(auto, unfolding(ir_reader_ops::specs::Seen::definitions))]
+#[tactic(auto, unfolding(ir_reader_values::specs::Seen::definitions))]
 fn defined_over<'t>(
     alloc: Global,
     tokens: Cursor<'t>,

@@ -6,7 +6,7 @@ ghost use Rattle.forms.specs.Gives.{Gives};
 ghost use Rattle.ir_types.specs.declared.name.Name.{Name};
 ghost use Rattle.ir_types.specs.Denotes.{name_in};
 ghost use Rattle.ir_types.specs.Numbered.{next_after, named, named_result};
-ghost use Rattle.ir_reader_ops.specs.Seen.{name_seen, Widens, IsSteady};
+ghost use Rattle.ir_reader_values.specs.Seen.{name_seen, Widens, IsSteady};
 ghost use Rattle.function_reader.specs.View.{StaysAs};
 ghost use Rattle.function_reader.specs.Lines.{result_seen};
 

@@ -14,7 +14,7 @@ use Rattle.ir_types.specs.Tree.{KeptTexts}
 use Rattle.ir_types.specs.Grammar.{return_type, global_name, kept}
 use Rattle.ir_types.specs.Skimmed.{Outline, declared_outline, skimmed_declaration, defined_outline, skimmed_definition}
 use Rattle.kept_runs.specs.Passed.{passed}
-use Rattle.ir_reader_ops.proofs.Chains.{alike, first_apart}
+use Rattle.ir_reader_values.proofs.Chains.{alike, first_apart}
 use Rattle.item_reader.specs.Sources.{outline_or_none}
 use Rattle.item_reader.specs.Passed.{outline_name, signature_passed, definition_passed, declaration_passed}
 

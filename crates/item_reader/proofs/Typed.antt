@@ -6,7 +6,7 @@ use Rattle.forms.specs.Gives.{mark}
 use Rattle.forms.specs.Reading.{◌>>=◌, read}
 use Rattle.forms.specs.Walk.{completed}
 use Rattle.forms.proofs.Fronts.{within}
-use Rattle.ir_reader_ops.proofs.Chains.{alike, first_apart}
+use Rattle.ir_reader_values.proofs.Chains.{alike, first_apart}
 use Rattle.ir_types.specs.declared.name.Name.{Name}
 use Rattle.ir_types.specs.TypeNodes.{TypeNode}
 use Rattle.ir_types.specs.Tree.{KeptTexts, VariableTree, Item, WrittenFunction, type_item, variable_item}

@@ -15,7 +15,7 @@ ghost use Rattle.item_reader.specs.Typed.{defined_read};
 use crate::source::{FunctionSource, TypeSource};
 use forms::{Cursor, SyntaxFault};
 use ir_limits::long_name;
-use ir_reader_ops::{kept, kept_before, kept_behind};
+use ir_reader_values::{kept, kept_before, kept_behind};
 use ir_types::{Name, TypeName};
 use kept_runs::{pass_braces, pass_parens};
 use std::alloc::Global;

@@ -13,7 +13,7 @@ use crate::extras::kept_behind_type;
 use crate::part::{Part, Variable};
 use crate::passing::type_source;
 use forms::{Cursor, SyntaxFault, TokenKind};
-use ir_reader_ops::kept;
+use ir_reader_values::kept;
 use std::alloc::Global;
 use type_reader::name_behind;
 

@@ -1,5 +1,5 @@
 use Rattle.forms.specs.Gives.{left}
-use Rattle.ir_reader_ops.specs.Seen.{definitions}
+use Rattle.ir_reader_values.specs.Seen.{definitions}
 use Rattle.type_reader.proofs.Same.{gives_same}
 use Rattle.function_reader.specs.Blocks.{block_seen}
 use Rattle.function_reader.proofs.Parts.{block_is}

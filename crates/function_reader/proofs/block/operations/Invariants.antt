@@ -7,7 +7,7 @@ use Rattle.forms.proofs.Walks.{so_far}
 use Rattle.ir_types.specs.Grammar.{line, operation}
 use Rattle.ir_types.specs.Numbered.{numbered_inst}
 use Rattle.type_reader.specs.Uses.{InstsUse}
-use Rattle.ir_reader_ops.specs.Seen.{definitions, inst_seen, Widens, AreSteady}
+use Rattle.ir_reader_values.specs.Seen.{definitions, inst_seen, Widens, AreSteady}
 use Rattle.function_reader.specs.Blocks.{insts_in}
 use Rattle.function_reader.proofs.block.operations.Given as goal
 

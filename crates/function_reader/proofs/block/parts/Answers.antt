@@ -9,9 +9,9 @@ use Rattle.ir_types.specs.declared.inst.Inst.{Inst}
 use Rattle.ir_types.specs.Offsets.{Definitions}
 use Rattle.ir_types.specs.Grammar.{line, operation, terminator}
 use Rattle.ir_types.specs.Numbered.{numbered_inst}
-use Rattle.ir_reader_ops.specs.Seen.{definitions, name_seen, inst_seen}
-use Rattle.ir_reader_ops.proofs.Widening.{widens_trans}
-use Rattle.ir_reader_ops.proofs.Pushing.{push_seen, push_steady}
+use Rattle.ir_reader_values.specs.Seen.{definitions, name_seen, inst_seen}
+use Rattle.ir_reader_values.proofs.Widening.{widens_trans}
+use Rattle.ir_reader_values.proofs.Pushing.{push_seen, push_steady}
 use Rattle.type_reader.proofs.Same.{gives_failed}
 use Rattle.function_reader.specs.Blocks.{insts_in, block_read}
 use Rattle.function_reader.proofs.Using.{uses_inst}

@@ -11,9 +11,9 @@ use Rattle.ir_types.specs.Offsets.{Definitions}
 use Rattle.ir_types.specs.Grammar.{block, some}
 use Rattle.ir_types.specs.Numbered.{numbered_block}
 use Rattle.ir_types.proofs.Decides.{block_takes}
-use Rattle.ir_reader_ops.specs.Seen.{definitions}
-use Rattle.ir_reader_ops.proofs.Widening.{widens_trans}
-use Rattle.ir_reader_ops.proofs.Pushing.{push_seen, push_steady}
+use Rattle.ir_reader_values.specs.Seen.{definitions}
+use Rattle.ir_reader_values.proofs.Widening.{widens_trans}
+use Rattle.ir_reader_values.proofs.Pushing.{push_seen, push_steady}
 use Rattle.type_reader.proofs.Same.{gives_failed}
 use Rattle.function_reader.specs.Blocks.{block_seen}
 use Rattle.function_reader.specs.Functions.{blocks_in}

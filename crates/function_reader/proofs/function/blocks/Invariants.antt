@@ -7,7 +7,7 @@ use Rattle.forms.proofs.Walks.{so_far}
 use Rattle.ir_types.specs.Grammar.{block, some}
 use Rattle.ir_types.specs.Numbered.{numbered_block}
 use Rattle.type_reader.specs.Uses.{InstsUse}
-use Rattle.ir_reader_ops.specs.Seen.{definitions, Widens, AreSteady}
+use Rattle.ir_reader_values.specs.Seen.{definitions, Widens, AreSteady}
 use Rattle.function_reader.specs.Blocks.{block_seen}
 use Rattle.function_reader.specs.Functions.{blocks_in, insts_among}
 use Rattle.function_reader.proofs.function.blocks.Given as goal

@@ -1,4 +1,4 @@
-use Rattle.ir_reader_ops.proofs.Widening.{tables_widen}
+use Rattle.ir_reader_values.proofs.Widening.{tables_widen}
 use Rattle.function_reader.proofs.function.defined_over.Goals as goal
 
 pub returns-in-Ok-clause-stays : goal.returns-in-Ok-clause-stays

@@ -8,9 +8,9 @@ use Rattle.ir_types.specs.declared.module.Block.{Block}
 use Rattle.ir_types.specs.Offsets.{Definitions}
 use Rattle.ir_types.specs.Grammar.{parameter, list, some, block}
 use Rattle.ir_types.specs.Numbered.{numbered_param, numbered_block}
-use Rattle.ir_reader_ops.specs.Between.{between_read}
-use Rattle.ir_reader_ops.specs.Seen.{definitions}
-use Rattle.ir_reader_ops.proofs.Widening.{widens_trans}
+use Rattle.ir_reader_values.specs.Between.{between_read}
+use Rattle.ir_reader_values.specs.Seen.{definitions}
+use Rattle.ir_reader_values.proofs.Widening.{widens_trans}
 use Rattle.function_reader.specs.Functions.{params_in, blocks_in}
 use Rattle.function_reader.proofs.Bodies.{defined_found}
 use Rattle.function_reader.proofs.function.defined_parts.Goals as goal

@@ -1,4 +1,4 @@
-use Rattle.ir_reader_ops.proofs.Widening.{names_widen}
+use Rattle.ir_reader_values.proofs.Widening.{names_widen}
 use Rattle.function_reader.proofs.function.scoped_params.Goals as goal
 
 pub returns-clause-grows : goal.returns-clause-grows

@@ -4,7 +4,7 @@ use Rattle.forms.specs.Walk.{completed}
 use Rattle.forms.specs.Gives.{left}
 use Rattle.ir_types.specs.Grammar.{line}
 use Rattle.ir_types.specs.Numbered.{numbered_inst}
-use Rattle.ir_reader_ops.specs.Seen.{definitions, inst_seen}
+use Rattle.ir_reader_values.specs.Seen.{definitions, inst_seen}
 use Rattle.ir_reader_ops.specs.Words.{form_at}
 use Rattle.function_reader.specs.Lines.{named_so}
 use Rattle.function_reader.proofs.Lines.{named_at, plain_at}

@@ -1,8 +1,8 @@
 use Rattle.std.proofs.Common.{◌≡◌, Some, sym, ap, ◌∙◌}
 use Rattle.ir_types.specs.Grammar.{named_by}
 use Rattle.ir_types.specs.Tree.{InstTree}
-use Rattle.ir_reader_ops.specs.Seen.{name_seen, inst_seen}
-use Rattle.ir_reader_ops.proofs.Widening.{widens_trans}
+use Rattle.ir_reader_values.specs.Seen.{name_seen, inst_seen}
+use Rattle.ir_reader_values.proofs.Widening.{widens_trans}
 use Rattle.function_reader.proofs.line.named.Goals as goal
 
 pub returns-clause-stays : goal.returns-clause-stays
