@@ -76,7 +76,7 @@ fn reads_numbers_out_of_range(rt: HostRuntime) -> Result<(), Fail> {
     for block in module.functions.at(0).body.as_slice() {
         for inst in block.insts.as_slice() {
             assert!(rt; holds(place, inst), "instruction {place}");
-            place += 1;
+            place = place.wrapping_add(1);
         }
     }
     assert_eq!(rt; place, 6);
