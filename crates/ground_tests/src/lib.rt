@@ -1,8 +1,8 @@
-//! Tests of `forms`, `lists`, `text_lex`, `kept_runs`, `vplan_io` and `ir_types`: what no clause says, with memory to spare.
+//! Tests of `text_forms`, `lists`, `text_lex`, `kept_runs`, `vplan_io` and `ir_types`: what no clause says, with memory to spare.
 #![tactic(auto)]
 
 #[cfg(test)]
-mod of_forms;
+mod of_text_forms;
 #[cfg(test)]
 mod of_ir_types;
 #[cfg(test)]

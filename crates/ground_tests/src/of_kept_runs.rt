@@ -1,6 +1,6 @@
 // Each public call once.
 
-use forms::{Cursor, SyntaxFault, TokenKind};
+use text_forms::{Cursor, SyntaxFault, TokenKind};
 use kept_runs::{
     Stops, begins_attachment, begins_comma_attachment, begins_run, keep, keep_attachment,
     keep_attachments, keep_braces, keep_comma_attachments, keep_node, keep_parens, keep_run,

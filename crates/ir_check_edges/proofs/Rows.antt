@@ -4,8 +4,8 @@ use Rattle.std.specs.List.{AllByRecursion}
 use Rattle.std.specs.Global.{Vec}
 use Rattle.std.proofs.lemmas.Bool.Decides.{Decides-eqb}
 use Rattle.std.proofs.lemmas.List.{append-nil, append_assoc, get_or-set_same, get_or-set_other, length-set, map-set, replicate-append-replicate}
-use Rattle.forms.specs.Nested.{concat}
-use Rattle.forms.proofs.Begins.{test}
+use Rattle.text_forms.specs.Nested.{concat}
+use Rattle.text_forms.proofs.Begins.{test}
 use Rattle.ir_types.specs.declared.name.Name.{Name}
 use Rattle.ir_types.specs.declared.name.ValueId.{ValueId}
 use Rattle.ir_types.specs.declared.inst.Inst.{Inst}

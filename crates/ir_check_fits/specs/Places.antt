@@ -1,6 +1,6 @@
 -- Where a `getelementptr` leads, by the places of types.
 use Rattle.std.specs.Prelude.{◌^◌, ℕ, Bool, true, false, ◌&&◌, nat_eq, nat_lt, is_some, List, [], ◌∷◌, slice_get, Option, Some, None, if◌then◌else◌}
-use Rattle.forms.specs.Bind.{◌>>=◌}
+use Rattle.text_forms.specs.Bind.{◌>>=◌}
 use Rattle.ir_types.specs.declared.memory_type.TypeId.{TypeId}
 use Rattle.ir_types.specs.declared.memory_type.MemTy.{MemTy}
 use Rattle.ir_types.specs.declared.memory_type.MemTy.TheVariants.{One, Array, Struct, Named}

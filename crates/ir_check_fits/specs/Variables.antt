@@ -1,7 +1,7 @@
 -- Variables whose types have no size.
 use Rattle.std.specs.Prelude.{Bool, false, not, List, map}
 use Rattle.std.specs.List.{filter_map}
-use Rattle.forms.specs.Nested.{concat}
+use Rattle.text_forms.specs.Nested.{concat}
 use Rattle.ir_types.specs.declared.module.Symbol.{Symbol}
 use Rattle.ir_types.specs.declared.module.SymbolKind.{SymbolKind}
 use Rattle.ir_types.specs.declared.module.SymbolKind.TheVariants as symbols

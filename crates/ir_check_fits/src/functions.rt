@@ -1,7 +1,7 @@
 // The first instruction that doesn't fit.
 ghost use Rattle.std.specs.Prelude.{◌≡◌, List, map, IfOk};
 ghost use Rattle.std.specs.List.{AllByRecursion};
-ghost use Rattle.forms.specs.Nested.{concat};
+ghost use Rattle.text_forms.specs.Nested.{concat};
 ghost use Rattle.ir_types.specs.Tree.{FunctionTree};
 ghost use Rattle.ir_types.specs.Denotes.{tables_of, function_in, tree_of};
 ghost use Rattle.ir_shape.specs.Placed.{IsFunctionPlaced};

@@ -1,7 +1,7 @@
 -- The first use in a module of what isn't known, by places and by names.
 use Rattle.std.proofs.Common.{◌≡◌, ℕ, Bool, List, [], ◌++◌, map, Option, refl, sym, ap, subst, ◌∙◌}
 use Rattle.std.specs.Option.{option_map}
-use Rattle.forms.specs.Nested.{concat}
+use Rattle.text_forms.specs.Nested.{concat}
 use Rattle.ir_types.specs.declared.memory_type.TypeId.{TypeId}
 use Rattle.ir_types.specs.declared.memory_type.TypeName.{TypeName}
 use Rattle.ir_types.specs.declared.memory_type.NamedType.{NamedType}

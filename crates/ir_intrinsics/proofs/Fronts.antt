@@ -6,10 +6,10 @@ use Rattle.std.specs.Bool.{Decides}
 use Rattle.std.proofs.lemmas.Bool.Decides.{Decides-eqb, same_from_decides}
 use Rattle.std.proofs.lemmas.List.{append_cancel_left}
 use Rattle.std.proofs.lemmas.Slice.Eq.{bytes_eq-Decides}
-use Rattle.forms.specs.Bind.{◌>>=◌}
-use Rattle.forms.specs.Form.{same_text, is_one_of}
-use Rattle.forms.proofs.Begins.{test}
-use Rattle.forms.proofs.Tokens.{text_is, is_text}
+use Rattle.text_forms.specs.Bind.{◌>>=◌}
+use Rattle.text_forms.specs.Form.{same_text, is_one_of}
+use Rattle.text_forms.proofs.Begins.{test}
+use Rattle.text_forms.proofs.Tokens.{text_is, is_text}
 use Rattle.ir_types.specs.declared.name.Name.TheVariants.{Text}
 use Rattle.ir_intrinsics.specs.Intrinsics.{first, Intrinsic as Kind, Meant, any_lifetime, behind_front, in_family, families, lifetimes, meant_by}
 use Rattle.ir_intrinsics.specs.Means.{in_one, short_families, short_lifetimes, behind_llvm}

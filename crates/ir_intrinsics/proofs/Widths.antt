@@ -7,9 +7,9 @@ use Rattle.std.proofs.lemmas.List.{append_cancel_right, take-append-drop, length
 use Rattle.std.proofs.Math.Seq.{drop-append_seam}
 use Rattle.std.proofs.Math.Nat.{add-sub_cancel}
 use Rattle.std.proofs.lemmas.Slice.Eq.{bytes_eq-Decides}
-use Rattle.forms.specs.Bind.{◌>>=◌}
-use Rattle.forms.specs.Form.{same_text, entry}
-use Rattle.forms.proofs.Begins.{test}
+use Rattle.text_forms.specs.Bind.{◌>>=◌}
+use Rattle.text_forms.specs.Form.{same_text, entry}
+use Rattle.text_forms.proofs.Begins.{test}
 use Rattle.ir_intrinsics.proofs.Fronts.{same_text-Decides}
 
 both_ends : (a w end : List ℕ) → bytes_eq (a ++ end) (w ++ end) ≡ same_text w a

@@ -1,8 +1,8 @@
 -- The functions that this project gives a meaning by their names, and their signatures. (LLVM's Language Reference, "Intrinsic Functions".)
 use Rattle.std.specs.List.{list_any}
 use Rattle.std.specs.Prelude.{ℕ, bytes_eq, List, [], ◌∷◌, ◌++◌, drop, length, find, filter_map, codes, Option, Some, None, if◌then◌else◌}
-use Rattle.forms.specs.Bind.{◌>>=◌}
-use Rattle.forms.specs.LeftOut.{begins_with}
+use Rattle.text_forms.specs.Bind.{◌>>=◌}
+use Rattle.text_forms.specs.LeftOut.{begins_with}
 use Rattle.ir_types.specs.declared.name.Name.{Name}
 use Rattle.ir_types.specs.declared.name.Name.TheVariants.{Text, Number}
 use Rattle.ir_types.specs.declared.inst.Ty.{Ty}

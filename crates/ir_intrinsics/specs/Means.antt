@@ -1,7 +1,7 @@
 -- What is found of a name, in the words of the rule.
 use Rattle.std.specs.Prelude.{ℕ, List, [], ◌∷◌, filter_map, codes, Option, Some, if◌then◌else◌}
-use Rattle.forms.specs.Bind.{◌>>=◌}
-use Rattle.forms.specs.Form.{is_one_of}
+use Rattle.text_forms.specs.Bind.{◌>>=◌}
+use Rattle.text_forms.specs.Form.{is_one_of}
 use Rattle.ir_types.specs.declared.inst.Ty.{Ty}
 use Rattle.ir_types.specs.declared.inst.Ty.TheVariants.{Int, Ptr, Vector, Void}
 use Rattle.ir_types.specs.Grammar.{bits_for, element_of}

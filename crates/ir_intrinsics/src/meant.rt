@@ -7,7 +7,7 @@ ghost use Rattle.ir_intrinsics.specs.Intrinsics.{first, in_family, meant_by};
 ghost use Rattle.ir_intrinsics.specs.Means.{meant_in, family_in, in_one, behind_llvm};
 
 use crate::written::{behind_front, type_written, vector_before};
-use forms::is_one_of;
+use text_forms::is_one_of;
 use ir_types::{BinOp, Name, Ty};
 
 /// A function that has a meaning by its name. (LLVM's Language Reference, "Intrinsic Functions".)

@@ -5,7 +5,7 @@ ghost use Rattle.std.specs.Option.{option_map};
 ghost use Rattle.ir_intrinsics.specs.Intrinsics.{first, behind_front, width_before, vector_before, type_written};
 ghost use Rattle.ir_intrinsics.specs.Means.{vector_in};
 
-use forms::find;
+use text_forms::find;
 use ir_types::Ty;
 
 static WIDTHS: [(&[u8], u32); 5] = [

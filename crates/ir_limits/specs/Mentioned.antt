@@ -1,7 +1,7 @@
 -- The names that a module's text mentions, in the text's order; things without a name are there by their numbers. Of a constant
 -- `getelementptr` it is the symbol alone: the names of types in it are defined by other items, or it has no bytes to count.
 use Rattle.std.specs.Prelude.{List, [], ◌∷◌, ◌++◌, map, Option, Some, None}
-use Rattle.forms.specs.Nested.{concat}
+use Rattle.text_forms.specs.Nested.{concat}
 use Rattle.ir_types.specs.declared.name.Name.{Name}
 use Rattle.ir_types.specs.Kinds.{Kind, Phi, Offset, Call}
 use Rattle.ir_types.specs.Tree.{OperandTree, local, global, out_of_range, InstTree, BlockTree, ParamTree, FunctionTree, Item, head_line, comdat_line, type_item, variable_item, function_item, attribute_line, metadata_line}

@@ -1,7 +1,7 @@
 // The first name of a function that has too many bytes.
 
 ghost use Rattle.std.specs.Prelude.{◌≡◌, ◌++◌, List, map, None};
-ghost use Rattle.forms.specs.Nested.{concat};
+ghost use Rattle.text_forms.specs.Nested.{concat};
 ghost use Rattle.ir_types.specs.Denotes.{name_in, operand_in, kind_in, inst_in, block_in, param_in, function_in};
 ghost use Rattle.ir_types.specs.Tree.{ParamTree};
 ghost use Rattle.ir_limits.specs.Mentioned.{in_operand, in_operands, in_entries, before_operands, of_result, in_inst, in_block, in_function};

@@ -2,12 +2,12 @@
 use Rattle.std.proofs.Common.{◌≡◌, ◌<◌, ◌^◌, ℕ, zero, suc, Bool, true, List, [], ◌∷◌, length, map, Some, refl, sym, subst, inl, inr, arith}
 use Rattle.std.specs.Prelude.{slice_index_or}
 use Rattle.std.specs.List.{AllByRecursion}
-use Rattle.forms.specs.Form.{Form, Spells}
-use Rattle.forms.specs.Reading.{decides}
-use Rattle.forms.specs.Nested.{joined}
-use Rattle.forms.specs.Kept.{kept_piece, kept_run, metadata_node, attachment, attachments, kept_behind_comma}
-use Rattle.forms.specs.LeftOut.{left_out_words}
-use Rattle.forms.proofs.Exact.{read_spells}
+use Rattle.text_forms.specs.Form.{Form, Spells}
+use Rattle.text_forms.specs.Reading.{decides}
+use Rattle.text_forms.specs.Nested.{joined}
+use Rattle.text_forms.specs.Kept.{kept_piece, kept_run, metadata_node, attachment, attachments, kept_behind_comma}
+use Rattle.text_forms.specs.LeftOut.{left_out_words}
+use Rattle.text_forms.proofs.Exact.{read_spells}
 use Rattle.ir_types.specs.declared.name.Name.{Name}
 use Rattle.ir_types.specs.declared.name.Name.TheVariants.{Text, Number}
 use Rattle.ir_types.specs.declared.inst.BinOp.TheVariants.{Add, SMax}

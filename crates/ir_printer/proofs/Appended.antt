@@ -14,7 +14,7 @@ use Rattle.ir_types.specs.declared.module.Block.{Block}
 use Rattle.ir_types.specs.declared.module.Function.{Function}
 use Rattle.ir_types.specs.Denotes.{Tables, param_in, block_in, function_in}
 use Rattle.ir_types.specs.Tree.{OperandTree, InstTree, FunctionTree}
-use Rattle.type_printer.specs.Pieces.{word, local_token, global_token, line_feed, separated, with_commas, type_pieces}
+use Rattle.ir_printer_types.specs.Pieces.{word, local_token, global_token, line_feed, separated, with_commas, type_pieces}
 use Rattle.ir_printer.specs.Print.{for_one, signature_pieces, arguments_of, call_pieces, opening_pieces, operands_pieces, ending_pieces, result_pieces, inst_pieces, block_pieces, kept_then_blank, blank_then_kept, params_pieces, function_word, head_pieces, body_pieces, function_pieces, parting, functions_behind, definition_pieces}
 
 -- a word is appended where there is room

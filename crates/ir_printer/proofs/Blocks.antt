@@ -3,9 +3,9 @@ use Rattle.std.proofs.Common.{◌≡◌, ◌||◌, List, [], ◌∷◌, ◌++◌
 use Rattle.std.specs.Prelude.{map, codes}
 use Rattle.std.specs.List.{AllByRecursion, AllZip, list_any}
 use Rattle.std.proofs.lemmas.List.{append-nil}
-use Rattle.forms.specs.declared.TokenKind.TheVariants as kinds
-use Rattle.forms.specs.Form.{Form, pair, many, by_word}
-use Rattle.forms.specs.Lexical.{kind_of, table}
+use Rattle.text_forms.specs.declared.TokenKind.TheVariants as kinds
+use Rattle.text_forms.specs.Form.{Form, pair, many, by_word}
+use Rattle.text_forms.specs.Lexical.{kind_of, table}
 use Rattle.text_lex.specs.Layout.{Piece, lexeme, closed, open_}
 use Rattle.ir_types.specs.declared.name.Name.{Name}
 use Rattle.ir_types.specs.declared.inst.Ty.{Ty}
@@ -15,11 +15,11 @@ use Rattle.text_lex.specs.KeptText.{kept_behind}
 use Rattle.ir_types.specs.Tree.{OperandTree, local, number, null, poison, lanes, global, out_of_range, InstTree}
 use Rattle.ir_types.specs.Grammar.{bare_inst, is_out_of_range, with_kept, attached, label, operation_words, operation_behind, operation, terminator, named_by, line, block}
 use Rattle.ir_shape.specs.Shape.{IsName, IsOperand, IsTyped, IsBody, IsInst, IsResult, IsTerminator, EndsOnce, IsBlock}
-use Rattle.type_printer.specs.Pieces.{line_feed, indent, label_token, each_behind}
-use Rattle.type_printer.proofs.Laid.{nothing_behind, token_laid}
-use Rattle.type_printer.proofs.Names.{local_again, local_kind, label_kind}
-use Rattle.type_printer.proofs.Spelled.{label_says}
-use Rattle.type_printer.proofs.Writes.{Writes, laid_writes, both, spaced, on_next_line, indented, with_feed, anywhere, left_writes, right_writes, mapped_writes, made_writes, ahead_writes, there_writes, more_writes, no_more, EachWrites}
+use Rattle.ir_printer_types.specs.Pieces.{line_feed, indent, label_token, each_behind}
+use Rattle.ir_printer_types.proofs.Laid.{nothing_behind, token_laid}
+use Rattle.ir_printer_types.proofs.Names.{local_again, local_kind, label_kind}
+use Rattle.ir_printer_types.proofs.Spelled.{label_says}
+use Rattle.ir_printer_types.proofs.Writes.{Writes, laid_writes, both, spaced, on_next_line, indented, with_feed, anywhere, left_writes, right_writes, mapped_writes, made_writes, ahead_writes, there_writes, more_writes, no_more, EachWrites}
 use Rattle.ir_printer.specs.Print.{result_pieces, inst_pieces, block_pieces}
 use Rattle.ir_printer.proofs.KeptWritten.{behind_kept}
 use Rattle.ir_printer.proofs.Instructions.{operation_writes, terminator_writes}

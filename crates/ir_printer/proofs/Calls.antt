@@ -2,8 +2,8 @@
 use Rattle.std.proofs.Common.{◌≡◌, ◌<◌, ℕ, Bool, List, [], ◌∷◌, ◌++◌, length, Option, Some, None, refl, ap, subst, append_assoc, arith}
 use Rattle.std.specs.Prelude.{map, codes}
 use Rattle.std.specs.List.{AllByRecursion, AllZip}
-use Rattle.forms.specs.declared.TokenKind.TheVariants as kinds
-use Rattle.forms.specs.Form.{optional}
+use Rattle.text_forms.specs.declared.TokenKind.TheVariants as kinds
+use Rattle.text_forms.specs.Form.{optional}
 use Rattle.text_lex.specs.Layout.{Piece, lexeme, closed, open_}
 use Rattle.ir_types.specs.declared.inst.Ty.{Ty}
 use Rattle.ir_types.specs.declared.inst.Ty.TheVariants.{Int, Ptr}
@@ -16,10 +16,10 @@ use Rattle.ir_types.specs.TypeNodes.{TypeNode}
 use Rattle.ir_types.specs.Tree.{OperandTree}
 use Rattle.ir_types.specs.Grammar.{some, marked, list, value_type, dotted_list, inst_memory, bare_inst, getelementptr, index_value, argument, signature, call, kept}
 use Rattle.ir_shape.specs.Shape.{IsKept, IsReturnType, IsType, IsTyped, IsSignature, IsCallee}
-use Rattle.type_printer.specs.Pieces.{comma, blank, left_paren, right_paren, global_token, each_behind, with_commas, type_pieces}
-use Rattle.type_printer.proofs.Laid.{loose, nothing_behind, mark_laid}
-use Rattle.type_printer.proofs.LaidOut.{bracket_kinds}
-use Rattle.type_printer.proofs.Writes.{Writes, both, spaced, mapped_writes, made_writes, none_writes, there_writes, after_comma, between_writes, EachWrites, list_write, some_commas}
+use Rattle.ir_printer_types.specs.Pieces.{comma, blank, left_paren, right_paren, global_token, each_behind, with_commas, type_pieces}
+use Rattle.ir_printer_types.proofs.Laid.{loose, nothing_behind, mark_laid}
+use Rattle.ir_printer_types.proofs.LaidOut.{bracket_kinds}
+use Rattle.ir_printer_types.proofs.Writes.{Writes, both, spaced, mapped_writes, made_writes, none_writes, there_writes, after_comma, between_writes, EachWrites, list_write, some_commas}
 use Rattle.ir_printer.specs.Print.{typed_operand, each_typed, written_types, signature_pieces, argument_pieces, arguments_of, call_pieces, blank_then_kept, kept_then_blank, offset_flags, listed_pieces}
 use Rattle.ir_printer.proofs.Words.{type_writes, return_writes, global_writes}
 use Rattle.ir_printer.proofs.Values.{operand_written, pointer_writes, index_writes}

@@ -2,14 +2,14 @@
 use Rattle.std.proofs.Common.{◌≡◌, Bool, true, false, cond, List, [], ◌∷◌, ◌++◌, length, Some, None, refl, arith}
 use Rattle.std.specs.Prelude.{map, codes}
 use Rattle.std.specs.List.{AllByRecursion}
-use Rattle.forms.specs.declared.TokenKind.TheVariants as kinds
-use Rattle.forms.specs.Form.{Form}
-use Rattle.forms.specs.Gives.{mark}
-use Rattle.forms.specs.Lexical.{kind_of, table}
+use Rattle.text_forms.specs.declared.TokenKind.TheVariants as kinds
+use Rattle.text_forms.specs.Form.{Form}
+use Rattle.text_forms.specs.Gives.{mark}
+use Rattle.text_forms.specs.Lexical.{kind_of, table}
 use Rattle.text_lex.specs.Layout.{Piece, closed}
 use Rattle.ir_types.specs.Grammar.{dotted_list}
-use Rattle.type_printer.specs.Pieces.{with_commas}
-use Rattle.type_printer.proofs.Writes.{Writes, both, left_writes, right_writes, mapped_writes, one_writes, none_writes, there_writes, marked_comma, EachWrites, commas_write}
+use Rattle.ir_printer_types.specs.Pieces.{with_commas}
+use Rattle.ir_printer_types.proofs.Writes.{Writes, both, left_writes, right_writes, mapped_writes, one_writes, none_writes, there_writes, marked_comma, EachWrites, commas_write}
 use Rattle.ir_printer.specs.Print.{dots, dots_pieces}
 
 dots_kind : kind_of (codes "...") ≡ Some kinds.Dots

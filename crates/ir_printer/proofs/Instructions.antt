@@ -4,10 +4,10 @@ use Rattle.std.specs.Prelude.{not, map, codes, replicate}
 use Rattle.std.specs.List.{AllByRecursion, AllZip, list_all, list_any, zip}
 use Rattle.std.proofs.lemmas.Bool.{eq-eqb}
 use Rattle.std.proofs.lemmas.List.{append-nil}
-use Rattle.forms.specs.declared.TokenKind.TheVariants as kinds
-use Rattle.forms.specs.Form.{Form, either, by_word}
-use Rattle.forms.specs.Combined.{word as word_form}
-use Rattle.forms.specs.Lexical.{kind_of, table}
+use Rattle.text_forms.specs.declared.TokenKind.TheVariants as kinds
+use Rattle.text_forms.specs.Form.{Form, either, by_word}
+use Rattle.text_forms.specs.Combined.{word as word_form}
+use Rattle.text_forms.specs.Lexical.{kind_of, table}
 use Rattle.text_lex.specs.Layout.{Piece, closed, open_}
 use Rattle.ir_types.specs.declared.name.Name.{Name}
 use Rattle.ir_types.specs.declared.inst.Ty.{Ty}
@@ -29,17 +29,17 @@ use Rattle.ir_types.specs.Written.{number_at}
 use Rattle.ir_types.specs.Tree.{OperandTree, InstTree}
 use Rattle.ir_types.specs.Grammar.{WrittenValue, wrap_flags, exact_flag, disjoint_flag, no_flags, bits_for, element_of, shuffled, bare_inst, overflowing, possibly_exact, plain_binary, or_operation, predicates, call, compared, compare, select, freeze, trunc, zext, sext, ptrtoint, entry_of_phi, entries_at, phi, load, store, extractelement, insertelement, shufflevector, branch, case_of_switch, index_fits, switch, void_tree, unreachable_tree, ret, operation_words, operation_behind, terminator_words, terminator_behind}
 use Rattle.ir_shape.specs.Shape.{IsName, IsOneOf, widths, IsType, IsBelow, IsTyped, IsTerminator, HasFlags, IsBody}
-use Rattle.type_printer.specs.Texts.{signed_text}
-use Rattle.type_printer.specs.MemoryPieces.{node_pieces}
-use Rattle.type_printer.specs.Pieces.{word, comma, blank, type_pieces, width_word, each_behind, with_commas}
-use Rattle.type_printer.proofs.Spelled.{decimals}
-use Rattle.type_printer.proofs.Widths.{width_within}
-use Rattle.type_printer.proofs.Laid.{Separates, loose, mark_laid, nothing_behind, gap_laid}
-use Rattle.type_printer.proofs.LaidOut.{bracket_kinds}
-use Rattle.type_printer.proofs.Writes.{Writes, both, spaced, ended, regrouped, left_writes, right_writes, mapped_writes, made_writes, word_writes, behind_writes, by_word_writes, after_comma, between_writes, bracketed, EachWrites, commas_write, many_behind}
+use Rattle.ir_printer_types.specs.Texts.{signed_text}
+use Rattle.ir_printer_types.specs.MemoryPieces.{node_pieces}
+use Rattle.ir_printer_types.specs.Pieces.{word, comma, blank, type_pieces, width_word, each_behind, with_commas}
+use Rattle.ir_printer_types.proofs.Spelled.{decimals}
+use Rattle.ir_printer_types.proofs.Widths.{width_within}
+use Rattle.ir_printer_types.proofs.Laid.{Separates, loose, mark_laid, nothing_behind, gap_laid}
+use Rattle.ir_printer_types.proofs.LaidOut.{bracket_kinds}
+use Rattle.ir_printer_types.proofs.Writes.{Writes, both, spaced, ended, regrouped, left_writes, right_writes, mapped_writes, made_writes, word_writes, behind_writes, by_word_writes, after_comma, between_writes, bracketed, EachWrites, commas_write, many_behind}
 use Rattle.ir_printer.specs.Print.{operator_word, predicate_word, flags_pieces, call_words, typed_operand, typed_pieces, listed_pieces, entry_pieces, entries_of, before_case, case_pieces, cases_of, switch_pieces, align_pieces, kind_pieces}
 use Rattle.ir_printer.proofs.Numbers.{signed_again, signed_fits}
-use Rattle.type_printer.proofs.InstMemory.{memory_writes}
+use Rattle.ir_printer_types.proofs.InstMemory.{memory_writes}
 use Rattle.ir_printer.proofs.Words.{local_writes, width_writes, type_writes, signed_writes}
 use Rattle.ir_printer.proofs.Calls.{offset_writes, call_writes}
 use Rattle.ir_printer.proofs.Values.{IsWritten, operand_written, typed_writes, pointer_writes, index_writes, by_none, by_one, by_two, by_three}

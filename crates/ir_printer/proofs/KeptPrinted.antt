@@ -2,8 +2,8 @@
 use Rattle.std.proofs.Common.{◌≡◌, ◌+◌, ◌-◌, ◌<◌, ◌≤◌, ℕ, suc, true, false, eqb, List, [], ◌∷◌, ◌++◌, length, get_or, drop, refl, sym, ap, ◌∙◌, append_assoc, add-one, drop-cons, arith, inl, inr}
 use Rattle.std.specs.Prelude.{codes}
 use Rattle.std.proofs.lemmas.List.{append-nil, drop_all, get_or_default}
-use Rattle.forms.specs.Form.{same_text}
-use Rattle.forms.proofs.Begins.{test}
+use Rattle.text_forms.specs.Form.{same_text}
+use Rattle.text_forms.proofs.Begins.{test}
 use Rattle.text_lex.specs.Layout.{text_of}
 use Rattle.text_lex.specs.KeptText.{touches, between, kept_behind, kept_pieces, line_pieces}
 use Rattle.text_lex.proofs.Layouts.{text_of-append}

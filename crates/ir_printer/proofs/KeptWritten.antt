@@ -3,19 +3,19 @@ use Rattle.std.proofs.Common.{◌≡◌, List, [], ◌∷◌, ◌++◌, refl, sy
 use Rattle.std.specs.Prelude.{map}
 use Rattle.std.specs.List.{AllByRecursion}
 use Rattle.std.proofs.lemmas.List.{append-nil}
-use Rattle.forms.specs.Form.{Lexeme, Form, pair}
-use Rattle.forms.specs.Lexical.{table}
-use Rattle.forms.proofs.Begins.{test}
+use Rattle.text_forms.specs.Form.{Lexeme, Form, pair}
+use Rattle.text_forms.specs.Lexical.{table}
+use Rattle.text_forms.proofs.Begins.{test}
 use Rattle.text_lex.specs.KeptText.{token_of, IsToken, touches, kept_behind, kept_pieces}
 use Rattle.text_lex.specs.Layout.{Piece, AreTokens, tokens_of, closed, open_}
 use Rattle.text_lex.proofs.KeptTexts.{kept_tokens, kept_are, kept_joins}
 use Rattle.text_lex.proofs.Layouts.{tokens_of-append}
 use Rattle.ir_types.specs.Tree.{KeptTexts}
 use Rattle.ir_shape.specs.Shape.{IsKept}
-use Rattle.type_printer.specs.Pieces.{blank}
-use Rattle.type_printer.proofs.Laid.{IsLaid, IsBehind, nothing_behind, blank_laid, laid-append}
-use Rattle.type_printer.proofs.Says.{Says, pair_says}
-use Rattle.type_printer.proofs.Writes.{Writes, laid_writes, is_laid}
+use Rattle.ir_printer_types.specs.Pieces.{blank}
+use Rattle.ir_printer_types.proofs.Laid.{IsLaid, IsBehind, nothing_behind, blank_laid, laid-append}
+use Rattle.ir_printer_types.proofs.Says.{Says, pair_says}
+use Rattle.ir_printer_types.proofs.Writes.{Writes, laid_writes, is_laid}
 use Rattle.ir_printer.specs.Print.{kept_then_blank, blank_then_kept}
 
 pub kept_says : {f : Form KeptTexts} {xs : KeptTexts} → IsKept f xs → Says f xs (map token_of xs)

@@ -2,20 +2,20 @@
 use Rattle.std.proofs.Common.{◌≡◌, Bool, true, false, List, [], ◌∷◌, ◌++◌, Some, refl, append_assoc}
 use Rattle.std.specs.Prelude.{map, codes}
 use Rattle.std.specs.List.{AllByRecursion}
-use Rattle.forms.specs.declared.TokenKind.TheVariants as kinds
-use Rattle.forms.specs.Lexical.{kind_of, table}
+use Rattle.text_forms.specs.declared.TokenKind.TheVariants as kinds
+use Rattle.text_forms.specs.Lexical.{kind_of, table}
 use Rattle.text_lex.specs.Layout.{Piece}
 use Rattle.text_lex.specs.KeptText.{IsToken, kept_behind, line_pieces}
 use Rattle.text_lex.proofs.KeptTexts.{line_are, line_joins}
 use Rattle.ir_types.specs.declared.name.Name.{Name}
 use Rattle.ir_types.specs.Tree.{KeptTexts, BlockTree, ParamTree, FunctionTree, VariableTree}
 use Rattle.ir_shape.specs.Shape.{IsName, IsBlock, IsParam, IsFunction}
-use Rattle.type_printer.specs.MemoryPieces.{node_pieces}
-use Rattle.type_printer.specs.Pieces.{word, blank, line_feed, right_paren, right_brace, separated, global_token, type_pieces}
-use Rattle.type_printer.proofs.Names.{global_kind}
-use Rattle.type_printer.proofs.Laid.{IsLaid, IsBehind, loose, nothing_behind, blank_laid, feed_laid, mark_laid, token_laid, laid-append, behind-append, separated_laid}
-use Rattle.type_printer.proofs.LaidOut.{equal_laid, bracket_kinds, feeds_part, local_laid, word_laid, type_laid}
-use Rattle.type_printer.proofs.Writes.{is_laid, each_is_laid}
+use Rattle.ir_printer_types.specs.MemoryPieces.{node_pieces}
+use Rattle.ir_printer_types.specs.Pieces.{word, blank, line_feed, right_paren, right_brace, separated, global_token, type_pieces}
+use Rattle.ir_printer_types.proofs.Names.{global_kind}
+use Rattle.ir_printer_types.proofs.Laid.{IsLaid, IsBehind, loose, nothing_behind, blank_laid, feed_laid, mark_laid, token_laid, laid-append, behind-append, separated_laid}
+use Rattle.ir_printer_types.proofs.LaidOut.{equal_laid, bracket_kinds, feeds_part, local_laid, word_laid, type_laid}
+use Rattle.ir_printer_types.proofs.Writes.{is_laid, each_is_laid}
 use Rattle.ir_printer.specs.Print.{kept_then_blank, whole_line, block_pieces, params_pieces, function_word, head_pieces, body_pieces, function_pieces, definition_pieces, variable_word, variable_pieces}
 use Rattle.ir_printer.proofs.KeptWritten.{then_blank_laid, blank_then_behind, behind_laid}
 use Rattle.ir_printer.proofs.Blocks.{block_writes}

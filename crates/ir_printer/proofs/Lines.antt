@@ -3,22 +3,22 @@ use Rattle.std.proofs.Common.{◌≡◌, ℕ, Bool, true, false, eqb, List, [], 
 use Rattle.std.specs.Prelude.{map, codes, filter}
 use Rattle.std.specs.List.{AllByRecursion}
 use Rattle.std.proofs.lemmas.Bool.{eq-eqb}
-use Rattle.forms.specs.declared.TokenKind.{TokenKind}
-use Rattle.forms.specs.declared.TokenKind.TheVariants.{Word, Comdat, Metadata, Equal, Bang}
-use Rattle.forms.specs.declared.Part.{Part}
-use Rattle.forms.specs.declared.Part.TheVariants.{One, Run}
-use Rattle.forms.specs.declared.Class.TheVariants.{Byte, NameStart, NamePart, NotQuote}
-use Rattle.forms.specs.Form.{Lexeme, Form, Spells, kind_code, same_text, ahead, mapped}
-use Rattle.forms.specs.Kept.{kept_one, kept_token, perhaps, in_braces}
-use Rattle.forms.specs.Lexical.{kind_of, kind_by, spells, table}
-use Rattle.forms.specs.Nested.{joined}
-use Rattle.forms.proofs.Begins.{test}
-use Rattle.forms.proofs.Tokens.{is_text}
+use Rattle.text_forms.specs.declared.TokenKind.{TokenKind}
+use Rattle.text_forms.specs.declared.TokenKind.TheVariants.{Word, Comdat, Metadata, Equal, Bang}
+use Rattle.text_forms.specs.declared.Part.{Part}
+use Rattle.text_forms.specs.declared.Part.TheVariants.{One, Run}
+use Rattle.text_forms.specs.declared.Class.TheVariants.{Byte, NameStart, NamePart, NotQuote}
+use Rattle.text_forms.specs.Form.{Lexeme, Form, Spells, kind_code, same_text, ahead, mapped}
+use Rattle.text_forms.specs.Kept.{kept_one, kept_token, perhaps, in_braces}
+use Rattle.text_forms.specs.Lexical.{kind_of, kind_by, spells, table}
+use Rattle.text_forms.specs.Nested.{joined}
+use Rattle.text_forms.proofs.Begins.{test}
+use Rattle.text_forms.proofs.Tokens.{is_text}
 use Rattle.text_lex.specs.KeptText.{token_of, IsToken}
 use Rattle.ir_types.specs.Tree.{KeptTexts}
 use Rattle.ir_types.specs.Grammar.{equal_string, target_line, attribute_group, comdat, metadata}
 use Rattle.ir_shape.specs.Shape.{IsKept, head_form, attributes_form}
-use Rattle.type_printer.specs.Pieces.{token}
+use Rattle.ir_printer_types.specs.Pieces.{token}
 use Rattle.ir_printer.specs.Print.{begins_comdat, is_comdat}
 
 -- ---- a token's first byte

@@ -5,16 +5,16 @@ use Rattle.std.proofs.Math.Nat.{mod-eq_of_lt, two-pow-succ}
 use Rattle.std.proofs.Math.Pow.{pow_mono}
 use Rattle.std.proofs.lemmas.Nat.{pow_pos}
 use Rattle.std.proofs.lemmas.Bool.Decides.{nat_tests}
-use Rattle.forms.specs.declared.TokenKind.TheVariants.{Number}
-use Rattle.forms.specs.Lexical.{kind_of}
+use Rattle.text_forms.specs.declared.TokenKind.TheVariants.{Number}
+use Rattle.text_forms.specs.Lexical.{kind_of}
 use Rattle.text_lex.specs.Names.{is_digits}
-use Rattle.forms.proofs.Begins.{test}
+use Rattle.text_forms.proofs.Begins.{test}
 use Rattle.text_lex.proofs.Decimals.{decimal_digits}
 use Rattle.text_lex.proofs.Printed.{number_digits, number_negative}
 use Rattle.ir_types.specs.Written.{number_of, number_at, fits_width}
-use Rattle.type_printer.specs.Texts.{signed_text}
+use Rattle.ir_printer_types.specs.Texts.{signed_text}
 use Rattle.text_lex.proofs.Decimals.{number_of-decimal}
-use Rattle.type_printer.proofs.Numbers.{no_sign}
+use Rattle.ir_printer_types.proofs.Numbers.{no_sign}
 
 digits_at : (w : ℕ) (ds : List ℕ) → is_digits ds ≡ true → number_at w ds ≡ number_of ds % 2 ^ w
 digits_at w [] h = absurd cc

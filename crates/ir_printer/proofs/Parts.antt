@@ -2,11 +2,11 @@
 use Rattle.std.proofs.Common.{◌≡◌, ◌<◌, ◌^◌, ℕ, suc, Bool, true, false, List, [], ◌∷◌, ◌++◌, length, Some, None, refl, ◌∙◌, arith}
 use Rattle.std.specs.Prelude.{codes, decimal}
 use Rattle.std.specs.List.{AllByRecursion}
-use Rattle.forms.specs.declared.TokenKind.TheVariants as kinds
-use Rattle.forms.specs.Lexical.{kind_of, table}
-use Rattle.forms.specs.Form.{Form}
+use Rattle.text_forms.specs.declared.TokenKind.TheVariants as kinds
+use Rattle.text_forms.specs.Lexical.{kind_of, table}
+use Rattle.text_forms.specs.Form.{Form}
 use Rattle.text_lex.specs.Layout.{Piece, closed, open_}
-use Rattle.type_printer.specs.Pieces.{word}
+use Rattle.ir_printer_types.specs.Pieces.{word}
 use Rattle.text_lex.specs.Names.{is_digits}
 use Rattle.text_lex.proofs.Decimals.{decimal_digits, number_of-decimal}
 use Rattle.text_lex.proofs.Printed.{number_digits}
@@ -17,8 +17,8 @@ use Rattle.ir_types.specs.Written.{number_of, at_most_64_bits}
 use Rattle.ir_types.specs.Tree.{OperandTree}
 use Rattle.ir_types.specs.Grammar.{typed_pair, to_type, target, alignment_of, alignment, one_flag, two_flags, three_flags, flag_then}
 use Rattle.ir_shape.specs.Shape.{IsName, IsType, IsBelow}
-use Rattle.type_printer.proofs.Numbers.{no_sign}
-use Rattle.type_printer.proofs.Writes.{Writes, both, spaced, ended, mapped_writes, made_writes, exactly_writes, one_writes, behind_writes, left_writes, right_writes, none_writes, there_writes, after_comma, marked_comma}
+use Rattle.ir_printer_types.proofs.Numbers.{no_sign}
+use Rattle.ir_printer_types.proofs.Writes.{Writes, both, spaced, ended, mapped_writes, made_writes, exactly_writes, one_writes, behind_writes, left_writes, right_writes, none_writes, there_writes, after_comma, marked_comma}
 use Rattle.ir_printer.specs.Print.{flag_pieces, wrap_pieces, offset_flags, typed_pieces, to_pieces, align_pieces, target_pieces}
 use Rattle.ir_printer.proofs.Numbers.{is_less}
 use Rattle.ir_printer.proofs.Words.{local_writes, type_writes}

@@ -6,7 +6,7 @@ use Rattle.std.proofs.lemmas.List.{append-nil, get_or-map, get_or_default, lengt
 use Rattle.std.proofs.lemmas.Slice.Zip.{get_or-zip, length-zip}
 use Rattle.text_lex.specs.Layout.{Piece, text_of}
 use Rattle.text_lex.proofs.Layouts.{text_of-append}
-use Rattle.type_printer.specs.Pieces.{comma, blank, each_behind, with_commas}
+use Rattle.ir_printer_types.specs.Pieces.{comma, blank, each_behind, with_commas}
 use Rattle.ir_printer.specs.Print.{comma_before}
 
 -- the one at a place

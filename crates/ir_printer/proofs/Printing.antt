@@ -3,8 +3,8 @@ use Rattle.std.proofs.Common.{◌≡◌, ◌≤◌, ◌+◌, ℕ, List, [], ◌�
 use Rattle.std.specs.Prelude.{map, codes, flat_map}
 use Rattle.std.specs.List.{AllByRecursion}
 use Rattle.std.proofs.lemmas.List.{append-nil}
-use Rattle.forms.specs.Form.{Lexeme, Form, many}
-use Rattle.forms.proofs.Begins.{test}
+use Rattle.text_forms.specs.Form.{Lexeme, Form, many}
+use Rattle.text_forms.proofs.Begins.{test}
 use Rattle.text_lex.specs.Layout.{Piece, text_of, tokens_of}
 use Rattle.text_lex.proofs.Layouts.{tokens_of-append}
 use Rattle.text_lex.proofs.Lexed.{each_split}
@@ -13,11 +13,11 @@ use Rattle.ir_types.specs.Offsets.{Definitions}
 use Rattle.ir_types.specs.Grammar.{memory_type, item}
 use Rattle.ir_types.specs.Tree.{KeptTexts, FunctionTree, NamedTree, defined, opaque, SymbolKindTree, variable, function, SymbolTree, VariableTree, ModuleTree, Item, variable_item, function_item, head_line, comdat_line, attribute_line, metadata_line}
 use Rattle.ir_shape.specs.Shape.{IsFunction, IsVariable, IsItem}
-use Rattle.type_printer.specs.MemoryPieces.{node_pieces}
-use Rattle.type_printer.specs.Pieces.{word, line_feed, each_behind, separated}
-use Rattle.type_printer.proofs.Says.{Says, none_says, more_says}
-use Rattle.type_printer.proofs.Laid.{IsLaid, loose, nothing_behind, feed_laid}
-use Rattle.type_printer.proofs.MemoryPrinted.{memory_prints}
+use Rattle.ir_printer_types.specs.MemoryPieces.{node_pieces}
+use Rattle.ir_printer_types.specs.Pieces.{word, line_feed, each_behind, separated}
+use Rattle.ir_printer_types.proofs.Says.{Says, none_says, more_says}
+use Rattle.ir_printer_types.proofs.Laid.{IsLaid, loose, nothing_behind, feed_laid}
+use Rattle.ir_printer_types.proofs.MemoryPrinted.{memory_prints}
 use Rattle.ir_printer.specs.Print.{function_pieces, parting, functions_behind, definition_pieces, named_pieces, type_name_pieces, variable_pieces, symbol_kind_pieces, symbol_pieces, is_comdat, whole_line, head_line_pieces, comdat_line_pieces, front_pieces, module_pieces}
 use Rattle.ir_printer.proofs.Lines.{begins_group}
 use Rattle.ir_printer.proofs.Grouped.{head_items, comdat_items, named_items, type_items, kind_items, symbol_items, function_items, tail_items, printed_items}

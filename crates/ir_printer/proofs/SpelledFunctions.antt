@@ -3,9 +3,9 @@ use Rattle.std.proofs.Common.{◌≡◌, ℕ, Bool, false, List, [], ◌∷◌, 
 use Rattle.std.specs.Prelude.{map, codes}
 use Rattle.std.specs.List.{AllByRecursion}
 use Rattle.std.proofs.lemmas.List.{append-nil}
-use Rattle.forms.specs.declared.TokenKind.TheVariants as kinds
-use Rattle.forms.specs.Form.{Lexeme, Form}
-use Rattle.forms.proofs.Begins.{test}
+use Rattle.text_forms.specs.declared.TokenKind.TheVariants as kinds
+use Rattle.text_forms.specs.Form.{Lexeme, Form}
+use Rattle.text_forms.proofs.Begins.{test}
 use Rattle.text_lex.specs.KeptText.{token_of}
 use Rattle.text_lex.specs.Layout.{Piece, lexeme, tokens_of}
 use Rattle.text_lex.proofs.Layouts.{tokens_of-append}
@@ -15,11 +15,11 @@ use Rattle.ir_types.specs.Tree.{BlockTree, ParamTree, FunctionTree, function_ite
 use Rattle.ir_types.specs.Offsets.{Definitions}
 use Rattle.ir_types.specs.Grammar.{list, parameter, dotted_parameters, declared_function, defined_function, item_words, item}
 use Rattle.ir_shape.specs.Shape.{IsKept, before_form, after_form, IsBlock, IsParam, IsFunction}
-use Rattle.type_printer.specs.Pieces as pieces_of
-use Rattle.type_printer.specs.Pieces.{token, global_token, local_token, type_pieces, with_commas}
-use Rattle.type_printer.proofs.Says.{Says, pair_says, left_says, mapped_says, by_word_says, between_says, some_says, list_says}
-use Rattle.type_printer.proofs.Spelled.{global_says, return_type_says}
-use Rattle.type_printer.proofs.Writes.{both, spaced, mapped_writes, there_writes, EachWrites, each_says}
+use Rattle.ir_printer_types.specs.Pieces as pieces_of
+use Rattle.ir_printer_types.specs.Pieces.{token, global_token, local_token, type_pieces, with_commas}
+use Rattle.ir_printer_types.proofs.Says.{Says, pair_says, left_says, mapped_says, by_word_says, between_says, some_says, list_says}
+use Rattle.ir_printer_types.proofs.Spelled.{global_says, return_type_says}
+use Rattle.ir_printer_types.proofs.Writes.{both, spaced, mapped_writes, there_writes, EachWrites, each_says}
 use Rattle.ir_printer.specs.Print.{kept_then_blank, blank_then_kept, block_pieces, param_pieces, params_pieces, function_word, head_pieces, body_pieces, function_pieces}
 use Rattle.ir_printer.proofs.Numbering.{written_param, written_block, written_function}
 use Rattle.ir_printer.proofs.Words.{local_writes, type_writes}

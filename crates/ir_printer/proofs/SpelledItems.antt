@@ -2,8 +2,8 @@
 use Rattle.std.proofs.Common.{◌≡◌, ◌≤◌, ℕ, Bool, true, false, List, [], ◌∷◌, ◌++◌, length, Some, None, refl, ap, ◌∙◌, arith, inl, inr, length-append}
 use Rattle.std.specs.Prelude.{map, codes}
 use Rattle.std.proofs.lemmas.List.{append-nil}
-use Rattle.forms.specs.declared.TokenKind.TheVariants as kinds
-use Rattle.forms.specs.Form.{Lexeme, Form}
+use Rattle.text_forms.specs.declared.TokenKind.TheVariants as kinds
+use Rattle.text_forms.specs.Form.{Lexeme, Form}
 use Rattle.text_lex.specs.KeptText.{token_of, line_pieces}
 use Rattle.text_lex.specs.Layout.{Piece, tokens_of}
 use Rattle.text_lex.proofs.KeptTexts.{line_tokens}
@@ -15,11 +15,11 @@ use Rattle.ir_types.specs.TypeNodes.{TypeNode}
 use Rattle.ir_types.specs.Tree.{KeptTexts, VariableTree, head_line, comdat_line, type_item, variable_item, attribute_line, metadata_line}
 use Rattle.ir_types.specs.Grammar.{kept, comdat, metadata, type_definition, variable_word, variable_definition, behind_type, item_words, item}
 use Rattle.ir_shape.specs.Shape.{IsName, IsKept, head_form, attributes_form}
-use Rattle.type_printer.specs.Texts.{name_text}
-use Rattle.type_printer.specs.MemoryPieces.{node_pieces}
-use Rattle.type_printer.specs.Pieces.{token, word, global_token, local_token}
-use Rattle.type_printer.proofs.Names.{local_again, global_again}
-use Rattle.type_printer.proofs.Says.{Says, pair_says, left_says, right_says, mapped_says, made_says, word_says, ahead_says, by_word_says, behind_says, after_mark_says}
+use Rattle.ir_printer_types.specs.Texts.{name_text}
+use Rattle.ir_printer_types.specs.MemoryPieces.{node_pieces}
+use Rattle.ir_printer_types.specs.Pieces.{token, word, global_token, local_token}
+use Rattle.ir_printer_types.proofs.Names.{local_again, global_again}
+use Rattle.ir_printer_types.proofs.Says.{Says, pair_says, left_says, right_says, mapped_says, made_says, word_says, ahead_says, by_word_says, behind_says, after_mark_says}
 use Rattle.ir_printer.specs.Print as print
 use Rattle.ir_printer.specs.Print.{whole_line, definition_pieces, variable_pieces}
 use Rattle.ir_printer.proofs.Lines.{head_parts, group_parts}

@@ -2,12 +2,12 @@
 use Rattle.std.proofs.Common.{◌≡◌, ◌&&◌, ◌+◌, ◌-◌, ◌*◌, ◌%◌, ◌^◌, ℕ, Bool, true, false, cond, List, [], ◌∷◌, Option, Some, None, lit<, lit≤, refl, ap, ◌∙◌, arith, inl, inr}
 use Rattle.std.specs.Prelude.{nat_lt, codes}
 use Rattle.std.specs.List.{list_all}
-use Rattle.forms.specs.Bind.{◌>>=◌}
+use Rattle.text_forms.specs.Bind.{◌>>=◌}
 use Rattle.std.proofs.Math.Nat.{mod-eq_of_lt}
-use Rattle.forms.specs.declared.TokenKind.TheVariants as kinds
-use Rattle.forms.specs.Form.{Form, many}
-use Rattle.forms.specs.Lexical.{kind_of, table}
-use Rattle.forms.proofs.Begins.{test}
+use Rattle.text_forms.specs.declared.TokenKind.TheVariants as kinds
+use Rattle.text_forms.specs.Form.{Form, many}
+use Rattle.text_forms.specs.Lexical.{kind_of, table}
+use Rattle.text_forms.proofs.Begins.{test}
 use Rattle.text_lex.specs.Layout.{lexeme, Before, closed, open_}
 use Rattle.ir_types.specs.declared.name.Name.{Name}
 use Rattle.ir_types.specs.declared.inst.Ty.{Ty}
@@ -17,15 +17,15 @@ use Rattle.ir_types.specs.TypeNodes.{TypeNode, scalar}
 use Rattle.ir_types.specs.Tree.{global, out_of_range}
 use Rattle.ir_types.specs.Grammar.{memory_leaf, inst_memory, three_flags, stepped, comma_index, constant_offset, index_fits, operand_at}
 use Rattle.ir_shape.specs.Shape.{IsName, IsBelow}
-use Rattle.type_printer.specs.Texts.{signed_text}
-use Rattle.type_printer.specs.Pieces.{token, word, comma, blank, left_paren, right_paren, global_token, width_word, type_pieces}
-use Rattle.type_printer.proofs.InstMemory.{in_instruction}
-use Rattle.type_printer.proofs.Laid.{loose, nothing_behind, mark_laid}
-use Rattle.type_printer.proofs.LaidOut.{bracket_kinds, type_laid}
-use Rattle.type_printer.proofs.MemorySays.{leaf_says}
-use Rattle.type_printer.proofs.Says.{none_says, left_says, mapped_says}
-use Rattle.type_printer.proofs.Spelled.{decimals, type_says}
-use Rattle.type_printer.proofs.Writes.{Writes, both, spaced, mapped_writes, none_writes, behind_writes, after_comma, between_writes}
+use Rattle.ir_printer_types.specs.Texts.{signed_text}
+use Rattle.ir_printer_types.specs.Pieces.{token, word, comma, blank, left_paren, right_paren, global_token, width_word, type_pieces}
+use Rattle.ir_printer_types.proofs.InstMemory.{in_instruction}
+use Rattle.ir_printer_types.proofs.Laid.{loose, nothing_behind, mark_laid}
+use Rattle.ir_printer_types.proofs.LaidOut.{bracket_kinds, type_laid}
+use Rattle.ir_printer_types.proofs.MemorySays.{leaf_says}
+use Rattle.ir_printer_types.proofs.Says.{none_says, left_says, mapped_says}
+use Rattle.ir_printer_types.proofs.Spelled.{decimals, type_says}
+use Rattle.ir_printer_types.proofs.Writes.{Writes, both, spaced, mapped_writes, none_writes, behind_writes, after_comma, between_writes}
 use Rattle.ir_printer.proofs.Numbers.{signed_again, signed_fits}
 use Rattle.ir_printer.proofs.Words.{value_kinds, global_writes, width_writes, signed_writes}
 

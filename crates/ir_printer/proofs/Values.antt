@@ -3,8 +3,8 @@ use Rattle.std.proofs.Common.{◌≡◌, ◌<◌, ℕ, zero, suc, true, false, c
 use Rattle.std.specs.Prelude.{codes}
 use Rattle.std.specs.List.{AllByRecursion, AllZip, list_all}
 use Rattle.std.proofs.lemmas.Bool.{eqb-true, eq-eqb}
-use Rattle.forms.specs.declared.TokenKind.TheVariants as kinds
-use Rattle.forms.proofs.Begins.{test}
+use Rattle.text_forms.specs.declared.TokenKind.TheVariants as kinds
+use Rattle.text_forms.proofs.Begins.{test}
 use Rattle.text_lex.specs.Layout.{closed}
 use Rattle.ir_types.specs.declared.name.Name.{Name}
 use Rattle.ir_types.specs.declared.inst.Ty.{Ty}
@@ -13,12 +13,12 @@ use Rattle.ir_types.specs.Offsets.{Definitions}
 use Rattle.ir_types.specs.Tree.{OperandTree, local, number, null, poison, lanes, global, out_of_range}
 use Rattle.ir_types.specs.Grammar.{WrittenLane, lane_digits, lane_true, lane_false, lane_poison, lane, typed_lane, WrittenValue, named, digits, yes, no, null_word, poison_word, lane_list, symbol, stepped, constant_word, value, width_of, lane_at, lane_fits, is_int, operand_at, typed_value, pointer_value, index_value}
 use Rattle.ir_shape.specs.Shape.{IsName, IsOneOf, widths, IsType, IsBelow, IsLane, IsOperand, IsTyped}
-use Rattle.type_printer.specs.Texts.{signed_text}
-use Rattle.type_printer.specs.Pieces.{word, greater, type_pieces}
-use Rattle.type_printer.proofs.Laid.{loose, nothing_behind, mark_laid}
-use Rattle.type_printer.proofs.LaidOut.{angle_kinds}
-use Rattle.type_printer.proofs.Widths.{width_within, type_within}
-use Rattle.type_printer.proofs.Writes.{Writes, both, spaced, left_writes, right_writes, mapped_writes, made_writes, word_writes, behind_writes, between_writes, EachWrites, commas_write}
+use Rattle.ir_printer_types.specs.Texts.{signed_text}
+use Rattle.ir_printer_types.specs.Pieces.{word, greater, type_pieces}
+use Rattle.ir_printer_types.proofs.Laid.{loose, nothing_behind, mark_laid}
+use Rattle.ir_printer_types.proofs.LaidOut.{angle_kinds}
+use Rattle.ir_printer_types.proofs.Widths.{width_within, type_within}
+use Rattle.ir_printer_types.proofs.Writes.{Writes, both, spaced, left_writes, right_writes, mapped_writes, made_writes, word_writes, behind_writes, between_writes, EachWrites, commas_write}
 use Rattle.ir_printer.specs.Print.{number_token, lane_value, lane_pieces, global_pieces, operand_pieces, typed_operand}
 use Rattle.ir_printer.proofs.Numbers.{signed_again, signed_fits}
 use Rattle.ir_printer.proofs.Words.{value_kinds, local_writes, global_writes, width_writes, type_writes, signed_writes}

@@ -1,21 +1,21 @@
 -- The pieces that names, types and numbers are printed as write them.
 use Rattle.std.proofs.Common.{◌≡◌, ◌≤◌, ℕ, [], ◌∷◌, Some, refl}
 use Rattle.std.specs.Prelude.{codes}
-use Rattle.forms.specs.declared.TokenKind.TheVariants as kinds
-use Rattle.forms.specs.Form.{one}
-use Rattle.forms.specs.Lexical.{kind_of, table}
+use Rattle.text_forms.specs.declared.TokenKind.TheVariants as kinds
+use Rattle.text_forms.specs.Form.{one}
+use Rattle.text_forms.specs.Lexical.{kind_of, table}
 use Rattle.text_lex.specs.Layout.{lexeme, closed}
 use Rattle.ir_types.specs.declared.name.Name.{Name}
 use Rattle.ir_types.specs.declared.inst.Ty.{Ty}
 use Rattle.ir_types.specs.Grammar.{local_name, global_name, width, value_type, return_type}
 use Rattle.ir_shape.specs.Shape.{IsName, IsOneOf, widths, IsType, IsReturnType, IsBelow}
-use Rattle.type_printer.specs.Texts.{signed_text}
-use Rattle.type_printer.specs.Pieces.{token, word, local_token, global_token, width_word, type_pieces}
-use Rattle.type_printer.proofs.Laid.{nothing_behind, token_laid}
-use Rattle.type_printer.proofs.LaidOut.{local_laid, width_kind, word_laid, type_laid, type_returned}
-use Rattle.type_printer.proofs.Names.{global_kind}
-use Rattle.type_printer.proofs.Spelled.{local_says, global_says, width_says, type_says, return_type_says}
-use Rattle.type_printer.proofs.Writes.{Writes, laid_writes, one_writes}
+use Rattle.ir_printer_types.specs.Texts.{signed_text}
+use Rattle.ir_printer_types.specs.Pieces.{token, word, local_token, global_token, width_word, type_pieces}
+use Rattle.ir_printer_types.proofs.Laid.{nothing_behind, token_laid}
+use Rattle.ir_printer_types.proofs.LaidOut.{local_laid, width_kind, word_laid, type_laid, type_returned}
+use Rattle.ir_printer_types.proofs.Names.{global_kind}
+use Rattle.ir_printer_types.proofs.Spelled.{local_says, global_says, width_says, type_says, return_type_says}
+use Rattle.ir_printer_types.proofs.Writes.{Writes, laid_writes, one_writes}
 use Rattle.ir_printer.proofs.Numbers.{signed_kind}
 
 -- ---- names and types

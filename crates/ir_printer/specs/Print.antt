@@ -1,8 +1,8 @@
 -- The text that a module is printed as, in pieces: its tokens and the white space between them.
 use Rattle.std.specs.Prelude.{ℕ, zero, suc, Bool, true, false, ◌==◌, List, [], ◌∷◌, ◌++◌, map, flat_map, codes, decimal, length, Option, Some, None, if◌then◌else◌}
 use Rattle.std.specs.List.{zip}
-use Rattle.forms.specs.declared.TokenKind.TheVariants as kinds
-use Rattle.forms.specs.Form.{Lexeme}
+use Rattle.text_forms.specs.declared.TokenKind.TheVariants as kinds
+use Rattle.text_forms.specs.Form.{Lexeme}
 use Rattle.text_lex.specs.Layout.{Piece, gap, lexeme, text_of}
 use Rattle.text_lex.specs.KeptText.{kept_behind, kept_pieces, line_pieces}
 use Rattle.ir_types.specs.declared.name.Name.{Name}
@@ -21,9 +21,9 @@ use Rattle.ir_types.specs.declared.call.TailKind.TheVariants.{Unmarked, Tail, Mu
 use Rattle.ir_types.specs.Kinds.{Kind, Binary, Compare, Select, Freeze, Trunc, Zext, Sext, PtrToInt, Phi, Offset, Load, Store, Call, Extract, Insert, Shuffle, Jump, Branch, Switch, ReturnVoid, Return, Unreachable, operand_types}
 use Rattle.ir_types.specs.Grammar.{width_of, element_of}
 use Rattle.ir_types.specs.Tree.{KeptTexts, OperandTree, local, number, null, poison, lanes, global, out_of_range, InstTree, BlockTree, ParamTree, FunctionTree, NamedTree, defined, opaque, TypeNameTree, SymbolKindTree, variable, function, SymbolTree, ModuleTree, VariableTree}
-use Rattle.type_printer.specs.Texts.{signed_text}
-use Rattle.type_printer.specs.MemoryPieces.{node_pieces}
-use Rattle.type_printer.specs.Pieces.{token, word, comma, equal, left_paren, right_paren, left_bracket, right_bracket, left_brace, right_brace, less, greater, blank, line_feed, indent, each_behind, separated, with_commas, local_token, global_token, label_token, width_word, type_pieces}
+use Rattle.ir_printer_types.specs.Texts.{signed_text}
+use Rattle.ir_printer_types.specs.MemoryPieces.{node_pieces}
+use Rattle.ir_printer_types.specs.Pieces.{token, word, comma, equal, left_paren, right_paren, left_bracket, right_bracket, left_brace, right_brace, less, greater, blank, line_feed, indent, each_behind, separated, with_commas, local_token, global_token, label_token, width_word, type_pieces}
 
 -- ---- tokens
 

@@ -5,13 +5,13 @@ ghost use Rattle.std.specs.List.{AllByRecursion};
 ghost use Rattle.text_lex.specs.Layout.{text_of};
 ghost use Rattle.ir_types.specs.Denotes.{name_in, tables_of, operand_in};
 ghost use Rattle.ir_shape.specs.Shape.{IsOneOf, widths, IsName, IsBelow, IsTyped};
-ghost use Rattle.type_printer.specs.Pieces.{with_commas, each_behind};
+ghost use Rattle.ir_printer_types.specs.Pieces.{with_commas, each_behind};
 ghost use Rattle.ir_printer.specs.Print.{target_pieces, targets_pieces, entry_pieces, entries_of, before_case, case_pieces, cases_of, switch_pieces};
 
 use crate::value::{put_comma, put_operand, put_signed};
 use ir_types::{Module, Names, Operand, Ty, ValueId};
 use std::alloc::AllocError;
-use type_printer::types::{put_local, put_width};
+use ir_printer_types::types::{put_local, put_width};
 
 fn put_target(out: &mut Vec<u8>, names: &Names, label: ValueId) -> Result<(), AllocError>
     requires { IsName (name_in names.now label) }
@@ -39,7 +39,7 @@ pub(crate) fn put_targets(
     Ok(())
 }
 
-#[tactic(auto, using(type_printer::proofs::Appended::text_of_both, std::proofs::lemmas::Grind::common_steps))]
+#[tactic(auto, using(ir_printer_types::proofs::Appended::text_of_both, std::proofs::lemmas::Grind::common_steps))]
 fn put_entry(
     out: &mut Vec<u8>,
     m: &Module,
@@ -83,7 +83,7 @@ pub(crate) fn put_entries(
     Ok(())
 }
 
-#[tactic(auto, using(type_printer::proofs::Widths::width_within))]
+#[tactic(auto, using(ir_printer_types::proofs::Widths::width_within))]
 fn put_case(
     out: &mut Vec<u8>,
     names: &Names,
@@ -128,7 +128,7 @@ fn put_cases(
 }
 
 /// Appends the labels of a switch: the default's and those of its cases.
-#[tactic(auto, using(type_printer::proofs::Appended::text_of_both, std::proofs::lemmas::Grind::common_steps))]
+#[tactic(auto, using(ir_printer_types::proofs::Appended::text_of_both, std::proofs::lemmas::Grind::common_steps))]
 pub(crate) fn put_switch(
     out: &mut Vec<u8>,
     names: &Names,

@@ -6,15 +6,15 @@ ghost use Rattle.text_lex.specs.Layout.{text_of};
 ghost use Rattle.ir_types.specs.declared.inst.Ty.TheVariants.{Int, Ptr};
 ghost use Rattle.ir_types.specs.Denotes.{tables_of, operand_in};
 ghost use Rattle.ir_shape.specs.Shape.{IsTyped};
-ghost use Rattle.type_printer.specs.Pieces.{comma, blank, each_behind, with_commas, type_pieces};
+ghost use Rattle.ir_printer_types.specs.Pieces.{comma, blank, each_behind, with_commas, type_pieces};
 ghost use Rattle.ir_printer.specs.Print.{dots_pieces, written_types, signature_pieces, argument_pieces, arguments_of, call_pieces, each_typed, listed_pieces};
 
 use crate::kept::{put_blank_then_kept, put_kept_then_blank};
 use crate::value::{put_comma, put_operand, put_typed_operand};
 use ir_types::{Actual, Callee, Module, Names, Operand, Signature, Ty};
 use std::alloc::AllocError;
-use type_printer::name::put_name;
-use type_printer::types::put_type;
+use ir_printer_types::name::put_name;
+use ir_printer_types::types::put_type;
 
 /// Appends the dots for further arguments, behind so many parameters.
 pub(crate) fn put_dots(out: &mut Vec<u8>, params: usize) -> Result<(), AllocError>
@@ -48,7 +48,7 @@ fn put_written_types(out: &mut Vec<u8>, signature: &Signature) -> Result<(), All
 }
 
 // Appends a space and these in parentheses, where they are written.
-#[tactic(auto, using(type_printer::proofs::Appended::text_of_both, std::proofs::lemmas::Grind::common_steps))]
+#[tactic(auto, using(ir_printer_types::proofs::Appended::text_of_both, std::proofs::lemmas::Grind::common_steps))]
 fn put_signature(out: &mut Vec<u8>, signature: &Option<Signature>) -> Result<(), AllocError>
     ensures { OnOk result (out.new.items ≡ out.old.items
         ++ text_of (signature_pieces signature.now)) }
@@ -62,7 +62,7 @@ fn put_signature(out: &mut Vec<u8>, signature: &Option<Signature>) -> Result<(),
 }
 
 // Appends an argument with its type.
-#[tactic(auto, unfolding(crate::specs::Print::argument_pieces), using(type_printer::proofs::Appended::text_of_both, std::proofs::lemmas::Grind::common_steps))]
+#[tactic(auto, unfolding(crate::specs::Print::argument_pieces), using(ir_printer_types::proofs::Appended::text_of_both, std::proofs::lemmas::Grind::common_steps))]
 fn put_argument(
     out: &mut Vec<u8>,
     m: &Module,
@@ -149,7 +149,7 @@ fn put_indexes(
 }
 
 /// Appends the pointer and the indexes of a `getelementptr`.
-#[tactic(auto, using(type_printer::proofs::Appended::text_of_both, std::proofs::lemmas::Grind::common_steps))]
+#[tactic(auto, using(ir_printer_types::proofs::Appended::text_of_both, std::proofs::lemmas::Grind::common_steps))]
 pub(crate) fn put_steps(
     out: &mut Vec<u8>,
     m: &Module,

@@ -6,7 +6,7 @@ ghost use Rattle.text_lex.specs.Layout.{text_of};
 ghost use Rattle.ir_types.specs.Types.{AreTypes};
 ghost use Rattle.ir_types.specs.Denotes.{Tables, type_names_of, tables_of, inst_in, block_in, param_in, function_in};
 ghost use Rattle.ir_shape.specs.Shape.{IsInst, IsBlock, IsParam, IsFunction};
-ghost use Rattle.type_printer.specs.Pieces.{line_feed, indent, each_behind, separated, with_commas};
+ghost use Rattle.ir_printer_types.specs.Pieces.{line_feed, indent, each_behind, separated, with_commas};
 ghost use Rattle.ir_printer.specs.Print.{inst_pieces, block_pieces, param_pieces, params_pieces, function_word, head_pieces, body_pieces, function_pieces, parting, functions_behind};
 
 use crate::call::put_dots;
@@ -14,8 +14,8 @@ use crate::kept::{put_blank_then_kept, put_kept_then_blank};
 use crate::line::put_inst;
 use ir_types::{Block, Function, Inst, Module, Names, Param};
 use std::alloc::{AllocError, Global};
-use type_printer::name::put_name;
-use type_printer::types::{put_local, put_type};
+use ir_printer_types::name::put_name;
+use ir_printer_types::types::{put_local, put_type};
 
 fn put_insts(
     alloc: Global,
@@ -79,7 +79,7 @@ fn put_blocks(
     Ok(())
 }
 
-#[tactic(auto, unfolding(crate::specs::Print::param_pieces), using(type_printer::proofs::Appended::text_of_both, std::proofs::lemmas::Grind::common_steps))]
+#[tactic(auto, unfolding(crate::specs::Print::param_pieces), using(ir_printer_types::proofs::Appended::text_of_both, std::proofs::lemmas::Grind::common_steps))]
 fn put_param(out: &mut Vec<u8>, names: &Names, param: &Param) -> Result<(), AllocError>
     requires { IsParam (param_in names.now param.now) }
     ensures { OnOk result (out.new.items ≡ out.old.items

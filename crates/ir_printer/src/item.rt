@@ -6,15 +6,15 @@ ghost use Rattle.ir_types.specs.Types.{AreTypes};
 ghost use Rattle.ir_types.specs.Denotes.{type_names_of, nodes_in, type_name_in, symbol_in};
 ghost use Rattle.ir_shape.specs.Modules.{IsModule};
 ghost use Rattle.ir_shape.specs.Placed.{IsNamedPlaced, IsSymbolPlaced};
-ghost use Rattle.type_printer.specs.Pieces.{local_token};
-ghost use Rattle.type_printer.specs.MemoryPieces.{node_pieces};
+ghost use Rattle.ir_printer_types.specs.Pieces.{local_token};
+ghost use Rattle.ir_printer_types.specs.MemoryPieces.{node_pieces};
 ghost use Rattle.ir_printer.specs.Print.{for_one, definition_pieces, type_name_pieces, variable_word, variable_pieces, symbol_pieces, is_comdat, whole_line, head_line_pieces, comdat_line_pieces};
 
 use crate::kept::{put_kept_behind, put_kept_then_blank, put_line};
 use ir_types::{Kept, Module, Name, NamedType, Symbol, SymbolKind, TypeId, TypeName};
 use std::alloc::{AllocError, Global};
-use type_printer::memory_type::put_memory_type;
-use type_printer::name::put_name;
+use ir_printer_types::memory_type::put_memory_type;
+use ir_printer_types::name::put_name;
 
 // Whether a line at the head is that of a comdat.
 fn is_comdat(line: &Kept) -> bool

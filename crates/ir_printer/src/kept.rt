@@ -1,12 +1,12 @@
 // Tokens that are kept as their texts.
 
 ghost use Rattle.std.specs.Prelude.{◌≡◌, ◌≤◌, ◌++◌, ◌∷◌, [], map, drop, length, codes, OnOk, IfOk};
-ghost use Rattle.forms.specs.Form.{same_text, is_one_of};
+ghost use Rattle.text_forms.specs.Form.{same_text, is_one_of};
 ghost use Rattle.text_lex.specs.Layout.{text_of, begins_quoted};
 ghost use Rattle.text_lex.specs.KeptText.{is_node, touches, between, kept_behind, kept_pieces, line_pieces};
 ghost use Rattle.ir_printer.specs.Print.{kept_then_blank, blank_then_kept, whole_line};
 
-use forms::is_one_of;
+use text_forms::is_one_of;
 use ir_types::Kept;
 use std::alloc::AllocError;
 
@@ -118,7 +118,7 @@ fn put_to_equal(out: &mut Vec<u8>, line: &Kept) -> Result<usize, AllocError>
 }
 
 /// Appends a kept line and its line feed.
-#[tactic(auto, using(type_printer::proofs::Appended::text_of_both, std::proofs::lemmas::Grind::common_steps))]
+#[tactic(auto, using(ir_printer_types::proofs::Appended::text_of_both, std::proofs::lemmas::Grind::common_steps))]
 pub(crate) fn put_line(out: &mut Vec<u8>, line: &Kept) -> Result<(), AllocError>
     ensures { OnOk result (out.new.items ≡ out.old.items ++ text_of (whole_line line.now)) }
 {

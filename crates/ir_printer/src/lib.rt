@@ -19,8 +19,6 @@ mod kept;
 mod line;
 mod opening;
 mod symbol;
-#[cfg(test)]
-mod tests;
 mod value;
 
 use crate::function::put_functions;
@@ -29,7 +27,7 @@ use ir_types::Module;
 use std::alloc::{AllocError, Global};
 
 // Appends what stands before the functions.
-#[tactic(auto, unfolding(crate::specs::Print::front_pieces), using(type_printer::proofs::Appended::text_of_both, std::proofs::lemmas::Grind::common_steps))]
+#[tactic(auto, unfolding(crate::specs::Print::front_pieces), using(ir_printer_types::proofs::Appended::text_of_both, std::proofs::lemmas::Grind::common_steps))]
 fn put_front(alloc: Global, m: &Module, out: &mut Vec<u8>) -> Result<(), AllocError>
     requires { IsModule m.now }
     ensures { OnOk result (out.new.items ≡ out.old.items
@@ -46,7 +44,7 @@ fn put_front(alloc: Global, m: &Module, out: &mut Vec<u8>) -> Result<(), AllocEr
 /// # Errors
 ///
 /// Where there is no room for the text; then nothing is appended.
-#[tactic(auto, unfolding(crate::specs::Print::module_pieces), using(crate::proofs::Printed::module_functions, crate::proofs::Printed::module_types, crate::proofs::Printed::module_reads, type_printer::proofs::Appended::text_of_both, std::proofs::lemmas::Grind::common_steps))]
+#[tactic(auto, unfolding(crate::specs::Print::module_pieces), using(crate::proofs::Printed::module_functions, crate::proofs::Printed::module_types, crate::proofs::Printed::module_reads, ir_printer_types::proofs::Appended::text_of_both, std::proofs::lemmas::Grind::common_steps))]
 pub fn print_module(alloc: Global, m: &Module, out: &mut Vec<u8>) -> Result<(), AllocError>
     requires known { IsModule m.now }
     requires narrow { IsNarrow (tree_of m.now) }

@@ -6,7 +6,7 @@ ghost use Rattle.text_lex.specs.Layout.{text_of};
 ghost use Rattle.ir_types.specs.Types.{AreTypes};
 ghost use Rattle.ir_types.specs.Denotes.{Tables, name_in, type_names_of, nodes_in, tables_of, operand_in, kind_in, inst_in};
 ghost use Rattle.ir_shape.specs.Shape.{IsBody, IsResult, IsInst};
-ghost use Rattle.type_printer.specs.MemoryPieces.{node_pieces};
+ghost use Rattle.ir_printer_types.specs.MemoryPieces.{node_pieces};
 ghost use Rattle.ir_printer.specs.Print.{operands_pieces, to_pieces, align_pieces, ending_pieces, result_pieces, inst_pieces};
 
 use crate::branching::{put_entries, put_switch, put_targets};
@@ -17,8 +17,8 @@ use crate::opening::put_opening;
 use crate::value::{put_listed, put_typed};
 use ir_types::{Inst, InstKind, Module, Names, Ty, TypeId, ValueId};
 use std::alloc::{AllocError, Global};
-use type_printer::name::put_digits;
-use type_printer::types::{put_local, put_type};
+use ir_printer_types::name::put_digits;
+use ir_printer_types::types::{put_local, put_type};
 
 // Appends a space and the memory type of a `getelementptr`, and a comma behind it.
 fn put_stepped_type(
@@ -39,7 +39,7 @@ fn put_stepped_type(
 }
 
 // Appends the operands of an instruction with their types.
-#[tactic(auto, using(crate::proofs::Operands::all_alike, type_printer::proofs::Appended::text_of_both, std::proofs::lemmas::Grind::common_steps))]
+#[tactic(auto, using(crate::proofs::Operands::all_alike, ir_printer_types::proofs::Appended::text_of_both, std::proofs::lemmas::Grind::common_steps))]
 fn put_operands_of(
     alloc: Global,
     out: &mut Vec<u8>,
@@ -115,7 +115,7 @@ fn put_align(out: &mut Vec<u8>, align: u64) -> Result<(), AllocError>
 }
 
 // Appends the type of a cast, an alignment, what is kept behind a call, or labels.
-#[tactic(auto, using(crate::proofs::Operands::first_type, type_printer::proofs::Appended::text_of_both, std::proofs::lemmas::Grind::common_steps))]
+#[tactic(auto, using(crate::proofs::Operands::first_type, ir_printer_types::proofs::Appended::text_of_both, std::proofs::lemmas::Grind::common_steps))]
 fn put_ending(out: &mut Vec<u8>, names: &Names, inst: &Inst) -> Result<(), AllocError>
     requires { (tables : Tables) × IsBody (inst_in tables names.now inst.now) }
     ensures { (tables : Tables) → OnOk result (out.new.items ≡ out.old.items

@@ -62,7 +62,7 @@ fn put_flag(out: &mut Vec<u8>, set: bool, word: &[u8]) -> Result<(), AllocError>
     Ok(())
 }
 
-#[tactic(auto, using(type_printer::proofs::Appended::text_of_both, std::proofs::lemmas::Grind::common_steps))]
+#[tactic(auto, using(ir_printer_types::proofs::Appended::text_of_both, std::proofs::lemmas::Grind::common_steps))]
 fn put_wrap_flags(out: &mut Vec<u8>, nuw: bool, nsw: bool) -> Result<(), AllocError>
     ensures { OnOk result (out.new.items ≡ out.old.items ++ text_of (wrap_pieces nuw nsw)) }
 {
@@ -70,7 +70,7 @@ fn put_wrap_flags(out: &mut Vec<u8>, nuw: bool, nsw: bool) -> Result<(), AllocEr
     put_flag(out, nsw, b"nsw")
 }
 
-#[tactic(auto, using(type_printer::proofs::Appended::text_of_both, std::proofs::lemmas::Grind::common_steps))]
+#[tactic(auto, using(ir_printer_types::proofs::Appended::text_of_both, std::proofs::lemmas::Grind::common_steps))]
 fn put_flags(out: &mut Vec<u8>, flags: Flags) -> Result<(), AllocError>
     ensures { OnOk result (out.new.items ≡ out.old.items ++ text_of (flags_pieces flags)) }
 {

@@ -5,13 +5,13 @@ ghost use Rattle.text_lex.specs.Layout.{text_of};
 ghost use Rattle.ir_types.specs.Names.{name_at};
 ghost use Rattle.ir_types.specs.Denotes.{tables_of};
 ghost use Rattle.ir_shape.specs.Shape.{IsName};
-ghost use Rattle.type_printer.specs.Pieces.{global_token};
+ghost use Rattle.ir_printer_types.specs.Pieces.{global_token};
 ghost use Rattle.ir_printer.specs.Print.{global_pieces};
 
 use crate::value::put_signed;
 use ir_types::Module;
 use std::alloc::AllocError;
-use type_printer::name::put_name;
+use ir_printer_types::name::put_name;
 
 // Appends `@name` for a place in the list of symbols.
 fn put_symbol(out: &mut Vec<u8>, m: &Module, symbol: u32) -> Result<(), AllocError>
@@ -24,7 +24,7 @@ fn put_symbol(out: &mut Vec<u8>, m: &Module, symbol: u32) -> Result<(), AllocErr
 }
 
 /// Appends a symbol, and how many bytes behind it where these aren't 0.
-#[tactic(auto, unfolding(crate::specs::Print::global_pieces), using(type_printer::proofs::Appended::text_of_both, std::proofs::lemmas::Grind::common_steps))]
+#[tactic(auto, unfolding(crate::specs::Print::global_pieces), using(ir_printer_types::proofs::Appended::text_of_both, std::proofs::lemmas::Grind::common_steps))]
 pub(crate) fn put_global(
     out: &mut Vec<u8>,
     m: &Module,

@@ -6,15 +6,15 @@ ghost use Rattle.text_lex.specs.Layout.{text_of};
 ghost use Rattle.ir_types.specs.Grammar.{width_of};
 ghost use Rattle.ir_types.specs.Denotes.{name_in, tables_of, operand_in};
 ghost use Rattle.ir_shape.specs.Shape.{IsName, IsType, IsLane, IsOperand, IsTyped};
-ghost use Rattle.type_printer.specs.Texts.{signed_text};
-ghost use Rattle.type_printer.specs.Pieces.{with_commas};
+ghost use Rattle.ir_printer_types.specs.Texts.{signed_text};
+ghost use Rattle.ir_printer_types.specs.Pieces.{with_commas};
 ghost use Rattle.ir_printer.specs.Print.{comma_before, number_token, lane_pieces, lanes_pieces, operand_pieces, typed_operand, typed_pieces, each_typed, listed_pieces};
 
 use crate::symbol::put_global;
 use ir_types::{Module, Names, Operand, Ty};
 use std::alloc::AllocError;
-use type_printer::name::put_digits;
-use type_printer::types::{put_local, put_type};
+use ir_printer_types::name::put_digits;
+use ir_printer_types::types::{put_local, put_type};
 
 /// Appends what parts the one at a place from those before it.
 pub(crate) fn put_comma(out: &mut Vec<u8>, place: usize) -> Result<(), AllocError>
@@ -27,7 +27,7 @@ pub(crate) fn put_comma(out: &mut Vec<u8>, place: usize) -> Result<(), AllocErro
 }
 
 /// Appends a number of so many bits as the signed one that it stands for.
-#[tactic(auto, unfolding(type_printer::specs::Texts::signed_text), using(crate::proofs::Numbers::two_halves))]
+#[tactic(auto, unfolding(ir_printer_types::specs::Texts::signed_text), using(crate::proofs::Numbers::two_halves))]
 pub(crate) fn put_signed(out: &mut Vec<u8>, width: u32, number: u64) -> Result<(), AllocError>
     requires some { 0 < width }
     requires most { width ≤ 64 }
@@ -43,7 +43,7 @@ pub(crate) fn put_signed(out: &mut Vec<u8>, width: u32, number: u64) -> Result<(
 }
 
 // Appends a number at its type.
-#[tactic(auto, unfolding(crate::specs::Print::number_token), using(type_printer::proofs::Widths::width_within))]
+#[tactic(auto, unfolding(crate::specs::Print::number_token), using(ir_printer_types::proofs::Widths::width_within))]
 pub(crate) fn put_number(out: &mut Vec<u8>, ty: Ty, number: u64) -> Result<(), AllocError>
     requires typed { IsType ty }
     requires fits { number < 2 ^ width_of ty }
@@ -59,7 +59,7 @@ pub(crate) fn put_number(out: &mut Vec<u8>, ty: Ty, number: u64) -> Result<(), A
 }
 
 // Appends a lane with its type.
-#[tactic(auto, using(type_printer::proofs::Appended::text_of_both, std::proofs::lemmas::Grind::common_steps))]
+#[tactic(auto, using(ir_printer_types::proofs::Appended::text_of_both, std::proofs::lemmas::Grind::common_steps))]
 fn put_lane(out: &mut Vec<u8>, ty: Ty, lane: Option<u64>) -> Result<(), AllocError>
     requires typed { IsType ty }
     requires known { IsLane (width_of ty) lane }
@@ -87,7 +87,7 @@ fn put_each_lane(out: &mut Vec<u8>, ty: Ty, lanes: &[Option<u64>]) -> Result<(),
 }
 
 // Appends lanes, each with its type.
-#[tactic(auto, using(type_printer::proofs::Appended::text_of_both, std::proofs::lemmas::Grind::common_steps))]
+#[tactic(auto, using(ir_printer_types::proofs::Appended::text_of_both, std::proofs::lemmas::Grind::common_steps))]
 fn put_lanes(out: &mut Vec<u8>, ty: Ty, lanes: &[Option<u64>]) -> Result<(), AllocError>
     requires typed { IsType ty }
     requires known { AllByRecursion (IsLane (width_of ty)) lanes.now }
@@ -145,7 +145,7 @@ fn put_operands(
 }
 
 /// Appends ` T V, V`.
-#[tactic(auto, using(crate::proofs::Operands::two_alike, type_printer::proofs::Appended::text_of_both, std::proofs::lemmas::Grind::common_steps))]
+#[tactic(auto, using(crate::proofs::Operands::two_alike, ir_printer_types::proofs::Appended::text_of_both, std::proofs::lemmas::Grind::common_steps))]
 pub(crate) fn put_typed(
     out: &mut Vec<u8>,
     m: &Module,
@@ -164,7 +164,7 @@ pub(crate) fn put_typed(
 }
 
 /// Appends `T V`.
-#[tactic(auto, using(type_printer::proofs::Appended::text_of_both, std::proofs::lemmas::Grind::common_steps))]
+#[tactic(auto, using(ir_printer_types::proofs::Appended::text_of_both, std::proofs::lemmas::Grind::common_steps))]
 pub(crate) fn put_typed_operand(
     out: &mut Vec<u8>,
     m: &Module,

@@ -7,11 +7,11 @@ use Rattle.std.proofs.lemmas.List.Elements.{filter_map-append}
 use Rattle.ir_types.specs.Offsets.{as_definition}
 use Rattle.ir_types.specs.Skimmed.{Skimmed}
 use Rattle.ir_types.specs.Tree.{KeptTexts, Item, head_line, comdat_line, variable_item, function_item, attribute_line, metadata_line}
-use Rattle.item_reader.specs.declared.part.Definition.{Definition}
-use Rattle.item_reader.specs.declared.part.Variable.{Variable}
-use Rattle.item_reader.specs.declared.source.FunctionSource.{FunctionSource}
-use Rattle.item_reader.specs.Parts.{variable_of}
-use Rattle.item_reader.specs.Parts.{definition_of as item_of_definition}
+use Rattle.ir_reader_items.specs.declared.part.Definition.{Definition}
+use Rattle.ir_reader_items.specs.declared.part.Variable.{Variable}
+use Rattle.ir_reader_items.specs.declared.source.FunctionSource.{FunctionSource}
+use Rattle.ir_reader_items.specs.Parts.{variable_of}
+use Rattle.ir_reader_items.specs.Parts.{definition_of as item_of_definition}
 use Rattle.ir_reader.specs.declared.gather.Gathered.{Gathered}
 use Rattle.ir_reader.specs.declared.longs.ItemLong.{ItemLong}
 use Rattle.ir_reader.specs.Gathered.{head_among, comdat_among, variable_among, function_among, attributes_among, metadata_among, definition_of, skimmed_of, long_of, Holds}

@@ -1,7 +1,7 @@
 -- Symbols that are defined or declared, and those that are only used.
 use Rattle.std.proofs.Common.{◌≡◌, List, [], ◌∷◌, ◌++◌, map, Option, Some, refl, ap}
 use Rattle.std.specs.List.{AllByRecursion, filter_map}
-use Rattle.forms.proofs.Parts.{some_is}
+use Rattle.text_forms.proofs.Parts.{some_is}
 use Rattle.ir_types.specs.declared.name.Name.{Name}
 use Rattle.ir_types.specs.declared.module.Symbol.{Symbol}
 use Rattle.ir_types.specs.declared.module.SymbolKind.{SymbolKind}

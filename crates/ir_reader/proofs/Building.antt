@@ -7,11 +7,11 @@ use Rattle.std.specs.List.{AllByRecursion, filter_map, cons_option, range_with_l
 use Rattle.std.proofs.Math.Seq.{drop-append_seam}
 use Rattle.std.proofs.lemmas.List.{map-append, length-map, append-nil}
 use Rattle.std.proofs.lemmas.List.Elements.{filter_map-append}
-use Rattle.forms.specs.declared.cursor.SyntaxFault.{SyntaxFault}
-use Rattle.forms.specs.declared.cursor.SyntaxFault.TheVariants.{NoReading, Memory}
-use Rattle.forms.specs.Gives.{Gives}
-use Rattle.forms.specs.Nested.{concat}
-use Rattle.forms.specs.Reading.{◌>>=◌}
+use Rattle.text_forms.specs.declared.cursor.SyntaxFault.{SyntaxFault}
+use Rattle.text_forms.specs.declared.cursor.SyntaxFault.TheVariants.{NoReading, Memory}
+use Rattle.text_forms.specs.Gives.{Gives}
+use Rattle.text_forms.specs.Nested.{concat}
+use Rattle.text_forms.specs.Reading.{◌>>=◌}
 use Rattle.text_lex.specs.declared.fault.Count.{Count}
 use Rattle.ir_types.specs.declared.name.Name.{Name}
 use Rattle.ir_types.specs.declared.module.Function.{Function}
@@ -31,13 +31,13 @@ use Rattle.ir_types.specs.Used.{types_of, insts_of, all_insts, all_type_names, a
 use Rattle.ir_types.specs.Collected.{as_head, as_comdat, as_type, as_variable, as_function, as_attributes, as_metadata, symbol_of, symbol_of_function, collected}
 use Rattle.ir_limits.specs.Mentioned.{in_items}
 use Rattle.ir_limits.specs.Limits.{first_long, passed_by, limit_passed}
-use Rattle.type_reader.specs.TypeTable.{names_of, missing_entry}
-use Rattle.type_reader.specs.Tables.{TableLists, tables_in, definition_over, definitions_of, Grows, AreTables}
-use Rattle.type_reader.specs.Uses.{InstsUse}
-use Rattle.type_reader.proofs.LookUps.{names_append, missing_names}
-use Rattle.item_reader.specs.declared.part.Variable.{Variable}
-use Rattle.item_reader.specs.declared.source.FunctionSource.{FunctionSource}
-use Rattle.item_reader.specs.Parts.{variable_of}
+use Rattle.ir_reader_types.specs.TypeTable.{names_of, missing_entry}
+use Rattle.ir_reader_types.specs.Tables.{TableLists, tables_in, definition_over, definitions_of, Grows, AreTables}
+use Rattle.ir_reader_types.specs.Uses.{InstsUse}
+use Rattle.ir_reader_types.proofs.LookUps.{names_append, missing_names}
+use Rattle.ir_reader_items.specs.declared.part.Variable.{Variable}
+use Rattle.ir_reader_items.specs.declared.source.FunctionSource.{FunctionSource}
+use Rattle.ir_reader_items.specs.Parts.{variable_of}
 use Rattle.ir_reader.specs.declared.gather.Gathered.{Gathered}
 use Rattle.ir_reader.specs.declared.longs.ItemLong.{ItemLong}
 use Rattle.ir_reader.specs.Gathered.{definition_of, skimmed_of, function_among, long_among, Holds}

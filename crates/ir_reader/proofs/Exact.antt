@@ -1,9 +1,9 @@
 -- What the reader gives is what the text reads as.
 use Rattle.std.proofs.Common.{◌≡◌, ℕ, List, Option, Some, None, sym, ap, ◌∙◌, subst}
-use Rattle.forms.specs.Form.{Lexeme}
-use Rattle.forms.specs.Lexical.{Lexes}
-use Rattle.forms.specs.Reading.{◌>>=◌}
-use Rattle.forms.proofs.Parts.{bind_some}
+use Rattle.text_forms.specs.Form.{Lexeme}
+use Rattle.text_forms.specs.Lexical.{Lexes}
+use Rattle.text_forms.specs.Reading.{◌>>=◌}
+use Rattle.text_forms.proofs.Parts.{bind_some}
 use Rattle.text_lex.specs.declared.fault.Count.{Count}
 use Rattle.text_lex.specs.declared.fault.TextFault.{TextFault}
 use Rattle.text_lex.specs.declared.fault.TextFault.TheVariants.{BadToken, LeftOut, TextLimit, NoReading as TextNoReading, CountLimit, Memory as TextMemory}

@@ -1,8 +1,8 @@
 -- Items are filled with their functions, which are read by themselves.
 use Rattle.std.proofs.Common.{◌≡◌, List, [], ◌∷◌, Option, Some, None, refl, sym, ap, ◌∙◌}
 use Rattle.std.specs.List.{filter_map}
-use Rattle.forms.specs.Reading.{◌>>=◌}
-use Rattle.forms.specs.Walk.{walk}
+use Rattle.text_forms.specs.Reading.{◌>>=◌}
+use Rattle.text_forms.specs.Walk.{walk}
 use Rattle.ir_types.specs.Offsets.{Definitions}
 use Rattle.ir_types.specs.Skimmed.{Skimmed, with_body, with_bodies}
 use Rattle.ir_types.specs.Tree.{FunctionTree, WrittenFunction, Item, head_line, comdat_line, type_item, variable_item, function_item, attribute_line, metadata_line}

@@ -1,18 +1,18 @@
 -- What the loop over items keeps.
 use Rattle.std.proofs.Common.{◌≡◌, ◌≤◌, ◌<◌, true, false, List, [], ◌∷◌, ◌++◌, length, Option, Some, None, Err, refl, ◌∙◌, arith}
-use Rattle.forms.specs.declared.cursor.Cursor.{Cursor}
-use Rattle.forms.specs.declared.cursor.SyntaxFault.{SyntaxFault}
-use Rattle.forms.specs.declared.cursor.SyntaxFault.TheVariants.{NoReading, Memory}
-use Rattle.forms.specs.Gives.{Gives, left}
-use Rattle.forms.specs.Form.{Lexeme, Form, many}
-use Rattle.forms.specs.Reading.{nullable, opens, read}
-use Rattle.forms.proofs.Many.{shorter, behind_front, goes_on, fails, ends}
+use Rattle.text_forms.specs.declared.cursor.Cursor.{Cursor}
+use Rattle.text_forms.specs.declared.cursor.SyntaxFault.{SyntaxFault}
+use Rattle.text_forms.specs.declared.cursor.SyntaxFault.TheVariants.{NoReading, Memory}
+use Rattle.text_forms.specs.Gives.{Gives, left}
+use Rattle.text_forms.specs.Form.{Lexeme, Form, many}
+use Rattle.text_forms.specs.Reading.{nullable, opens, read}
+use Rattle.text_forms.proofs.Many.{shorter, behind_front, goes_on, fails, ends}
 use Rattle.ir_types.specs.TypeNodes.{TypeNode}
 use Rattle.ir_types.specs.Tree.{Item}
 use Rattle.ir_types.specs.Grammar.{memory_type, comdat, metadata, type_definition, variable_definition}
 use Rattle.ir_types.specs.Skimmed.{Skimmed, skimmed_item, skimmed_module}
-use Rattle.item_reader.specs.declared.part.Part.{Part}
-use Rattle.item_reader.specs.Parts.{item_of}
+use Rattle.ir_reader_items.specs.declared.part.Part.{Part}
+use Rattle.ir_reader_items.specs.Parts.{item_of}
 use Rattle.ir_reader.specs.declared.gather.Gathered.{Gathered}
 use Rattle.ir_reader.specs.Gathered.{Holds}
 use Rattle.ir_reader.specs.Reading.{items_skimmed, IsGathered, GivesItems}

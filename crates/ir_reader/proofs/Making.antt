@@ -2,8 +2,8 @@
 use Rattle.std.proofs.Common.{◌≤◌, ℕ, List, [], ◌∷◌, ◌++◌, map, sym, ap, ◌∙◌, arith}
 use Rattle.std.specs.List.{AllByRecursion}
 use Rattle.std.proofs.lemmas.List.{map_push}
-use Rattle.forms.specs.Nested.{concat}
-use Rattle.forms.specs.View.{Extends}
+use Rattle.text_forms.specs.Nested.{concat}
+use Rattle.text_forms.specs.View.{Extends}
 use Rattle.ir_types.specs.declared.name.Name.{Name}
 use Rattle.ir_types.specs.declared.memory_type.MemTy.{MemTy}
 use Rattle.ir_types.specs.declared.memory_type.TypeName.{TypeName}
@@ -12,9 +12,9 @@ use Rattle.ir_types.specs.declared.memory_type.NamedType.TheVariants.{Defined, O
 use Rattle.ir_types.specs.Types.{AreTypes}
 use Rattle.ir_types.proofs.NameAt.{extends_trans}
 use Rattle.ir_types.specs.Names.{unknown}
-use Rattle.type_reader.specs.TypeTable.{names_of, missing_entry}
-use Rattle.type_reader.proofs.LookUps.{looked_up}
-use Rattle.type_reader.proofs.Holding.{names_extend}
+use Rattle.ir_reader_types.specs.TypeTable.{names_of, missing_entry}
+use Rattle.ir_reader_types.proofs.LookUps.{looked_up}
+use Rattle.ir_reader_types.proofs.Holding.{names_extend}
 use Rattle.ir_reader.specs.Typed.{LooksUpNames, Stands, Made, StandsBefore}
 use Rattle.ir_reader.proofs.Usage.{concat_push}
 

@@ -3,16 +3,16 @@ use Rattle.std.proofs.Common.{◌≡◌, ℕ, zero, suc, ◌<◌, Bool, true, fa
 use Rattle.std.specs.Prelude.{is_some}
 use Rattle.std.specs.List.{AllByRecursion}
 use Rattle.std.proofs.lemmas.List.{map_push}
-use Rattle.forms.specs.declared.cursor.SyntaxFault.{SyntaxFault}
-use Rattle.forms.specs.declared.cursor.SyntaxFault.TheVariants.{NoReading, Memory}
-use Rattle.forms.specs.declared.TokenKind.TheVariants.{LeftParen, RightParen}
-use Rattle.forms.specs.Form.{Lexeme, Form, pair, mapped}
-use Rattle.forms.specs.Kept.{attachments}
-use Rattle.forms.specs.Gives.{Gives, left}
-use Rattle.forms.specs.Nested.{concat, joined}
-use Rattle.forms.specs.Reading.{◌>>=◌, read}
-use Rattle.forms.specs.Walk.{walk, completed}
-use Rattle.forms.proofs.Parts.{there, bind_some, some_is}
+use Rattle.text_forms.specs.declared.cursor.SyntaxFault.{SyntaxFault}
+use Rattle.text_forms.specs.declared.cursor.SyntaxFault.TheVariants.{NoReading, Memory}
+use Rattle.text_forms.specs.declared.TokenKind.TheVariants.{LeftParen, RightParen}
+use Rattle.text_forms.specs.Form.{Lexeme, Form, pair, mapped}
+use Rattle.text_forms.specs.Kept.{attachments}
+use Rattle.text_forms.specs.Gives.{Gives, left}
+use Rattle.text_forms.specs.Nested.{concat, joined}
+use Rattle.text_forms.specs.Reading.{◌>>=◌, read}
+use Rattle.text_forms.specs.Walk.{walk, completed}
+use Rattle.text_forms.proofs.Parts.{there, bind_some, some_is}
 use Rattle.ir_types.specs.declared.name.Name.{Name}
 use Rattle.ir_types.specs.declared.module.Function.{Function}
 use Rattle.ir_types.specs.Names.{IsTable}
@@ -25,12 +25,12 @@ use Rattle.ir_types.specs.Numbered.{numbered_param, numbered_block, with_parts, 
 use Rattle.ir_types.specs.Denotes.{function_in}
 use Rattle.ir_types.specs.Used.{insts_of}
 use Rattle.ir_types.proofs.Skimming.{function_later, declaration_later}
-use Rattle.type_reader.specs.Tables.{TableLists, tables_in, definitions_of, Grows}
-use Rattle.type_reader.specs.Uses.{InstsUse}
-use Rattle.type_reader.proofs.Growth.{grows_refl, grows_trans}
-use Rattle.type_reader.proofs.Uses.{uses_none}
-use Rattle.item_reader.specs.declared.source.FunctionSource.{FunctionSource}
-use Rattle.item_reader.specs.Sources.{outline_there, outline_or_none, outline_read}
+use Rattle.ir_reader_types.specs.Tables.{TableLists, tables_in, definitions_of, Grows}
+use Rattle.ir_reader_types.specs.Uses.{InstsUse}
+use Rattle.ir_reader_types.proofs.Growth.{grows_refl, grows_trans}
+use Rattle.ir_reader_types.proofs.Uses.{uses_none}
+use Rattle.ir_reader_items.specs.declared.source.FunctionSource.{FunctionSource}
+use Rattle.ir_reader_items.specs.Sources.{outline_there, outline_or_none, outline_read}
 use Rattle.ir_reader.specs.Gathered.{skimmed_of}
 use Rattle.ir_reader.specs.Reading.{function_read, functions_read}
 use Rattle.ir_reader.proofs.Making.{all_push}

@@ -3,19 +3,19 @@ use Rattle.std.proofs.Common.{◌≡◌, ℕ, List, [], ◌∷◌, ◌++◌, len
 use Rattle.std.specs.List.{filter_map, range_with_len}
 use Rattle.std.proofs.lemmas.List.{map-append, length-map}
 use Rattle.std.proofs.lemmas.List.Elements.{filter_map-append}
-use Rattle.forms.specs.View.{Extends}
+use Rattle.text_forms.specs.View.{Extends}
 use Rattle.ir_types.specs.declared.module.Symbol.{Symbol}
 use Rattle.ir_types.specs.declared.memory_type.MemTy.{MemTy}
 use Rattle.ir_types.specs.declared.memory_type.TypeName.{TypeName}
 use Rattle.ir_types.specs.Tree.{SymbolTree}
 use Rattle.ir_types.specs.Denotes.{function_place}
 use Rattle.ir_types.proofs.NameAt.{extends_refl}
-use Rattle.type_reader.specs.TypeTable.{names_of}
-use Rattle.type_reader.specs.Tables.{TableLists}
-use Rattle.type_reader.proofs.Holding.{names_extend}
-use Rattle.item_reader.specs.declared.part.Definition.{Definition}
-use Rattle.item_reader.specs.declared.part.Variable.{Variable}
-use Rattle.item_reader.specs.declared.source.FunctionSource.{FunctionSource}
+use Rattle.ir_reader_types.specs.TypeTable.{names_of}
+use Rattle.ir_reader_types.specs.Tables.{TableLists}
+use Rattle.ir_reader_types.proofs.Holding.{names_extend}
+use Rattle.ir_reader_items.specs.declared.part.Definition.{Definition}
+use Rattle.ir_reader_items.specs.declared.part.Variable.{Variable}
+use Rattle.ir_reader_items.specs.declared.source.FunctionSource.{FunctionSource}
 use Rattle.ir_reader.specs.Trees.{symbol_over, variable_symbol, function_named, function_symbols}
 use Rattle.ir_reader.specs.Typed.{AreTyped, ArePrepared}
 use Rattle.ir_reader.proofs.Symbolic.{functions_stand, function_places, no_places}

@@ -4,7 +4,7 @@ use Rattle.std.proofs.lemmas.List.{take_more, length-take-le}
 use Rattle.ir_types.specs.declared.name.Name.{Name}
 use Rattle.ir_types.specs.declared.memory_type.TypeName.{TypeName}
 use Rattle.ir_types.specs.declared.memory_type.NamedType.{NamedType}
-use Rattle.type_reader.specs.TypeTable.{names_of, with_type}
+use Rattle.ir_reader_types.specs.TypeTable.{names_of, with_type}
 use Rattle.ir_reader.specs.Typed.{with_types}
 
 pub with_none : (ts : List TypeName) → with_types ts [] ≡ ts

@@ -1,7 +1,7 @@
 -- Symbols of functions, one after another, and their places.
 use Rattle.std.proofs.Common.{◌≡◌, ℕ, suc, ◌+◌, List, [], ◌∷◌, ◌++◌, length, map, Option, Some, None, refl, sym, ap, ◌∙◌, append_assoc, arith}
 use Rattle.std.specs.List.{filter_map, cons_option, range_with_len}
-use Rattle.forms.proofs.Parts.{some_is}
+use Rattle.text_forms.proofs.Parts.{some_is}
 use Rattle.ir_types.specs.declared.name.Name.{Name}
 use Rattle.ir_types.specs.declared.module.Symbol.{Symbol}
 use Rattle.ir_types.specs.declared.module.SymbolKind.{SymbolKind}
@@ -10,7 +10,7 @@ use Rattle.ir_types.specs.declared.memory_type.MemTy.{MemTy}
 use Rattle.ir_types.specs.Tree.{FunctionTree, SymbolTree}
 use Rattle.ir_types.specs.Collected.{symbol_of_function}
 use Rattle.ir_types.specs.Denotes.{function_place}
-use Rattle.item_reader.specs.declared.part.Variable.{Variable}
+use Rattle.ir_reader_items.specs.declared.part.Variable.{Variable}
 use Rattle.ir_reader.specs.Trees.{symbol_over, variable_symbol, function_named, function_symbol, function_symbols, missing_symbol}
 
 symbols_push : (i : ℕ) (names : List Name) (n : Name) → function_symbols i (names ++ n ∷ []) ≡ function_symbols i names ++ function_symbol (i + length names) n ∷ []

@@ -5,8 +5,8 @@ use Rattle.std.specs.List.{AllByRecursion, filter_map}
 use Rattle.std.specs.Option.{option_map}
 use Rattle.std.proofs.lemmas.List.{length-map, append-nil}
 use Rattle.std.proofs.lemmas.List.Elements.{filter_map-append}
-use Rattle.forms.specs.Nested.{concat}
-use Rattle.forms.specs.View.{Extends}
+use Rattle.text_forms.specs.Nested.{concat}
+use Rattle.text_forms.specs.View.{Extends}
 use Rattle.ir_types.specs.declared.name.Name.{Name}
 use Rattle.ir_types.specs.declared.module.Symbol.{Symbol}
 use Rattle.ir_types.specs.declared.memory_type.MemTy.{MemTy}
@@ -16,13 +16,13 @@ use Rattle.ir_types.specs.declared.memory_type.NamedType.TheVariants.{Defined, O
 use Rattle.ir_types.specs.Names.{unknown}
 use Rattle.ir_types.specs.Types.{AreTypes}
 use Rattle.ir_types.specs.TypeNodes.{TypeNode}
-use Rattle.type_reader.specs.TypeTable.{names_of, missing_entry}
-use Rattle.type_reader.specs.Tables.{definition_over, IsDefinedBefore, AreEntriesApart}
-use Rattle.type_reader.proofs.LookUps.{names_append, missing_names, looked_up}
-use Rattle.type_reader.proofs.Holding.{names_extend}
-use Rattle.type_reader.proofs.Growth.{extends_length, entries_looked}
-use Rattle.item_reader.specs.declared.part.Definition.{Definition}
-use Rattle.item_reader.specs.declared.part.Variable.{Variable}
+use Rattle.ir_reader_types.specs.TypeTable.{names_of, missing_entry}
+use Rattle.ir_reader_types.specs.Tables.{definition_over, IsDefinedBefore, AreEntriesApart}
+use Rattle.ir_reader_types.proofs.LookUps.{names_append, missing_names, looked_up}
+use Rattle.ir_reader_types.proofs.Holding.{names_extend}
+use Rattle.ir_reader_types.proofs.Growth.{extends_length, entries_looked}
+use Rattle.ir_reader_items.specs.declared.part.Definition.{Definition}
+use Rattle.ir_reader_items.specs.declared.part.Variable.{Variable}
 use Rattle.ir_reader.specs.Gathered.{definition_of}
 use Rattle.ir_reader.specs.Trees.{stands_for, defined_as, symbol_over, variable_symbol}
 use Rattle.ir_reader.specs.Typed.{LooksUpNames, Made, definition_uses, variable_uses, names_before_functions, StandsBefore, with_types, AreTyped}

@@ -1,17 +1,17 @@
 -- Names that are used, one thing's behind another's.
 use Rattle.std.proofs.Common.{◌≡◌, List, [], ◌∷◌, ◌++◌, map, refl, sym, ap, ◌∙◌, append_assoc}
 use Rattle.std.proofs.lemmas.List.{append-nil, map-append, map_push}
-use Rattle.forms.specs.Nested.{concat}
+use Rattle.text_forms.specs.Nested.{concat}
 use Rattle.ir_types.specs.declared.name.Name.{Name}
 use Rattle.ir_types.specs.Names.{unknown}
 use Rattle.ir_types.specs.Tree.{InstTree, TypeNameTree, SymbolTree, FunctionTree, ModuleTree}
 use Rattle.ir_types.specs.Used.{types_in, types_of_definition, types_of_symbol, types_of, operands_of, symbols_of, insts_of, all_insts, with_unknown, all_type_names, all_symbol_names}
-use Rattle.type_reader.specs.Tables.{TableLists}
-use Rattle.type_reader.specs.Uses.{InstsUse}
-use Rattle.type_reader.proofs.LookUps.{unknown_append}
-use Rattle.type_reader.proofs.Uses.{uses_both}
-use Rattle.item_reader.specs.declared.part.Definition.{Definition}
-use Rattle.item_reader.specs.declared.part.Variable.{Variable}
+use Rattle.ir_reader_types.specs.Tables.{TableLists}
+use Rattle.ir_reader_types.specs.Uses.{InstsUse}
+use Rattle.ir_reader_types.proofs.LookUps.{unknown_append}
+use Rattle.ir_reader_types.proofs.Uses.{uses_both}
+use Rattle.ir_reader_items.specs.declared.part.Definition.{Definition}
+use Rattle.ir_reader_items.specs.declared.part.Variable.{Variable}
 use Rattle.ir_reader.specs.Gathered.{definition_of}
 use Rattle.ir_reader.specs.Trees.{variable_symbol, function_named}
 use Rattle.ir_reader.specs.Typed.{definition_uses, variable_uses, names_before_functions}

@@ -9,9 +9,9 @@ use Rattle.ir_types.specs.Skimmed.{Skimmed, outlined}
 use Rattle.ir_types.specs.Tree.{KeptTexts, VariableTree, FunctionTree, Item, head_line, comdat_line, type_item, variable_item, function_item, attribute_line, metadata_line}
 use Rattle.ir_limits.specs.Mentioned.{in_definition, in_function}
 use Rattle.ir_limits.specs.Limits.{or_else, first_long}
-use Rattle.item_reader.specs.declared.part.Definition.{Definition}
-use Rattle.item_reader.specs.declared.source.FunctionSource.{FunctionSource}
-use Rattle.item_reader.specs.Parts.{nodes_of, variable_of, outline_of}
+use Rattle.ir_reader_items.specs.declared.part.Definition.{Definition}
+use Rattle.ir_reader_items.specs.declared.source.FunctionSource.{FunctionSource}
+use Rattle.ir_reader_items.specs.Parts.{nodes_of, variable_of, outline_of}
 use Rattle.ir_reader.specs.declared.gather.Gathered.{Gathered}
 use Rattle.ir_reader.specs.declared.longs.ItemLong.{ItemLong}
 use Rattle.ir_reader.specs.declared.longs.ItemLong.TheVariants.{Known, OfFunction}

@@ -1,9 +1,9 @@
 -- What reading all of a module's tokens gives.
 use Rattle.std.specs.Prelude.{◌≡◌, ℕ, List, [], ◌∷◌, length, Option, Some, None, Result, Ok, Err}
-use Rattle.forms.specs.declared.cursor.SyntaxFault.{SyntaxFault}
-use Rattle.forms.specs.declared.cursor.SyntaxFault.TheVariants.{NoReading, Memory}
-use Rattle.forms.specs.Form.{Lexeme}
-use Rattle.forms.specs.Reading.{◌>>=◌, read}
+use Rattle.text_forms.specs.declared.cursor.SyntaxFault.{SyntaxFault}
+use Rattle.text_forms.specs.declared.cursor.SyntaxFault.TheVariants.{NoReading, Memory}
+use Rattle.text_forms.specs.Form.{Lexeme}
+use Rattle.text_forms.specs.Reading.{◌>>=◌, read}
 use Rattle.text_lex.specs.declared.fault.Count.{Count}
 use Rattle.ir_types.specs.declared.module.Module.{Module}
 use Rattle.ir_types.specs.Tree.{FunctionTree, Item}

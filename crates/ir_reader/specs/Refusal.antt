@@ -1,10 +1,10 @@
 -- Why a text is not read.
 use Rattle.std.specs.Prelude.{◌≡◌, ◌≤◌, ◌<◌, ◌⊎◌, ℕ, List, [], length}
 use Rattle.std.specs.Prelude.{slice_get, Some, None}
-use Rattle.forms.specs.declared.Token.{Token}
-use Rattle.forms.specs.LeftOut.{NoneLeftOut}
-use Rattle.forms.specs.Lexical.{Lexes, Places, StopsAt}
-use Rattle.forms.specs.View.{lexemes}
+use Rattle.text_forms.specs.declared.Token.{Token}
+use Rattle.text_forms.specs.LeftOut.{NoneLeftOut}
+use Rattle.text_forms.specs.Lexical.{Lexes, Places, StopsAt}
+use Rattle.text_forms.specs.View.{lexemes}
 use Rattle.text_lex.specs.declared.TheConstants.{TEXT_LIMIT}
 use Rattle.text_lex.specs.declared.fault.TextFault.{TextFault}
 use Rattle.text_lex.specs.declared.fault.TextFault.TheVariants.{BadToken, LeftOut, TextLimit, NoReading, CountLimit, Memory}

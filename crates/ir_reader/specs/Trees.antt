@@ -10,12 +10,12 @@ use Rattle.ir_types.specs.declared.memory_type.NamedType.TheVariants.{Defined, O
 use Rattle.ir_types.specs.TypeNodes.{TypeNode, type_nodes}
 use Rattle.ir_types.specs.Tree.{variable, function, SymbolTree}
 use Rattle.ir_types.specs.Collected.{symbol_of}
-use Rattle.item_reader.specs.declared.part.Definition.{Definition}
-use Rattle.item_reader.specs.declared.part.Variable.{Variable}
-use Rattle.type_reader.specs.declared.tables.TableParts.{TableParts}
-use Rattle.type_reader.specs.TypeTable.{names_of}
+use Rattle.ir_reader_items.specs.declared.part.Definition.{Definition}
+use Rattle.ir_reader_items.specs.declared.part.Variable.{Variable}
+use Rattle.ir_reader_types.specs.declared.tables.TableParts.{TableParts}
+use Rattle.ir_reader_types.specs.TypeTable.{names_of}
 use Rattle.ir_types.specs.Denotes.{Tables}
-use Rattle.item_reader.specs.Parts.{nodes_of, variable_of}
+use Rattle.ir_reader_items.specs.Parts.{nodes_of, variable_of}
 
 -- ---- names of types
 

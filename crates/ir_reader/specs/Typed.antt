@@ -2,8 +2,8 @@
 use Rattle.std.specs.Prelude.{◌≡◌, ◌<◌, ℕ, List, [], ◌∷◌, ◌++◌, length, map, Some}
 use Rattle.std.specs.Option.{option_map}
 use Rattle.std.specs.List.{AllByRecursion, filter_map, range_with_len}
-use Rattle.forms.specs.Nested.{concat}
-use Rattle.forms.specs.View.{Extends}
+use Rattle.text_forms.specs.Nested.{concat}
+use Rattle.text_forms.specs.View.{Extends}
 use Rattle.ir_types.specs.declared.name.Name.{Name}
 use Rattle.ir_types.specs.declared.module.Symbol.{Symbol}
 use Rattle.ir_types.specs.declared.memory_type.MemTy.{MemTy}
@@ -17,12 +17,12 @@ use Rattle.ir_types.specs.Tree.{SymbolTree}
 use Rattle.ir_types.specs.Collected.{of_definition}
 use Rattle.ir_types.specs.Used.{types_of_definition, with_unknown}
 use Rattle.ir_types.specs.Denotes.{function_place}
-use Rattle.type_reader.specs.TypeTable.{names_of, missing_entry}
-use Rattle.type_reader.specs.Tables.{TableLists, definition_over, definitions_of, Grows, IsDefinedBefore, AreEntriesApart}
-use Rattle.item_reader.specs.declared.part.Definition.{Definition}
-use Rattle.item_reader.specs.declared.part.Variable.{Variable}
-use Rattle.item_reader.specs.declared.source.FunctionSource.{FunctionSource}
-use Rattle.item_reader.specs.Parts.{nodes_of}
+use Rattle.ir_reader_types.specs.TypeTable.{names_of, missing_entry}
+use Rattle.ir_reader_types.specs.Tables.{TableLists, definition_over, definitions_of, Grows, IsDefinedBefore, AreEntriesApart}
+use Rattle.ir_reader_items.specs.declared.part.Definition.{Definition}
+use Rattle.ir_reader_items.specs.declared.part.Variable.{Variable}
+use Rattle.ir_reader_items.specs.declared.source.FunctionSource.{FunctionSource}
+use Rattle.ir_reader_items.specs.Parts.{nodes_of}
 use Rattle.ir_reader.specs.Gathered.{definition_of}
 use Rattle.ir_reader.specs.Trees.{symbol_over, variable_symbol, function_named}
 

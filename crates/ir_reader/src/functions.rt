@@ -2,23 +2,23 @@
 
 ghost use Rattle.std.specs.Prelude.{◌≡◌, map, IfOk};
 ghost use Rattle.std.specs.List.{AllByRecursion};
-ghost use Rattle.forms.specs.Gives.{Gives};
-ghost use Rattle.forms.specs.Nested.{concat};
+ghost use Rattle.text_forms.specs.Gives.{Gives};
+ghost use Rattle.text_forms.specs.Nested.{concat};
 ghost use Rattle.ir_types.specs.declared.module.Function.{Function};
 ghost use Rattle.ir_types.specs.Names.{IsTable};
 ghost use Rattle.ir_types.specs.Denotes.{function_in};
 ghost use Rattle.ir_types.specs.Used.{insts_of};
-ghost use Rattle.type_reader.specs.Tables.{TableLists, tables_in, definitions_of, Grows};
-ghost use Rattle.type_reader.specs.Uses.{InstsUse};
+ghost use Rattle.ir_reader_types.specs.Tables.{TableLists, tables_in, definitions_of, Grows};
+ghost use Rattle.ir_reader_types.specs.Uses.{InstsUse};
 ghost use Rattle.ir_reader.specs.Gathered.{skimmed_of};
 ghost use Rattle.ir_reader.specs.Reading.{function_read, functions_read};
 
-use forms::{Cursor, SyntaxFault};
-use function_reader::{declared, defined};
+use text_forms::{Cursor, SyntaxFault};
+use ir_reader_functions::{declared, defined};
 use ir_types::Function;
-use item_reader::FunctionSource;
+use ir_reader_items::FunctionSource;
 use std::alloc::Global;
-use type_reader::Tables;
+use ir_reader_types::Tables;
 
 /// The function that stands there.
 fn function(

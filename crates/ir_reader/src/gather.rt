@@ -1,17 +1,17 @@
 // The items of a module, gathered by their kinds.
 
 ghost use Rattle.std.specs.Prelude.{◌≡◌, ◌++◌, ◌∷◌, [], List, OnOk};
-ghost use Rattle.forms.specs.Gives.{left};
+ghost use Rattle.text_forms.specs.Gives.{left};
 ghost use Rattle.ir_types.specs.Tree.{Item};
 ghost use Rattle.ir_types.specs.Skimmed.{Skimmed};
-ghost use Rattle.item_reader.specs.Parts.{item_of};
+ghost use Rattle.ir_reader_items.specs.Parts.{item_of};
 ghost use Rattle.ir_reader.specs.Gathered.{Holds};
 ghost use Rattle.ir_reader.specs.Reading.{GivesItems};
 
 use crate::longs::{ItemLong, long_in};
-use forms::{Cursor, SyntaxFault};
+use text_forms::{Cursor, SyntaxFault};
 use ir_types::Kept;
-use item_reader::{Definition, FunctionSource, Part, Variable, begins_item, item};
+use ir_reader_items::{Definition, FunctionSource, Part, Variable, begins_item, item};
 use std::alloc::{AllocError, Global};
 
 /// The items of a module by their kinds, each kind in the text's order.

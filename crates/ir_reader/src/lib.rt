@@ -3,9 +3,9 @@
 #![tactic(auto)]
 
 ghost use Rattle.std.specs.Prelude.{◌≡◌, ◌≤◌, ◌<◌, ◌⊎◌, length, IfOk, OnOk, IfErr};
-ghost use Rattle.forms.specs.declared.Token.{Token};
-ghost use Rattle.forms.specs.declared.cursor.SyntaxFault.TheVariants.{Memory};
-ghost use Rattle.forms.specs.Gives.{left};
+ghost use Rattle.text_forms.specs.declared.Token.{Token};
+ghost use Rattle.text_forms.specs.declared.cursor.SyntaxFault.TheVariants.{Memory};
+ghost use Rattle.text_forms.specs.Gives.{left};
 ghost use Rattle.text_lex.specs.Fault.{HasNoneLeftOut};
 ghost use Rattle.ir_types.specs.Denotes.{tree_of, Denotes};
 ghost use Rattle.ir_reader.specs.Refusal.{IsWithinLimits, IsRefusal, StartsAt};
@@ -17,12 +17,10 @@ mod gather;
 mod longs;
 mod named;
 mod symbols;
-#[cfg(test)]
-mod tests;
 
 use crate::build::{module, try_functions};
 use crate::gather::{Gathered, gather};
-use forms::{Cursor, SyntaxFault, Token};
+use text_forms::{Cursor, SyntaxFault, Token};
 use ir_types::Module;
 use std::alloc::Global;
 use text_lex::{Count, TEXT_LIMIT, TextFault, lex};

@@ -5,12 +5,12 @@ ghost use Rattle.std.specs.Option.{option_map};
 ghost use Rattle.ir_types.specs.Denotes.{function_in};
 ghost use Rattle.ir_limits.specs.Mentioned.{in_definition};
 ghost use Rattle.ir_limits.specs.Limits.{first_long, or_else};
-ghost use Rattle.item_reader.specs.Parts.{item_of, nodes_of};
+ghost use Rattle.ir_reader_items.specs.Parts.{item_of, nodes_of};
 ghost use Rattle.ir_reader.specs.Gathered.{long_of, long_among};
 
 use ir_limits::{LongNames, long_name, long_name_of_function};
 use ir_types::Function;
-use item_reader::{Definition, Part};
+use ir_reader_items::{Definition, Part};
 
 /// What is known of an item's names before functions are read.
 #[derive(Clone, Copy, Debug)]

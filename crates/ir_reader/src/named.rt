@@ -2,20 +2,20 @@
 
 ghost use Rattle.std.specs.Prelude.{◌≡◌, ◌≤◌, ◌<◌, length, map, IfOk, OnOk};
 ghost use Rattle.std.specs.List.{AllByRecursion};
-ghost use Rattle.forms.specs.View.{Extends};
+ghost use Rattle.text_forms.specs.View.{Extends};
 ghost use Rattle.ir_types.specs.TypeNodes.{type_nodes, names_used};
 ghost use Rattle.ir_types.specs.Types.{AreTypes};
-ghost use Rattle.type_reader.specs.TypeTable.{names_of, missing_entry};
-ghost use Rattle.item_reader.specs.Parts.{nodes_of};
+ghost use Rattle.ir_reader_types.specs.TypeTable.{names_of, missing_entry};
+ghost use Rattle.ir_reader_items.specs.Parts.{nodes_of};
 ghost use Rattle.ir_reader.specs.Trees.{stands_for, defined_as};
 ghost use Rattle.ir_reader.specs.Typed.{LooksUpNames, Stands, Made, definition_uses, StandsBefore, with_types};
 
-use forms::SyntaxFault;
+use text_forms::SyntaxFault;
 use ir_types::{MemTy, NamedType, TypeId};
-use item_reader::{Definition, TypeSource};
+use ir_reader_items::{Definition, TypeSource};
 use lists::Copies;
 use std::alloc::{AllocError, Global};
-use type_reader::{TypeNames, memory_type};
+use ir_reader_types::{TypeNames, memory_type};
 
 /// The type that stands there.
 pub fn type_at(

@@ -1,21 +1,21 @@
 // The symbols of variables and of functions, and those that are only used.
 
 ghost use Rattle.std.specs.Prelude.{◌≡◌, ◌≤◌, ◌++◌, length, map, drop, Some, IfOk, OnOk};
-ghost use Rattle.forms.specs.View.{Extends};
+ghost use Rattle.text_forms.specs.View.{Extends};
 ghost use Rattle.ir_types.specs.declared.module.Symbol.{Symbol};
 ghost use Rattle.ir_types.specs.Types.{AreTypes};
-ghost use Rattle.type_reader.specs.TypeTable.{names_of};
-ghost use Rattle.item_reader.specs.declared.part.Variable.{Variable};
-ghost use Rattle.item_reader.specs.declared.source.FunctionSource.{FunctionSource};
+ghost use Rattle.ir_reader_types.specs.TypeTable.{names_of};
+ghost use Rattle.ir_reader_items.specs.declared.part.Variable.{Variable};
+ghost use Rattle.ir_reader_items.specs.declared.source.FunctionSource.{FunctionSource};
 ghost use Rattle.ir_reader.specs.Trees.{symbol_over, variable_symbol, function_symbol, function_symbols, missing_symbol};
 ghost use Rattle.ir_reader.specs.Typed.{LooksUpNames, Stands, Made, variable_uses};
 
 use crate::named::type_at;
 use ir_types::{FuncId, MemTy, Name, Symbol, SymbolKind};
-use item_reader::{FunctionSource, Variable};
+use ir_reader_items::{FunctionSource, Variable};
 use lists::{Copies, Items, Texts};
 use std::alloc::{AllocError, Global};
-use type_reader::{SymbolNames, TypeNames};
+use ir_reader_types::{SymbolNames, TypeNames};
 
 /// The symbol of a variable.
 fn variable_symbol(

@@ -1,15 +1,15 @@
 -- An instruction with its attachments stays what it is where the instruction does.
 use Rattle.std.proofs.Common.{◌≡◌, Bool, ◌||◌, List, [], ◌∷◌, map, Option, Some, None, refl, ap, ◌∙◌, subst}
 use Rattle.std.specs.List.{list_any}
-use Rattle.forms.specs.Form.{Lexeme, Form}
-use Rattle.forms.specs.Reading.{◌>>=◌, read}
+use Rattle.text_forms.specs.Form.{Lexeme, Form}
+use Rattle.text_forms.specs.Reading.{◌>>=◌, read}
 use Rattle.ir_types.specs.declared.inst.Operand.{Operand}
 use Rattle.ir_types.specs.declared.inst.Operand.TheVariants.{Local, Int, Null, Poison, Lanes, Global, OutOfRange}
 use Rattle.ir_types.specs.declared.inst.Inst.{Inst}
 use Rattle.ir_types.specs.Tree.{KeptTexts, InstTree}
 use Rattle.ir_types.specs.Grammar.{inst_attachments, is_out_of_range, with_kept, attached}
-use Rattle.ir_reader_ops.specs.declared.scope.Scope.{Scope}
-use Rattle.ir_reader_ops.specs.Seen.{operand_seen, inst_seen, IsSteady}
+use Rattle.ir_reader_values.specs.declared.scope.Scope.{Scope}
+use Rattle.ir_reader_values.specs.Seen.{operand_seen, inst_seen, IsSteady}
 use Rattle.ir_reader_ops.specs.Words.{is_outside, attached_to}
 
 -- an operand is out of range as it is seen

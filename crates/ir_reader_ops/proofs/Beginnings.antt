@@ -2,10 +2,10 @@
 use Rattle.std.proofs.Common.{◌≡◌, Bool, true, false, ◌&&◌, ◌||◌, eqb, List, [], ◌∷◌, ◌++◌, codes, refl, ap, ◌∙◌}
 use Rattle.std.proofs.lemmas.List.{append-nil}
 use Rattle.std.specs.Option.{is_some}
-use Rattle.forms.specs.declared.TokenKind.TheVariants.{Word}
-use Rattle.forms.specs.Form.{Lexeme, kind_code, entry}
-use Rattle.forms.specs.Reading.{Terminal, this, fits, fits_one, next_in, opens, words_of}
-use Rattle.forms.proofs.Tables.{word_next}
+use Rattle.text_forms.specs.declared.TokenKind.TheVariants.{Word}
+use Rattle.text_forms.specs.Form.{Lexeme, kind_code, entry}
+use Rattle.text_forms.specs.Reading.{Terminal, this, fits, fits_one, next_in, opens, words_of}
+use Rattle.text_forms.proofs.Tables.{word_next}
 use Rattle.ir_types.specs.Offsets.{Definitions}
 use Rattle.ir_types.specs.Grammar.{operation, operation_words, terminator, terminator_words}
 use Rattle.ir_reader_ops.specs.Words.{form_at}

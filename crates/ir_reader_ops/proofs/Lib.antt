@@ -1,14 +1,3 @@
-pub mod Widening
-pub mod Refusals
-pub mod Pushing
-pub mod Modulo
-pub mod Chains
-pub mod Operands
-pub mod Split
-pub mod Conditions
-pub mod Offsets
-pub mod Callees
 pub mod Beginnings
 pub mod Attached
-pub mod Using
 pub mod Decided

@@ -1,9 +1,1 @@
-pub mod Seen
-pub mod View
-pub mod Operands
-pub mod Between
-pub mod Split
-pub mod Conditions
 pub mod Words
-pub mod Offsets
-pub mod Calls

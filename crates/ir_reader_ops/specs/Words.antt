@@ -1,8 +1,8 @@
 -- Instructions behind their words, and with their attachments.
 use Rattle.std.specs.Prelude.{Bool, true, false, ◌||◌, codes, List, Option, Some}
 use Rattle.std.specs.List.{list_any}
-use Rattle.forms.specs.Form.{Lexeme, Form, either, by_word}
-use Rattle.forms.specs.Reading.{◌>>=◌, read}
+use Rattle.text_forms.specs.Form.{Lexeme, Form, either, by_word}
+use Rattle.text_forms.specs.Reading.{◌>>=◌, read}
 use Rattle.ir_types.specs.declared.inst.Operand.{Operand}
 use Rattle.ir_types.specs.declared.inst.Operand.TheVariants.{OutOfRange}
 use Rattle.ir_types.specs.declared.inst.Inst.{Inst}

@@ -1,30 +1,25 @@
 // Instructions, without the names of their results.
 
 ghost use Rattle.std.specs.Prelude.{◌≡◌, IfOk};
-ghost use Rattle.forms.specs.Form.{by_word};
-ghost use Rattle.forms.specs.Reading.{read, opens, next_in, words_of};
-ghost use Rattle.forms.specs.Gives.{Gives, left};
+ghost use Rattle.text_forms.specs.Form.{by_word};
+ghost use Rattle.text_forms.specs.Reading.{read, opens, next_in, words_of};
+ghost use Rattle.text_forms.specs.Gives.{Gives, left};
 ghost use Rattle.ir_types.specs.Offsets.{Definitions};
 ghost use Rattle.ir_types.specs.Grammar.{operation_words, operation_behind, terminator_words, terminator_behind, operation, terminator};
-ghost use Rattle.ir_reader_ops.specs.Seen.{inst_seen, definitions, Widens, Stays, InstUses};
+ghost use Rattle.ir_reader_values.specs.Seen.{inst_seen, definitions, Widens, Stays, InstUses};
 ghost use Rattle.std.specs.List.{list_any};
 ghost use Rattle.ir_reader_ops.specs.Words.{is_outside, attached_to, bare_terminator, form_at, instruction};
 
-use crate::arithmetic::{
-    comparison, freeze, or_operation, overflowing, plain_binary, possibly_exact, selection,
-};
-use crate::branches::{branch, give_back};
-use crate::calls::call_behind;
-use crate::casts::{ptrtoint, sext, trunc, zext};
-use crate::entries::phi;
-use crate::memory::{load, store};
-use crate::offset::getelementptr;
-use crate::scope::Scope;
-use crate::switch::switch;
-use crate::vectors::{extract, insert, shuffle};
 use crate::words::{operation_of, terminator_of};
-use forms::{Cursor, SyntaxFault, TokenKind};
+use text_forms::{Cursor, SyntaxFault, TokenKind};
 use ir_making::applied;
+use ir_reader_arithmetic::{
+    comparison, extract, freeze, insert, or_operation, overflowing, plain_binary, possibly_exact,
+    ptrtoint, selection, sext, shuffle, trunc, zext,
+};
+use ir_reader_control::{branch, give_back, phi, switch};
+use ir_reader_memory::{call_behind, getelementptr, load, store};
+use ir_reader_values::Scope;
 use ir_types::{Inst, InstKind, Operand, Operation, Terminator, Ty};
 use kept_runs::keep_comma_attachments;
 use lists::{Few, Texts};

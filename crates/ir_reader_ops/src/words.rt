@@ -1,24 +1,11 @@
-// The words of instructions and of predicates.
+// The words of instructions.
 
 ghost use Rattle.std.specs.Prelude.{◌≡◌};
-ghost use Rattle.forms.specs.Form.{entry};
-ghost use Rattle.ir_types.specs.Grammar.{predicates, operation_words, terminator_words};
+ghost use Rattle.text_forms.specs.Form.{entry};
+ghost use Rattle.ir_types.specs.Grammar.{operation_words, terminator_words};
 
-use forms::find;
-use ir_types::{BinOp, Operation, Pred, TailKind, Terminator};
-
-static PREDICATES: [(&[u8], Pred); 10] = [
-    (b"eq", Pred::Eq),
-    (b"ne", Pred::Ne),
-    (b"ugt", Pred::Ugt),
-    (b"uge", Pred::Uge),
-    (b"ult", Pred::Ult),
-    (b"ule", Pred::Ule),
-    (b"sgt", Pred::Sgt),
-    (b"sge", Pred::Sge),
-    (b"slt", Pred::Slt),
-    (b"sle", Pred::Sle),
-];
+use text_forms::find;
+use ir_types::{BinOp, Operation, TailKind, Terminator};
 
 static OPERATIONS: [(&[u8], Operation); 31] = [
     (b"add", Operation::Overflowing(BinOp::Add)),
@@ -59,14 +46,6 @@ static TERMINATORS: [(&[u8], Terminator); 3] = [
     (b"switch", Terminator::Switch),
     (b"ret", Terminator::Ret),
 ];
-
-/// The predicate of the word.
-#[tactic(auto, unfolding(ir_types::specs::Grammar::predicates))]
-pub fn predicate_of(word: &[u8]) -> Option<Pred>
-    ensures { result ≡ entry predicates word.now }
-{
-    find(&PREDICATES, word)
-}
 
 /// What the word begins, of the instructions that don't end a block.
 #[tactic(auto, unfolding(ir_types::specs::Grammar::operation_words))]

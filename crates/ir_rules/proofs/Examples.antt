@@ -1,11 +1,11 @@
 -- Worked examples of the rules: texts, and what is found in them.
 use Rattle.std.proofs.Common.{◌≡◌, ℕ, List, [], ◌∷◌, ◌++◌, length, codes, Option, Some, None, if◌then◌else◌, eqb, refl}
-use Rattle.forms.specs.declared.TokenKind.{TokenKind}
-use Rattle.forms.specs.Form.{Lexeme}
-use Rattle.forms.specs.Lexical.{kind_of, table}
-use Rattle.forms.specs.Reading.{◌>>=◌, read_whole}
-use Rattle.forms.specs.Kept.{kept_piece, kept_run, metadata_node, attachment, attachments}
-use Rattle.forms.specs.LeftOut.{left_out_words}
+use Rattle.text_forms.specs.declared.TokenKind.{TokenKind}
+use Rattle.text_forms.specs.Form.{Lexeme}
+use Rattle.text_forms.specs.Lexical.{kind_of, table}
+use Rattle.text_forms.specs.Reading.{◌>>=◌, read_whole}
+use Rattle.text_forms.specs.Kept.{kept_piece, kept_run, metadata_node, attachment, attachments}
+use Rattle.text_forms.specs.LeftOut.{left_out_words}
 use Rattle.ir_types.specs.declared.name.Name.{Name}
 use Rattle.ir_types.specs.declared.name.Name.TheVariants.{Text, Number}
 use Rattle.ir_types.specs.Grammar.{local_name, global_name, label, width, vector_type, value_type, return_type, three_flags, inst_memory, lane, constant_word, typed_lane, constant_offset, value, typed_value, typed_pair, pointer_value, index_value, target, alignment, overflowing, possibly_exact, plain_binary, or_operation, predicates, compared, compare, select, freeze, trunc, zext, sext, ptrtoint, entry_of_phi, phi, getelementptr, load, store, argument, signature, call, extractelement, insertelement, shufflevector, branch, case_of_switch, switch, ret, inst_attachments, operation_words, operation, terminator_words, terminator, block, type_words, value_words, item_words, instruction_words, excluded_words, kept, memory_leaf, array_begin, type_parts, parameter, dotted_parameters, declared_function, defined_function, target_line, attribute_group, comdat, metadata, type_definition, initialiser_stops, extra_behind, behind_type, variable_word, variable_definition, item, module_form}

@@ -1,6 +1,6 @@
 -- Lists of places at which a rule may be broken.
 use Rattle.std.specs.Prelude.{ℕ, suc, List, [], ◌∷◌, ◌++◌, map, Some, None}
-use Rattle.forms.specs.Nested.{concat}
+use Rattle.text_forms.specs.Nested.{concat}
 use Rattle.ir_types.specs.declared.name.Name.{Name}
 use Rattle.ir_types.specs.Tree.{InstTree, FunctionTree, ModuleTree}
 use Rattle.ir_types.specs.Used.{insts_of}

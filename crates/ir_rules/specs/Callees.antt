@@ -2,7 +2,7 @@
 -- and no body.
 use Rattle.std.specs.Prelude.{Bool, true, false, not, ◌&&◌, List, [], ◌∷◌, ◌++◌, map, take, length, Option, Some, None, if◌then◌else◌}
 use Rattle.std.specs.List.{list_any}
-use Rattle.forms.specs.Nested.{concat}
+use Rattle.text_forms.specs.Nested.{concat}
 use Rattle.ir_types.specs.declared.name.Name.{Name}
 use Rattle.ir_types.specs.declared.call.Callee.{Callee}
 use Rattle.ir_types.specs.declared.call.Signature.{Signature}

@@ -1,7 +1,7 @@
 -- Rules about the edges between blocks: no branch goes to an entry block; phis stand first in their block, and have an entry for each edge into it.
 use Rattle.std.specs.Prelude.{ℕ, suc, ◌+◌, Bool, true, false, not, ◌&&◌, nat_eq, List, [], ◌∷◌, ◌++◌, map, filter, length, zip, count_by, Option, Some, None, if◌then◌else◌}
 use Rattle.std.specs.List.{list_all}
-use Rattle.forms.specs.Nested.{concat}
+use Rattle.text_forms.specs.Nested.{concat}
 use Rattle.ir_types.specs.declared.name.Name.{Name}
 use Rattle.ir_types.specs.Names.{same_name}
 use Rattle.ir_types.specs.Kinds.{Kind, Phi, Jump, Branch, Switch}

@@ -1,6 +1,6 @@
 -- Rule: a local, a label, a type or a symbol that is used is defined or declared. What is called is not looked at here.
 use Rattle.std.specs.Prelude.{List, [], ◌∷◌, ◌++◌, map, filter, not, Bool, true, Some}
-use Rattle.forms.specs.Nested.{concat}
+use Rattle.text_forms.specs.Nested.{concat}
 use Rattle.ir_types.specs.declared.name.Name.{Name}
 use Rattle.ir_types.specs.Names.{has_name}
 use Rattle.ir_types.specs.Kinds.{Kind, Phi}

@@ -1,6 +1,6 @@
 -- How often a run enters a block, and what a pass over a module may add to a run.
 use Rattle.std.specs.Prelude.{◌≡◌, ℕ, zero, suc, ◌+◌, ◌*◌, ◌≤◌, Bool, IsFalse, List, [], ◌∷◌, length, Contains, Option, Some, None, if◌then◌else◌, ◌&&◌}
-use Rattle.forms.specs.Bind.{◌>>=◌}
+use Rattle.text_forms.specs.Bind.{◌>>=◌}
 use Rattle.ir_types.specs.declared.name.Name.{Name}
 use Rattle.ir_types.specs.Names.{same_name}
 use Rattle.ir_types.specs.Tree.{BlockTree, FunctionTree, ModuleTree}

@@ -3,9 +3,9 @@ use Rattle.std.proofs.Common.{ℕ, true, List, [], ◌∷◌, Option, Some, None
 use Rattle.std.specs.Prelude.{map, codes}
 use Rattle.std.specs.List.{AllByRecursion, AllZip}
 use Rattle.std.proofs.lemmas.List.{length-map}
-use Rattle.forms.specs.declared.TokenKind.TheVariants.{Comma, LeftParen, RightParen}
-use Rattle.forms.proofs.Sound.{bind_some}
-use Rattle.forms.proofs.Exact.{some_is}
+use Rattle.text_forms.specs.declared.TokenKind.TheVariants.{Comma, LeftParen, RightParen}
+use Rattle.text_forms.proofs.Sound.{bind_some}
+use Rattle.text_forms.proofs.Exact.{some_is}
 use Rattle.ir_types.specs.declared.inst.Ty.TheVariants.{Int, Ptr}
 use Rattle.ir_types.specs.declared.call.Actual.{Actual}
 use Rattle.ir_types.specs.declared.call.Signature.{Signature}

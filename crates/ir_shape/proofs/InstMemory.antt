@@ -1,11 +1,11 @@
 -- A memory type in an instruction is spelled as one of enough depth.
 use Rattle.std.proofs.Common.{◌≡◌, ℕ, true, List, [], length, Some, sym, ap, ◌∙◌, subst, refl, arith}
 use Rattle.std.proofs.lemmas.List.{append-nil}
-use Rattle.forms.specs.Form.{Lexeme, Form, Spells}
-use Rattle.forms.specs.Reading.{read, decides}
-use Rattle.forms.proofs.Complete.{complete}
-use Rattle.forms.proofs.NestedDecides.{memory_decides}
-use Rattle.forms.proofs.Sound.{sound}
+use Rattle.text_forms.specs.Form.{Lexeme, Form, Spells}
+use Rattle.text_forms.specs.Reading.{read, decides}
+use Rattle.text_forms.proofs.Complete.{complete}
+use Rattle.text_forms.proofs.NestedDecides.{memory_decides}
+use Rattle.text_forms.proofs.Sound.{sound}
 use Rattle.ir_types.specs.TypeNodes.{TypeNode}
 use Rattle.ir_types.specs.Grammar.{type_parts, memory_type, inst_memory}
 use Rattle.ir_types.proofs.Decides.{parts_decide}

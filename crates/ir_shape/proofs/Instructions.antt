@@ -4,11 +4,11 @@ use Rattle.std.specs.Prelude.{not, map, codes, replicate}
 use Rattle.std.specs.List.{AllByRecursion, AllZip, list_any}
 use Rattle.std.proofs.lemmas.List.{length-map}
 use Rattle.std.proofs.lemmas.Option.{cond_some}
-use Rattle.forms.specs.declared.TokenKind.TheVariants.{Comma, LeftBracket, RightBracket}
-use Rattle.forms.specs.Form.{mapped, by_word}
-use Rattle.forms.specs.Kept.{kept_behind_comma, attachment}
-use Rattle.forms.proofs.Sound.{bind_some}
-use Rattle.forms.proofs.Exact.{some_is}
+use Rattle.text_forms.specs.declared.TokenKind.TheVariants.{Comma, LeftBracket, RightBracket}
+use Rattle.text_forms.specs.Form.{mapped, by_word}
+use Rattle.text_forms.specs.Kept.{kept_behind_comma, attachment}
+use Rattle.text_forms.proofs.Sound.{bind_some}
+use Rattle.text_forms.proofs.Exact.{some_is}
 use Rattle.kept_runs.specs.Verbatim.{Verbatim}
 use Rattle.kept_runs.proofs.Verbatim.{verbatim_behind_comma, verbatim_each, verbatim_attachment}
 use Rattle.ir_types.specs.declared.name.Name.{Name}

@@ -5,10 +5,10 @@ use Rattle.std.specs.List.{AllByRecursion}
 use Rattle.std.proofs.lemmas.Bool.Decides.{nat_tests}
 use Rattle.std.proofs.lemmas.List.{append-nil}
 use Rattle.std.proofs.lemmas.Option.{cond_some}
-use Rattle.forms.specs.declared.TokenKind.TheVariants.{Word, Number, Comma, LeftBracket, RightBracket, LeftBrace, RightBrace, Less, Greater}
-use Rattle.forms.specs.declared.Around.TheVariants.{InStruct}
-use Rattle.forms.specs.Form.{Form, either}
-use Rattle.forms.specs.Nested.{concat, joined, struct_head, struct_end, remainder, struct_of, array_of, one_deeper}
+use Rattle.text_forms.specs.declared.TokenKind.TheVariants.{Word, Number, Comma, LeftBracket, RightBracket, LeftBrace, RightBrace, Less, Greater}
+use Rattle.text_forms.specs.declared.Around.TheVariants.{InStruct}
+use Rattle.text_forms.specs.Form.{Form, either}
+use Rattle.text_forms.specs.Nested.{concat, joined, struct_head, struct_end, remainder, struct_of, array_of, one_deeper}
 use Rattle.ir_types.specs.TypeNodes.{TypeNode, array, opening, closing}
 use Rattle.ir_types.specs.Written.{number_of}
 use Rattle.ir_types.specs.Grammar.{elements_of, inst_memory, memory_leaf, array_begin, type_parts, memory_type}

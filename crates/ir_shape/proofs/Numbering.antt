@@ -5,10 +5,10 @@ use Rattle.std.specs.List.{AllByRecursion}
 use Rattle.std.proofs.lemmas.Bool.Decides.{nat_tests}
 use Rattle.std.proofs.lemmas.List.{length-map}
 use Rattle.std.proofs.lemmas.Option.{cond_some}
-use Rattle.forms.specs.Reading.{◌>>=◌}
-use Rattle.forms.specs.Walk.{walk}
-use Rattle.forms.proofs.Sound.{bind_some}
-use Rattle.forms.proofs.Exact.{some_is}
+use Rattle.text_forms.specs.Reading.{◌>>=◌}
+use Rattle.text_forms.specs.Walk.{walk}
+use Rattle.text_forms.proofs.Sound.{bind_some}
+use Rattle.text_forms.proofs.Exact.{some_is}
 use Rattle.ir_types.specs.declared.name.Name.{Name}
 use Rattle.ir_types.specs.declared.name.Name.TheVariants.{Number}
 use Rattle.ir_types.specs.declared.inst.Ty.{Ty}

@@ -1,8 +1,8 @@
 -- What is known of kept runs that tokens spell, and of lists that dots may end.
 use Rattle.std.proofs.Common.{Bool, false, List, [], Option, Some, None}
 use Rattle.std.specs.List.{AllByRecursion}
-use Rattle.forms.specs.declared.TokenKind.TheVariants.{Comma, Dots}
-use Rattle.forms.specs.Form.{Form}
+use Rattle.text_forms.specs.declared.TokenKind.TheVariants.{Comma, Dots}
+use Rattle.text_forms.specs.Form.{Form}
 use Rattle.kept_runs.specs.Verbatim.{Verbatim}
 use Rattle.kept_runs.proofs.Verbatim.{verbatim_run}
 use Rattle.ir_types.specs.Grammar.{or_else, dotted_list, kept}

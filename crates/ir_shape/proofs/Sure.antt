@@ -1,12 +1,12 @@
 -- What holds of every value that a form spells by tokens of a text.
 use Rattle.std.proofs.Common.{◌≡◌, ◌<◌, ℕ, Bool, true, List, [], ◌∷◌, ◌++◌, length, map, Option, Some, None, subst, sym, ap, ◌∙◌, arith, inl, inr}
 use Rattle.std.specs.List.{AllByRecursion}
-use Rattle.forms.specs.declared.TokenKind.{TokenKind}
-use Rattle.forms.specs.declared.TokenKind.TheVariants.{Comma, Word}
-use Rattle.forms.specs.Form.{Lexeme, Form, Spells, texts, exactly, one, ahead, pair, either, mapped, made, optional, many, by_word}
-use Rattle.forms.specs.Gives.{mark}
-use Rattle.forms.specs.Reading.{for_all}
-use Rattle.forms.proofs.Parts.{for_entry}
+use Rattle.text_forms.specs.declared.TokenKind.{TokenKind}
+use Rattle.text_forms.specs.declared.TokenKind.TheVariants.{Comma, Word}
+use Rattle.text_forms.specs.Form.{Lexeme, Form, Spells, texts, exactly, one, ahead, pair, either, mapped, made, optional, many, by_word}
+use Rattle.text_forms.specs.Gives.{mark}
+use Rattle.text_forms.specs.Reading.{for_all}
+use Rattle.text_forms.proofs.Parts.{for_entry}
 use Rattle.text_lex.specs.KeptText.{token_of, IsToken, AreLexed}
 use Rattle.text_lex.proofs.Lexed.{lexed_split, tokens_again, lexed_are_tokens}
 use Rattle.kept_runs.specs.Verbatim.{Verbatim}

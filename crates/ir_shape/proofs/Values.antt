@@ -6,9 +6,9 @@ use Rattle.std.proofs.lemmas.Bool.Decides.{nat_tests}
 use Rattle.std.proofs.Math.Nat.{mul-le-mul}
 use Rattle.std.proofs.lemmas.List.{length-map, length-replicate}
 use Rattle.std.proofs.lemmas.Option.{cond_some}
-use Rattle.forms.specs.declared.TokenKind.TheVariants.{Local, Global, Label, Number, LeftParen, RightParen, Comma, Less, Greater}
-use Rattle.forms.proofs.Sound.{bind_some}
-use Rattle.forms.proofs.Exact.{some_is}
+use Rattle.text_forms.specs.declared.TokenKind.TheVariants.{Local, Global, Label, Number, LeftParen, RightParen, Comma, Less, Greater}
+use Rattle.text_forms.proofs.Sound.{bind_some}
+use Rattle.text_forms.proofs.Exact.{some_is}
 use Rattle.ir_types.specs.declared.name.Name.{Name}
 use Rattle.ir_types.specs.declared.inst.Ty.{Ty}
 use Rattle.ir_types.specs.declared.inst.Ty.TheVariants.{Int, Ptr, Vector, Void}

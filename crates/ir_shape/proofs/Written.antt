@@ -2,10 +2,10 @@
 use Rattle.std.proofs.Common.{List, [], ◌∷◌, ◌++◌, Option, Some, None, subst}
 use Rattle.std.specs.Prelude.{map}
 use Rattle.std.specs.List.{AllByRecursion}
-use Rattle.forms.specs.declared.TokenKind.TheVariants.{Local, Equal}
-use Rattle.forms.specs.Form.{Form}
-use Rattle.forms.proofs.Sound.{bind_some}
-use Rattle.forms.proofs.Exact.{some_is}
+use Rattle.text_forms.specs.declared.TokenKind.TheVariants.{Local, Equal}
+use Rattle.text_forms.specs.Form.{Form}
+use Rattle.text_forms.proofs.Sound.{bind_some}
+use Rattle.text_forms.proofs.Exact.{some_is}
 use Rattle.ir_types.specs.declared.name.Name.{Name}
 use Rattle.ir_types.specs.Kinds.{Kind}
 use Rattle.ir_types.specs.Offsets.{Definitions}

@@ -1,10 +1,10 @@
 -- The shape of a module's tree, and what more is known of one that can be printed: no number in that is out of its type's range.
 use Rattle.std.specs.Prelude.{codes, Bool, true, false, ◌≡◌, ◌<◌, ◌^◌, ℕ, zero, suc, List, [], ◌∷◌, ◌++◌, length, map, Option, Some, None}
 use Rattle.std.specs.List.{AllByRecursion, AllZip}
-use Rattle.forms.specs.declared.TokenKind.TheVariants.{Word}
-use Rattle.forms.specs.Form.{Form, Spells, either}
-use Rattle.forms.specs.Nested.{concat, joined}
-use Rattle.forms.specs.Kept.{kept_token, attachments}
+use Rattle.text_forms.specs.declared.TokenKind.TheVariants.{Word}
+use Rattle.text_forms.specs.Form.{Form, Spells, either}
+use Rattle.text_forms.specs.Nested.{concat, joined}
+use Rattle.text_forms.specs.Kept.{kept_token, attachments}
 use Rattle.text_lex.specs.KeptText.{token_of, IsToken}
 use Rattle.ir_types.specs.declared.name.Name.{Name}
 use Rattle.ir_types.specs.declared.name.Name.TheVariants.{Text, Number}

@@ -3,8 +3,8 @@ use Rattle.std.proofs.Common.{◌≡◌, ℕ, zero, suc, ◌≤◌, List, [], �
 use Rattle.std.specs.Prelude.{slice_get}
 use Rattle.std.proofs.lemmas.List.{length-map}
 use Rattle.std.proofs.lemmas.Option.{slice_get-get_or}
-use Rattle.forms.specs.Bind.{◌>>=◌}
-use Rattle.forms.proofs.Parts.{bind_some}
+use Rattle.text_forms.specs.Bind.{◌>>=◌}
+use Rattle.text_forms.proofs.Parts.{bind_some}
 use Rattle.ir_types.specs.declared.name.Name.{Name}
 use Rattle.ir_types.specs.declared.name.Name.TheVariants.{Number}
 use Rattle.ir_types.specs.declared.memory_type.TypeId.{TypeId}

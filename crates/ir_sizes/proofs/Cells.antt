@@ -2,9 +2,9 @@
 use Rattle.std.proofs.Common.{◌≡◌, ℕ, ◌*◌, Bool, List, [], ◌∷◌, ◌++◌, map, Option, Some, None, refl, sym, ap, ◌∙◌, append_assoc}
 use Rattle.std.specs.List.{AllByRecursion}
 use Rattle.std.proofs.lemmas.List.{append-nil}
-use Rattle.forms.specs.Bind.{◌>>=◌}
-use Rattle.forms.specs.Nested.{concat}
-use Rattle.forms.proofs.Parts.{bind_some}
+use Rattle.text_forms.specs.Bind.{◌>>=◌}
+use Rattle.text_forms.specs.Nested.{concat}
+use Rattle.text_forms.proofs.Parts.{bind_some}
 use Rattle.ir_types.specs.declared.name.Name.{Name}
 use Rattle.ir_types.specs.declared.inst.Ty.{Ty}
 use Rattle.ir_types.specs.Sizes.{Layout, struct_layout}

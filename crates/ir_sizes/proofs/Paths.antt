@@ -1,6 +1,6 @@
 -- Steps one after another.
 use Rattle.std.proofs.Common.{◌≡◌, ℕ, ◌+◌, ◌%◌, ◌^◌, ◌<◌, ◌≤◌, List, [], ◌∷◌, map, length, get_or, drop, drop-cons, drop_of_length-le, add-one, Option, Some, None, refl, sym, ap, ◌∙◌, arith}
-use Rattle.forms.specs.Bind.{◌>>=◌}
+use Rattle.text_forms.specs.Bind.{◌>>=◌}
 use Rattle.ir_types.specs.TypeNodes.{TypeNode}
 use Rattle.ir_types.specs.Offsets.{Definitions, unnamed, stepped_into, path_offset, small_size, scaled, offset_of}
 use Rattle.ir_sizes.specs.declared.offsets.Index.{Index}

@@ -5,8 +5,8 @@ use Rattle.std.proofs.lemmas.Bool.{cases_eq}
 use Rattle.std.proofs.lemmas.Slice.Eq.{bytes_eq-Decides}
 use Rattle.std.proofs.lemmas.Bool.Decides.{Decides-eqb}
 use mathlib.Core.Path.{fun_ext}
-use Rattle.forms.specs.Bind.{◌>>=◌}
-use Rattle.forms.proofs.Parts.{bind_some}
+use Rattle.text_forms.specs.Bind.{◌>>=◌}
+use Rattle.text_forms.proofs.Parts.{bind_some}
 use Rattle.ir_types.specs.declared.name.Name.{Name}
 use Rattle.ir_types.specs.declared.name.Name.TheVariants.{Text, Number}
 use Rattle.ir_types.specs.Names.{same_name}

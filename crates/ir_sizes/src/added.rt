@@ -1,6 +1,6 @@
 // The extents of types that were added behind others.
 ghost use Rattle.std.specs.Prelude.{OnOk};
-ghost use Rattle.forms.specs.View.{Extends};
+ghost use Rattle.text_forms.specs.View.{Extends};
 ghost use Rattle.ir_types.specs.Types.{AreTypes};
 ghost use Rattle.ir_types.specs.Sizes.{AreExtents};
 ghost use Rattle.ir_sizes.specs.Known.{AreFirstExtents};

@@ -1,6 +1,6 @@
 // Where the members of structs begin, those of each type behind those of the types before.
 ghost use Rattle.std.specs.Prelude.{◌≡◌, ◌≤◌, List, length, OnOk};
-ghost use Rattle.forms.specs.View.{Extends};
+ghost use Rattle.text_forms.specs.View.{Extends};
 ghost use Rattle.ir_types.specs.declared.memory_type.MemTy.{MemTy};
 ghost use Rattle.ir_types.specs.declared.memory_type.MemTy.TheVariants.{Struct};
 ghost use Rattle.ir_types.specs.declared.memory_type.TypeName.{TypeName};

@@ -5,7 +5,7 @@ use Rattle.std.specs.List.{filter_map, cons_option, list_any, AllByRecursion}
 use Rattle.std.proofs.lemmas.List.{length-map}
 use Rattle.std.proofs.lemmas.Bool.Decides.{Decides-eqb}
 use Rattle.std.proofs.lemmas.Slice.Eq.{bytes_eq-Decides}
-use Rattle.forms.proofs.Begins.{or_right}
+use Rattle.text_forms.proofs.Begins.{or_right}
 use Rattle.lists.specs.declared.texts.Texts.{Texts}
 use Rattle.ir_types.specs.declared.name.Name.{Name}
 use Rattle.ir_types.specs.Names.{same_name, has_name, unknown}

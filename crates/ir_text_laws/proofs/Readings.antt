@@ -1,8 +1,8 @@
 -- A text reads as at most one tree.
 use Rattle.std.proofs.Common.{◌≡◌, ℕ, List, Some, None, sym, ap, ◌∙◌, subst}
-use Rattle.forms.specs.Form.{Lexeme}
-use Rattle.forms.specs.Lexical.{StopsAt, Lexes}
-use Rattle.forms.proofs.Exact.{some_is}
+use Rattle.text_forms.specs.Form.{Lexeme}
+use Rattle.text_forms.specs.Lexical.{StopsAt, Lexes}
+use Rattle.text_forms.proofs.Exact.{some_is}
 use Rattle.text_lex.proofs.Unique.{lexes_unique, stops_lexes}
 use Rattle.ir_types.specs.Grammar.{SpellsModule}
 use Rattle.ir_types.specs.Numbered.{numbered_module}

@@ -2,8 +2,8 @@
 #![tactic(auto)]
 
 ghost use Rattle.std.specs.Prelude.{◌≡◌, ◌≢◌, ◌<◌, ◌≤◌, ℕ, List, map, length, slice_get, Some, None};
-ghost use Rattle.forms.specs.Form.{Lexeme};
-ghost use Rattle.forms.specs.Lexical.{Lexes, StopsAt};
+ghost use Rattle.text_forms.specs.Form.{Lexeme};
+ghost use Rattle.text_forms.specs.Lexical.{Lexes, StopsAt};
 ghost use Rattle.ir_types.specs.declared.memory_type.TypeName.{TypeName};
 ghost use Rattle.ir_types.specs.declared.memory_type.NamedType.TheVariants.{Missing as MissingType};
 ghost use Rattle.ir_types.specs.declared.module.Symbol.{Symbol};

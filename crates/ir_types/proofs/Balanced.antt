@@ -1,13 +1,13 @@
 -- Blocks and memory types close all brackets that they open.
 use Rattle.std.proofs.Common.{◌≡◌, ℕ, Bool, true, List, [], ◌∷◌, Some, refl}
-use Rattle.forms.specs.declared.TokenKind.TheVariants.{LeftParen, RightParen, RightBracket, LeftBrace, RightBrace}
-use Rattle.forms.specs.Form.{Lexeme, Spells, nests}
-use Rattle.forms.specs.Balanced.{stack_after}
-use Rattle.forms.specs.Reading.{decides, read}
-use Rattle.forms.specs.LeftOut.{left_out_words}
-use Rattle.forms.specs.Kept.{kept_piece, kept_run, metadata_node, attachment}
-use Rattle.forms.proofs.Balanced.{balanced, memory_stack}
-use Rattle.forms.proofs.Between.{in_two_steps, between_inside}
+use Rattle.text_forms.specs.declared.TokenKind.TheVariants.{LeftParen, RightParen, RightBracket, LeftBrace, RightBrace}
+use Rattle.text_forms.specs.Form.{Lexeme, Spells, nests}
+use Rattle.text_forms.specs.Balanced.{stack_after}
+use Rattle.text_forms.specs.Reading.{decides, read}
+use Rattle.text_forms.specs.LeftOut.{left_out_words}
+use Rattle.text_forms.specs.Kept.{kept_piece, kept_run, metadata_node, attachment}
+use Rattle.text_forms.proofs.Balanced.{balanced, memory_stack}
+use Rattle.text_forms.proofs.Between.{in_two_steps, between_inside}
 use Rattle.ir_types.specs.Offsets.{Definitions}
 use Rattle.ir_types.specs.TypeNodes.{TypeNode}
 use Rattle.ir_types.specs.Tree.{WrittenParam, WrittenBlock}

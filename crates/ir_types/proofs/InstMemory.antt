@@ -1,20 +1,20 @@
 -- A memory type in an instruction is read as any memory type.
 use Rattle.std.proofs.Common.{◌≡◌, ℕ, ◌≤◌, true, List, [], ◌∷◌, ◌++◌, length, codes, Some, refl, sym, ap, ◌∙◌, subst, length-append, arith, inl, inr}
 use Rattle.std.proofs.lemmas.List.{append-nil}
-use Rattle.forms.specs.declared.TokenKind.TheVariants.{Word, Number, Less, Greater}
-use Rattle.forms.specs.Form.{Lexeme, is_one_of, one, exactly, pair, made, Spells}
-use Rattle.forms.specs.Reading.{◌>>=◌, read}
-use Rattle.forms.specs.Nested.{SpellsMemory}
-use Rattle.forms.proofs.Balanced.{balanced}
-use Rattle.forms.proofs.Between.{same_values}
-use Rattle.forms.proofs.Complete.{complete}
-use Rattle.forms.proofs.Exact.{read_spells}
-use Rattle.forms.proofs.Begins.{nothing_next}
-use Rattle.forms.proofs.Nested.{memory_read, memory_spelled}
-use Rattle.forms.proofs.NestedDecides.{memory_decides}
-use Rattle.forms.proofs.NestedTokens.{enclosed_is, BeginsArray, memory_tokens}
-use Rattle.forms.proofs.Parts.{lexeme}
-use Rattle.forms.proofs.Sound.{sound, bind_some}
+use Rattle.text_forms.specs.declared.TokenKind.TheVariants.{Word, Number, Less, Greater}
+use Rattle.text_forms.specs.Form.{Lexeme, is_one_of, one, exactly, pair, made, Spells}
+use Rattle.text_forms.specs.Reading.{◌>>=◌, read}
+use Rattle.text_forms.specs.Nested.{SpellsMemory}
+use Rattle.text_forms.proofs.Balanced.{balanced}
+use Rattle.text_forms.proofs.Between.{same_values}
+use Rattle.text_forms.proofs.Complete.{complete}
+use Rattle.text_forms.proofs.Exact.{read_spells}
+use Rattle.text_forms.proofs.Begins.{nothing_next}
+use Rattle.text_forms.proofs.Nested.{memory_read, memory_spelled}
+use Rattle.text_forms.proofs.NestedDecides.{memory_decides}
+use Rattle.text_forms.proofs.NestedTokens.{enclosed_is, BeginsArray, memory_tokens}
+use Rattle.text_forms.proofs.Parts.{lexeme}
+use Rattle.text_forms.proofs.Sound.{sound, bind_some}
 use Rattle.ir_types.specs.declared.inst.Ty.{Ty}
 use Rattle.ir_types.specs.TypeNodes.{TypeNode}
 use Rattle.ir_types.specs.Grammar.{behind, width, vector_type, value_type, local_name, elements_of, memory_leaf, array_begin, type_parts, memory_type, type_words, type_tokens, type_spelled, inst_memory}

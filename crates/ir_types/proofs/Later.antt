@@ -1,9 +1,9 @@
 -- What one form reads at once, another reads in two steps: first something that is known less, and then the rest of it.
 use Rattle.std.proofs.Common.{◌≡◌, ℕ, zero, suc, ◌==◌, Bool, true, false, cond, List, [], ◌∷◌, length, Option, Some, None, refl, sym, ap, ◌∙◌}
-use Rattle.forms.specs.declared.TokenKind.TheVariants.{Word}
-use Rattle.forms.specs.Form.{kind_code, Lexeme, Form, entry, pair, mapped, by_word}
-use Rattle.forms.specs.Reading.{◌>>=◌, read, read_each, read_whole}
-use Rattle.forms.specs.Walk.{completed}
+use Rattle.text_forms.specs.declared.TokenKind.TheVariants.{Word}
+use Rattle.text_forms.specs.Form.{kind_code, Lexeme, Form, entry, pair, mapped, by_word}
+use Rattle.text_forms.specs.Reading.{◌>>=◌, read, read_each, read_whole}
+use Rattle.text_forms.specs.Walk.{completed}
 
 -- What the one form reads is what the other reads, completed.
 abbrev pub Later : {A B : Type 0} → Form A → Form B → (B → Option A) → Type 0

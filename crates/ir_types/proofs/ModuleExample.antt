@@ -1,11 +1,11 @@
 -- A worked example of a module's lists: places in them stand for what the text's items name, and what is only used stands behind the others.
 use Rattle.std.proofs.Common.{◌≡◌, ℕ, true, false, length, List, [], ◌∷◌, ◌++◌, map, codes, Option, Some, None, if◌then◌else◌, eqb, refl}
-use Rattle.forms.specs.declared.TokenKind.{TokenKind}
-use Rattle.forms.specs.Form.{Lexeme}
-use Rattle.forms.specs.Lexical.{kind_of, table}
-use Rattle.forms.specs.Kept.{kept_piece, kept_run, metadata_node, attachment, attachments}
-use Rattle.forms.specs.LeftOut.{left_out_words}
-use Rattle.forms.specs.Reading.{◌>>=◌, read_whole}
+use Rattle.text_forms.specs.declared.TokenKind.{TokenKind}
+use Rattle.text_forms.specs.Form.{Lexeme}
+use Rattle.text_forms.specs.Lexical.{kind_of, table}
+use Rattle.text_forms.specs.Kept.{kept_piece, kept_run, metadata_node, attachment, attachments}
+use Rattle.text_forms.specs.LeftOut.{left_out_words}
+use Rattle.text_forms.specs.Reading.{◌>>=◌, read_whole}
 use Rattle.ir_types.specs.declared.name.Name.{Name}
 use Rattle.ir_types.specs.declared.name.Name.TheVariants.{Text, Number}
 use Rattle.ir_types.specs.declared.name.ValueId.{ValueId}

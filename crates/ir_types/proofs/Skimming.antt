@@ -1,13 +1,13 @@
 -- A module's items can be read in two passes: first skimmed, and then with the inner parts of their functions.
 use Rattle.std.proofs.Common.{◌≡◌, ℕ, Bool, true, false, cond, List, [], ◌∷◌, length, Option, Some, None, refl, sym, ap, ◌∙◌}
-use Rattle.forms.specs.declared.TokenKind.TheVariants.{LeftParen, RightParen, LeftBrace, RightBrace}
-use Rattle.forms.specs.Form.{Lexeme, Form, pair, mapped, by_word, enclosed}
-use Rattle.forms.specs.Kept.{attachments}
-use Rattle.forms.specs.Nested.{joined}
-use Rattle.forms.specs.Reading.{◌>>=◌, opens, read, read_whole}
-use Rattle.forms.specs.Walk.{completed}
-use Rattle.forms.proofs.Exact.{read_spells, spells_read, some_is}
-use Rattle.forms.proofs.Parts.{bind_some}
+use Rattle.text_forms.specs.declared.TokenKind.TheVariants.{LeftParen, RightParen, LeftBrace, RightBrace}
+use Rattle.text_forms.specs.Form.{Lexeme, Form, pair, mapped, by_word, enclosed}
+use Rattle.text_forms.specs.Kept.{attachments}
+use Rattle.text_forms.specs.Nested.{joined}
+use Rattle.text_forms.specs.Reading.{◌>>=◌, opens, read, read_whole}
+use Rattle.text_forms.specs.Walk.{completed}
+use Rattle.text_forms.proofs.Exact.{read_spells, spells_read, some_is}
+use Rattle.text_forms.proofs.Parts.{bind_some}
 use Rattle.ir_types.specs.declared.name.Name.{Name}
 use Rattle.ir_types.specs.declared.inst.Ty.{Ty}
 use Rattle.ir_types.specs.declared.opcode.ItemWord.{ItemWord}

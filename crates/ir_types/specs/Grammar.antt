@@ -1,12 +1,12 @@
 -- The grammar of modules.
 use Rattle.std.specs.Prelude.{ℕ, ◌%◌, Bool, true, false, not, ◌&&◌, ◌||◌, nat_le, count_by, is_some, length, List, [], ◌∷◌, ◌++◌, map, replicate, codes, find, nat_lt, ◌^◌, ◌==◌, Option, Some, None, if◌then◌else◌}
 use Rattle.std.specs.List.{list_all, list_any}
-use Rattle.forms.specs.declared.TokenKind.TheVariants.{Quoted, Local, Global, Comdat, Label, Word, Number, Metadata, AttributeGroup, Dots, Bang, Equal, Comma, LeftParen, RightParen, LeftBracket, RightBracket, LeftBrace, RightBrace, Less, Greater}
-use Rattle.forms.specs.Form.{Lexeme, Form, Stops, Spells, is_one_of, exactly, one, one_such, enclosed, ahead, up_to, pair, either, mapped, made, optional, many, by_word}
-use Rattle.forms.specs.Reading.{◌>>=◌, read_whole}
-use Rattle.forms.specs.declared.TokenKind.{TokenKind}
-use Rattle.forms.specs.Gives.{mark}
-pub use Rattle.forms.specs.Combined.{word, behind, after_mark, between, marked, some, commas, or_none, list}
+use Rattle.text_forms.specs.declared.TokenKind.TheVariants.{Quoted, Local, Global, Comdat, Label, Word, Number, Metadata, AttributeGroup, Dots, Bang, Equal, Comma, LeftParen, RightParen, LeftBracket, RightBracket, LeftBrace, RightBrace, Less, Greater}
+use Rattle.text_forms.specs.Form.{Lexeme, Form, Stops, Spells, is_one_of, exactly, one, one_such, enclosed, ahead, up_to, pair, either, mapped, made, optional, many, by_word}
+use Rattle.text_forms.specs.Reading.{◌>>=◌, read_whole}
+use Rattle.text_forms.specs.declared.TokenKind.{TokenKind}
+use Rattle.text_forms.specs.Gives.{mark}
+pub use Rattle.text_forms.specs.Combined.{word, behind, after_mark, between, marked, some, commas, or_none, list}
 use Rattle.ir_types.specs.declared.name.Name.{Name}
 use Rattle.ir_types.specs.declared.inst.Ty.{Ty}
 use Rattle.ir_types.specs.declared.inst.Ty.TheVariants.{Int, Ptr, Vector, Void}
@@ -33,10 +33,10 @@ use Rattle.ir_types.specs.declared.opcode.Terminator.{Terminator}
 use Rattle.ir_types.specs.declared.opcode.Terminator.TheVariants as terminators
 pub use Rattle.ir_types.specs.Types.{lane_counts}
 use Rattle.ir_types.specs.Written.{number_of, number_at, fits_width, at_most_64_bits, name_behind, name_before}
-use Rattle.forms.specs.Nested.{TypeParts, memory, concat, joined}
-pub use Rattle.forms.specs.Kept.{is_unsigned}
-use Rattle.forms.specs.Kept.{kept_one, kept_token, kept_such, perhaps, in_braces, kept_run, attachment, attachments, kept_behind_comma}
-use Rattle.forms.specs.LeftOut.{left_out_words}
+use Rattle.text_forms.specs.Nested.{TypeParts, memory, concat, joined}
+pub use Rattle.text_forms.specs.Kept.{is_unsigned}
+use Rattle.text_forms.specs.Kept.{kept_one, kept_token, kept_such, perhaps, in_braces, kept_run, attachment, attachments, kept_behind_comma}
+use Rattle.text_forms.specs.LeftOut.{left_out_words}
 use Rattle.ir_types.specs.Sizes.{value_size}
 use Rattle.ir_types.specs.Offsets.{Definitions, definitions_in, offset_of}
 use Rattle.ir_types.specs.TypeNodes.{TypeNode, scalar, called, array, opening, closing}

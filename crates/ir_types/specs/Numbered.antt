@@ -1,7 +1,7 @@
 -- Things without a name take numbers: parameters first, then the blocks in the text's order, each before its results.
 use Rattle.std.specs.Prelude.{ℕ, List, ◌+◌, ◌^◌, max, nat_lt, Option, Some, None, if◌then◌else◌}
-use Rattle.forms.specs.Reading.{◌>>=◌}
-use Rattle.forms.specs.Walk.{walk}
+use Rattle.text_forms.specs.Reading.{◌>>=◌}
+use Rattle.text_forms.specs.Walk.{walk}
 use Rattle.ir_types.specs.declared.name.Name.{Name}
 use Rattle.ir_types.specs.declared.name.Name.TheVariants.{Text, Number}
 use Rattle.ir_types.specs.declared.inst.Ty.{Ty}

@@ -1,7 +1,7 @@
 -- What a text reads as.
 use Rattle.std.specs.Prelude.{◌≡◌, ℕ, List, Some}
-use Rattle.forms.specs.Form.{Lexeme}
-use Rattle.forms.specs.Lexical.{Lexes}
+use Rattle.text_forms.specs.Form.{Lexeme}
+use Rattle.text_forms.specs.Lexical.{Lexes}
 use Rattle.ir_types.specs.Tree.{FunctionTree, WrittenFunction, Item, ModuleTree}
 use Rattle.ir_types.specs.Grammar.{SpellsModule}
 use Rattle.ir_types.specs.Numbered.{numbered_module}

@@ -1,12 +1,12 @@
 -- A module's items where the inner parts of functions are passed over: what stands between the parentheses of their parameters and the braces of
 -- their bodies is taken as its tokens, and read later, when it is known what the names of types stand for.
 use Rattle.std.specs.Prelude.{ℕ, Bool, List, [], ◌∷◌, length, Option, Some, None}
-use Rattle.forms.specs.declared.TokenKind.TheVariants.{LeftParen, RightParen, LeftBrace, RightBrace}
-use Rattle.forms.specs.Form.{Lexeme, Form, enclosed, pair, either, mapped, many, by_word}
-use Rattle.forms.specs.Reading.{◌>>=◌, read_whole}
-use Rattle.forms.specs.Balanced.{inside}
-use Rattle.forms.specs.Kept.{attachments}
-use Rattle.forms.specs.Nested.{joined}
+use Rattle.text_forms.specs.declared.TokenKind.TheVariants.{LeftParen, RightParen, LeftBrace, RightBrace}
+use Rattle.text_forms.specs.Form.{Lexeme, Form, enclosed, pair, either, mapped, many, by_word}
+use Rattle.text_forms.specs.Reading.{◌>>=◌, read_whole}
+use Rattle.text_forms.specs.Balanced.{inside}
+use Rattle.text_forms.specs.Kept.{attachments}
+use Rattle.text_forms.specs.Nested.{joined}
 use Rattle.ir_types.specs.declared.name.Name.{Name}
 use Rattle.ir_types.specs.declared.inst.Ty.{Ty}
 use Rattle.ir_types.specs.declared.opcode.ItemWord.{ItemWord}

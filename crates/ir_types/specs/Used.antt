@@ -1,7 +1,7 @@
 -- The names that a module uses, of types and of symbols, in the order in which a module has what uses them, and within that in the text's order.
 use Rattle.std.specs.Prelude.{List, [], ◌++◌, map, Option, Some, None}
 use Rattle.std.specs.List.{filter_map}
-use Rattle.forms.specs.Nested.{concat}
+use Rattle.text_forms.specs.Nested.{concat}
 use Rattle.ir_types.specs.declared.name.Name.{Name}
 use Rattle.ir_types.specs.Names.{unknown}
 use Rattle.ir_types.specs.TypeNodes.{names_used}

@@ -2,9 +2,9 @@
 use Rattle.std.specs.Prelude.{ℕ, ◌-◌, ◌%◌, ◌^◌, ◌==◌, nat_lt, nat_le, Bool, true, List, [], ◌∷◌, Option, Some, None, if◌then◌else◌}
 use Rattle.ir_types.specs.declared.name.Name.{Name}
 use Rattle.ir_types.specs.declared.name.Name.TheVariants.{Text, Number}
-use Rattle.forms.specs.Lexical.{is_digit}
-pub use Rattle.forms.specs.Numbers.{number_from, number_of}
-pub use Rattle.forms.specs.Strings.{hex_value, escape, byte_at, unescaped_behind, unescaped, without_last}
+use Rattle.text_forms.specs.Lexical.{is_digit}
+pub use Rattle.text_forms.specs.Numbers.{number_from, number_of}
+pub use Rattle.text_forms.specs.Strings.{hex_value, escape, byte_at, unescaped_behind, unescaped, without_last}
 
 -- ---- numbers
 

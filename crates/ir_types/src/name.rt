@@ -49,7 +49,7 @@ impl Model for Names {
 
 impl Names {
     ghost use Rattle.std.specs.Prelude.{List, IfOk, OnOk, OnErr, length, ◌≡◌, ◌<◌, []};
-    ghost use Rattle.forms.specs.View.{Extends};
+    ghost use Rattle.text_forms.specs.View.{Extends};
     ghost use Rattle.ir_types.specs.declared.name.Name.{Name};
     ghost use Rattle.ir_types.specs.Names.{IsTable, Adds, name_at};
 

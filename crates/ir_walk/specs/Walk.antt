@@ -1,6 +1,6 @@
 -- What a rule finds in instructions that stand behind one another, by their numbers.
 use Rattle.std.specs.Prelude.{ℕ, List, map}
-use Rattle.forms.specs.Nested.{concat}
+use Rattle.text_forms.specs.Nested.{concat}
 use Rattle.ir_types.specs.Tree.{InstTree, BlockTree}
 use Rattle.ir_rules.specs.declared.fault.Subject.{Subject}
 use Rattle.ir_rules.specs.Breaches.{Found, all_at, numbered_from}

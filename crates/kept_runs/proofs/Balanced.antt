@@ -1,9 +1,9 @@
 -- Keeping a balanced list token by token, with a stack of what is awaited.
 use Rattle.std.proofs.Common.{◌≡◌, ℕ, true, false, ◌&&◌, List, [], ◌∷◌, ◌++◌, Option, Some, None, refl, sym, ap, ◌∙◌, append_assoc}
-use Rattle.forms.specs.declared.TokenKind.{TokenKind}
-use Rattle.forms.specs.Form.{Lexeme, Stops, is_empty, step, stops_at}
-use Rattle.forms.specs.Machine.{behind}
-use Rattle.forms.specs.Reading.{◌>>=◌, ends, read_inside, read_up_to}
+use Rattle.text_forms.specs.declared.TokenKind.{TokenKind}
+use Rattle.text_forms.specs.Form.{Lexeme, Stops, is_empty, step, stops_at}
+use Rattle.text_forms.specs.Machine.{behind}
+use Rattle.text_forms.specs.Reading.{◌>>=◌, ends, read_inside, read_up_to}
 use Rattle.kept_runs.specs.Passed.{passed}
 use Rattle.kept_runs.specs.Texts.{with_texts}
 use Rattle.kept_runs.proofs.Behind.{Reads}

@@ -1,14 +1,14 @@
 -- Reading as often as there is another, behind what was kept before.
 use Rattle.std.proofs.Common.{◌≡◌, ◌<◌, true, false, List, ◌∷◌, ◌++◌, length, Option, Some, None, refl, sym, ap, ◌∙◌, append_assoc, arith}
-use Rattle.forms.specs.Form.{Lexeme, Form, mapped, many}
-use Rattle.forms.specs.declared.cursor.Cursor.{Cursor}
-use Rattle.forms.specs.Gives.{left}
-use Rattle.forms.specs.Machine.{behind}
-use Rattle.forms.specs.Nested.{concat}
-use Rattle.forms.specs.Reading.{◌>>=◌, nullable, opens, read}
-use Rattle.forms.proofs.Many.{many_step, shorter}
-use Rattle.forms.proofs.Viewed.{count_viewed}
-use Rattle.forms.proofs.Parts.{bind_some, some_is}
+use Rattle.text_forms.specs.Form.{Lexeme, Form, mapped, many}
+use Rattle.text_forms.specs.declared.cursor.Cursor.{Cursor}
+use Rattle.text_forms.specs.Gives.{left}
+use Rattle.text_forms.specs.Machine.{behind}
+use Rattle.text_forms.specs.Nested.{concat}
+use Rattle.text_forms.specs.Reading.{◌>>=◌, nullable, opens, read}
+use Rattle.text_forms.proofs.Many.{many_step, shorter}
+use Rattle.text_forms.proofs.Viewed.{count_viewed}
+use Rattle.text_forms.proofs.Parts.{bind_some, some_is}
 
 -- what is read, and what is left
 abbrev pub Reads : Type 0 → Type 0

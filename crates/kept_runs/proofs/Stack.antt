@@ -3,12 +3,12 @@ use Rattle.std.proofs.Common.{◌≡◌, Bool, true, cond, ◌&&◌, List, [], �
 use Rattle.std.proofs.lemmas.List.{reverse-append}
 use Rattle.std.specs.List.{list_any}
 use denote.Enum.Bare.{sameb, same_true, same_false}
-use Rattle.forms.specs.declared.TokenKind.{TokenKind}
-use Rattle.forms.specs.contracts.TokenKind.{the_type}
-use Rattle.forms.specs.Form.{kind_code, closed, is_empty, has_kind}
-use Rattle.forms.specs.Reading.{ends}
-use Rattle.forms.proofs.Begins.{test}
-use Rattle.forms.proofs.Tokens.{same_kind, kind_is}
+use Rattle.text_forms.specs.declared.TokenKind.{TokenKind}
+use Rattle.text_forms.specs.contracts.TokenKind.{the_type}
+use Rattle.text_forms.specs.Form.{kind_code, closed, is_empty, has_kind}
+use Rattle.text_forms.specs.Reading.{ends}
+use Rattle.text_forms.proofs.Begins.{test}
+use Rattle.text_forms.proofs.Tokens.{same_kind, kind_is}
 
 -- the code's test of two kinds
 pub same_kinds : (k l : TokenKind) → sameb the_type k l ≡ eqb (kind_code k) (kind_code l)

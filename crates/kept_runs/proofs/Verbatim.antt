@@ -2,13 +2,13 @@
 use Rattle.std.proofs.Common.{◌≡◌, ℕ, Bool, List, [], ◌∷◌, ◌++◌, codes, Option, Some, None, sym, ap, ◌∙◌, inl, inr}
 use Rattle.std.proofs.lemmas.List.{map-append}
 use Rattle.std.proofs.lemmas.Option.{cond_some}
-use Rattle.forms.specs.declared.TokenKind.{TokenKind}
-use Rattle.forms.specs.declared.TokenKind.TheVariants.{Quoted, Word, Number, Metadata, AttributeGroup, Bang, Equal, LeftParen, RightParen, LeftBrace, RightBrace}
-use Rattle.forms.specs.Combined.{or_none}
-use Rattle.forms.specs.Form.{Lexeme, Form, Stops, one_such, is_none_of, enclosed, up_to, either, mapped, many, Spells, InOrder, IfThere, texts}
-use Rattle.forms.specs.Kept.{kept_one, kept_token, kept_such, perhaps, in_parens, in_braces, kept_word, kept_unsigned, kept_numbered, kept_string, kept_piece, kept_run, is_unsigned, is_numbered, is_named, metadata_node, attachment, attachments, kept_behind_comma}
-use Rattle.forms.specs.Lexical.{LexesTo, here, space, comment, token}
-use Rattle.forms.specs.Nested.{concat, joined}
+use Rattle.text_forms.specs.declared.TokenKind.{TokenKind}
+use Rattle.text_forms.specs.declared.TokenKind.TheVariants.{Quoted, Word, Number, Metadata, AttributeGroup, Bang, Equal, LeftParen, RightParen, LeftBrace, RightBrace}
+use Rattle.text_forms.specs.Combined.{or_none}
+use Rattle.text_forms.specs.Form.{Lexeme, Form, Stops, one_such, is_none_of, enclosed, up_to, either, mapped, many, Spells, InOrder, IfThere, texts}
+use Rattle.text_forms.specs.Kept.{kept_one, kept_token, kept_such, perhaps, in_parens, in_braces, kept_word, kept_unsigned, kept_numbered, kept_string, kept_piece, kept_run, is_unsigned, is_numbered, is_named, metadata_node, attachment, attachments, kept_behind_comma}
+use Rattle.text_forms.specs.Lexical.{LexesTo, here, space, comment, token}
+use Rattle.text_forms.specs.Nested.{concat, joined}
 use Rattle.kept_runs.specs.Verbatim.{AreLexed, Verbatim}
 
 -- ---- parts of what is lexed

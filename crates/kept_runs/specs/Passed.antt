@@ -1,7 +1,7 @@
 -- What is passed over.
 use Rattle.std.specs.Prelude.{List, Option, Some}
-use Rattle.forms.specs.Form.{Lexeme}
-use Rattle.forms.specs.Reading.{◌>>=◌}
+use Rattle.text_forms.specs.Form.{Lexeme}
+use Rattle.text_forms.specs.Reading.{◌>>=◌}
 
 -- what is behind what is read
 abbrev pub passed : {A : Type 0} → Option (A × List Lexeme) → Option (List Lexeme)

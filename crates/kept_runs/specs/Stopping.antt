@@ -1,6 +1,6 @@
 -- Where a run ends, as the grammar says it.
 use Rattle.std.specs.Prelude.{map}
-use Rattle.forms.specs.Form as grammar
+use Rattle.text_forms.specs.Form as grammar
 use Rattle.kept_runs.specs.declared.up_to.Stops.{Stops}
 
 -- the stops of the grammar

@@ -1,17 +1,17 @@
 // Attachments and metadata.
 
 ghost use Rattle.std.specs.Prelude.{◌≡◌};
-ghost use Rattle.forms.specs.declared.TokenKind.TheVariants.{Metadata};
-ghost use Rattle.forms.specs.Form.{mapped, many};
-ghost use Rattle.forms.specs.Gives.{Gives, left};
-ghost use Rattle.forms.specs.Kept.{is_numbered, is_named, kept_such, metadata_node, attachment, attachments, kept_behind_comma};
-ghost use Rattle.forms.specs.Machine.{behind};
-ghost use Rattle.forms.specs.Nested.{concat};
-ghost use Rattle.forms.specs.Reading.{read, opens};
+ghost use Rattle.text_forms.specs.declared.TokenKind.TheVariants.{Metadata};
+ghost use Rattle.text_forms.specs.Form.{mapped, many};
+ghost use Rattle.text_forms.specs.Gives.{Gives, left};
+ghost use Rattle.text_forms.specs.Kept.{is_numbered, is_named, kept_such, metadata_node, attachment, attachments, kept_behind_comma};
+ghost use Rattle.text_forms.specs.Machine.{behind};
+ghost use Rattle.text_forms.specs.Nested.{concat};
+ghost use Rattle.text_forms.specs.Reading.{read, opens};
 
 use crate::enclosed::keep_braces;
 use crate::tokens::keep;
-use forms::{Cursor, SyntaxFault, TokenKind};
+use text_forms::{Cursor, SyntaxFault, TokenKind};
 use lists::Texts;
 use std::alloc::Global;
 
@@ -54,7 +54,7 @@ fn keep_name<'t>(tokens: Cursor<'t>, texts: &mut Texts) -> Result<Cursor<'t>, Sy
 /// # Errors
 ///
 /// Where none stands next, or there is no room.
-#[tactic(auto, unfolding(forms::specs::Kept::metadata_node))]
+#[tactic(auto, unfolding(text_forms::specs::Kept::metadata_node))]
 pub fn keep_node<'t>(
     alloc: Global,
     tokens: Cursor<'t>,
@@ -70,7 +70,7 @@ pub fn keep_node<'t>(
 }
 
 /// Whether an attachment stands next.
-#[tactic(auto, unfolding(forms::specs::Kept::attachment))]
+#[tactic(auto, unfolding(text_forms::specs::Kept::attachment))]
 pub fn begins_attachment(tokens: Cursor<'_>) -> bool
     ensures { result ≡ opens attachment (left tokens.entry) }
 {
@@ -82,7 +82,7 @@ pub fn begins_attachment(tokens: Cursor<'_>) -> bool
 /// # Errors
 ///
 /// Where none stands next, or there is no room.
-#[tactic(auto, unfolding(forms::specs::Kept::attachment))]
+#[tactic(auto, unfolding(text_forms::specs::Kept::attachment))]
 pub fn keep_attachment<'t>(
     alloc: Global,
     tokens: Cursor<'t>,
@@ -99,7 +99,7 @@ pub fn keep_attachment<'t>(
 /// # Errors
 ///
 /// Where one is not complete, or there is no room.
-#[tactic(auto, unfolding(forms::specs::Kept::attachments))]
+#[tactic(auto, unfolding(text_forms::specs::Kept::attachments))]
 pub fn keep_attachments<'t>(
     alloc: Global,
     tokens: Cursor<'t>,
@@ -115,7 +115,7 @@ pub fn keep_attachments<'t>(
 }
 
 /// Whether a comma and an attachment stand next.
-#[tactic(auto, unfolding(forms::specs::Kept::attachment))]
+#[tactic(auto, unfolding(text_forms::specs::Kept::attachment))]
 pub fn begins_comma_attachment(tokens: Cursor<'_>) -> bool
     ensures { result ≡ opens (kept_behind_comma attachment) (left tokens.entry) }
 {

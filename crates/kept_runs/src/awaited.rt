@@ -1,10 +1,10 @@
 // What closes the brackets that are open.
 
 ghost use Rattle.std.specs.Prelude.{◌≡◌, [], IfOk, Some, None, if◌then◌else◌};
-ghost use Rattle.forms.specs.Form.{closer, is_closer, closed, step, is_empty};
-ghost use Rattle.forms.specs.Reading.{ends};
+ghost use Rattle.text_forms.specs.Form.{closer, is_closer, closed, step, is_empty};
+ghost use Rattle.text_forms.specs.Reading.{ends};
 
-use forms::TokenKind;
+use text_forms::TokenKind;
 use std::alloc::{AllocError, Global};
 use std::marker::Model;
 
@@ -17,7 +17,7 @@ pub struct Awaited {
 
 impl Model for Awaited {
     ghost use Rattle.std.specs.Prelude.{List, reverse};
-    ghost use Rattle.forms.specs.declared.TokenKind.{TokenKind};
+    ghost use Rattle.text_forms.specs.declared.TokenKind.{TokenKind};
 
     ghost Value = { List TokenKind };
 

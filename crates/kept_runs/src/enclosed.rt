@@ -1,14 +1,14 @@
 // Balanced lists between two marks.
 
 ghost use Rattle.std.specs.Prelude.{[]};
-ghost use Rattle.forms.specs.Gives.{Gives, left};
-ghost use Rattle.forms.specs.Kept.{in_parens, in_braces};
-ghost use Rattle.forms.specs.Machine.{behind};
-ghost use Rattle.forms.specs.Reading.{read, read_inside};
+ghost use Rattle.text_forms.specs.Gives.{Gives, left};
+ghost use Rattle.text_forms.specs.Kept.{in_parens, in_braces};
+ghost use Rattle.text_forms.specs.Machine.{behind};
+ghost use Rattle.text_forms.specs.Reading.{read, read_inside};
 ghost use Rattle.kept_runs.specs.Texts.{with_texts};
 
 use crate::awaited::Awaited;
-use forms::{Cursor, SyntaxFault, TokenKind};
+use text_forms::{Cursor, SyntaxFault, TokenKind};
 use lists::Texts;
 use std::alloc::Global;
 

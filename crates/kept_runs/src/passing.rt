@@ -1,14 +1,14 @@
 // Balanced lists that are passed over.
 
 ghost use Rattle.std.specs.Prelude.{[]};
-ghost use Rattle.forms.specs.declared.TokenKind.TheVariants.{LeftParen, RightParen, LeftBrace, RightBrace};
-ghost use Rattle.forms.specs.Form.{enclosed};
-ghost use Rattle.forms.specs.Gives.{Gives, left};
-ghost use Rattle.forms.specs.Reading.{read, read_inside};
+ghost use Rattle.text_forms.specs.declared.TokenKind.TheVariants.{LeftParen, RightParen, LeftBrace, RightBrace};
+ghost use Rattle.text_forms.specs.Form.{enclosed};
+ghost use Rattle.text_forms.specs.Gives.{Gives, left};
+ghost use Rattle.text_forms.specs.Reading.{read, read_inside};
 ghost use Rattle.kept_runs.specs.Passed.{passed};
 
 use crate::awaited::Awaited;
-use forms::{Cursor, SyntaxFault, TokenKind};
+use text_forms::{Cursor, SyntaxFault, TokenKind};
 use std::alloc::Global;
 
 /// What is behind the token of this kind that closes.

@@ -1,17 +1,17 @@
 // Kept runs and their pieces.
 
 ghost use Rattle.std.specs.Prelude.{◌≡◌, map, codes};
-ghost use Rattle.forms.specs.declared.TokenKind.TheVariants.{Word, Equal, Quoted, AttributeGroup};
-ghost use Rattle.forms.specs.Form.{either};
-ghost use Rattle.forms.specs.Gives.{Gives, left};
-ghost use Rattle.forms.specs.Kept.{is_unsigned, kept_one, perhaps, in_parens, kept_word, kept_unsigned, kept_numbered, kept_string, kept_piece, kept_run};
-ghost use Rattle.forms.specs.Machine.{behind};
-ghost use Rattle.forms.specs.Nested.{joined};
-ghost use Rattle.forms.specs.Reading.{read, opens};
+ghost use Rattle.text_forms.specs.declared.TokenKind.TheVariants.{Word, Equal, Quoted, AttributeGroup};
+ghost use Rattle.text_forms.specs.Form.{either};
+ghost use Rattle.text_forms.specs.Gives.{Gives, left};
+ghost use Rattle.text_forms.specs.Kept.{is_unsigned, kept_one, perhaps, in_parens, kept_word, kept_unsigned, kept_numbered, kept_string, kept_piece, kept_run};
+ghost use Rattle.text_forms.specs.Machine.{behind};
+ghost use Rattle.text_forms.specs.Nested.{joined};
+ghost use Rattle.text_forms.specs.Reading.{read, opens};
 
 use crate::enclosed::keep_parens;
 use crate::tokens::{keep, keep_word};
-use forms::{Cursor, SyntaxFault, TokenKind, is_one_of};
+use text_forms::{Cursor, SyntaxFault, TokenKind, is_one_of};
 use lists::Texts;
 use std::alloc::Global;
 
@@ -144,7 +144,7 @@ fn begins_other(tokens: Cursor<'_>) -> bool
 }
 
 /// Whether a piece of a kept run stands next.
-#[tactic(auto, unfolding(forms::specs::Kept::kept_piece))]
+#[tactic(auto, unfolding(text_forms::specs::Kept::kept_piece))]
 pub fn begins_run(tokens: Cursor<'_>, excluded: &[&[u8]]) -> bool
     ensures { result ≡ opens (kept_piece (map (λ w. w.now) excluded.now)) (left tokens.entry) }
 {
@@ -152,7 +152,7 @@ pub fn begins_run(tokens: Cursor<'_>, excluded: &[&[u8]]) -> bool
 }
 
 /// Keeps a piece of a run.
-#[tactic(auto, unfolding(forms::specs::Kept::kept_piece))]
+#[tactic(auto, unfolding(text_forms::specs::Kept::kept_piece))]
 fn keep_piece<'t>(
     alloc: Global,
     tokens: Cursor<'t>,
@@ -182,7 +182,7 @@ fn keep_piece<'t>(
 /// # Errors
 ///
 /// Where a piece is not complete, or there is no room.
-#[tactic(auto, unfolding(forms::specs::Kept::kept_run))]
+#[tactic(auto, unfolding(text_forms::specs::Kept::kept_run))]
 pub fn keep_run<'t>(
     alloc: Global,
     tokens: Cursor<'t>,

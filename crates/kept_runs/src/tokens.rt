@@ -1,12 +1,12 @@
 // Single tokens.
 
-ghost use Rattle.forms.specs.declared.TokenKind.TheVariants.{Word};
-ghost use Rattle.forms.specs.Gives.{Gives, left};
-ghost use Rattle.forms.specs.Kept.{kept_one, kept_token};
-ghost use Rattle.forms.specs.Machine.{behind};
-ghost use Rattle.forms.specs.Reading.{read};
+ghost use Rattle.text_forms.specs.declared.TokenKind.TheVariants.{Word};
+ghost use Rattle.text_forms.specs.Gives.{Gives, left};
+ghost use Rattle.text_forms.specs.Kept.{kept_one, kept_token};
+ghost use Rattle.text_forms.specs.Machine.{behind};
+ghost use Rattle.text_forms.specs.Reading.{read};
 
-use forms::{Cursor, SyntaxFault, TokenKind};
+use text_forms::{Cursor, SyntaxFault, TokenKind};
 use lists::Texts;
 
 /// Keeps a token of this kind.

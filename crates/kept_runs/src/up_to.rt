@@ -1,14 +1,14 @@
 // Balanced lists up to a stop.
 
 ghost use Rattle.std.specs.Prelude.{◌≡◌};
-ghost use Rattle.forms.specs.Form.{has_kind, stops_at, up_to};
-ghost use Rattle.forms.specs.Gives.{Gives, left};
-ghost use Rattle.forms.specs.Machine.{behind};
-ghost use Rattle.forms.specs.Reading.{read};
+ghost use Rattle.text_forms.specs.Form.{has_kind, stops_at, up_to};
+ghost use Rattle.text_forms.specs.Gives.{Gives, left};
+ghost use Rattle.text_forms.specs.Machine.{behind};
+ghost use Rattle.text_forms.specs.Reading.{read};
 ghost use Rattle.kept_runs.specs.Stopping.{stops_of};
 
 use crate::awaited::Awaited;
-use forms::{Cursor, SyntaxFault, TokenKind, is_one_of};
+use text_forms::{Cursor, SyntaxFault, TokenKind, is_one_of};
 use lists::Texts;
 use std::alloc::Global;
 

@@ -3,14 +3,14 @@ use Rattle.std.proofs.Common.{◌≡◌, ◌≤◌, ◌<◌, ◌+◌, ◌-◌, �
 use Rattle.std.proofs.lemmas.Bool.{eqb-true}
 use Rattle.std.proofs.lemmas.List.{take-map, drop-map}
 use Rattle.std.specs.Prelude.{map}
-use Rattle.forms.specs.declared.TokenKind.{TokenKind}
-use Rattle.forms.specs.declared.Class.TheVariants.{Byte, NameStart, NamePart}
-use Rattle.forms.specs.declared.Part.{Part}
-use Rattle.forms.specs.declared.Part.TheVariants.{One, Run}
-use Rattle.forms.specs.Lexical.{has, table}
+use Rattle.text_forms.specs.declared.TokenKind.{TokenKind}
+use Rattle.text_forms.specs.declared.Class.TheVariants.{Byte, NameStart, NamePart}
+use Rattle.text_forms.specs.declared.Part.{Part}
+use Rattle.text_forms.specs.declared.Part.TheVariants.{One, Run}
+use Rattle.text_forms.specs.Lexical.{has, table}
 use Rattle.text_lex.specs.declared.names.NameRun.{NameRun}
 use Rattle.text_lex.specs.Scan.{far, front, best, range, rows_for, colon_behind, TellsColon}
-use Rattle.forms.proofs.Begins.{test}
+use Rattle.text_forms.proofs.Begins.{test}
 use Rattle.text_lex.proofs.Ranges.{best_range}
 
 far_label : (cs : List ℕ) (n : ℕ) → colon_behind cs ≡ false → far (Run NamePart ∷ One (Byte 58) ∷ []) cs n None ≡ None

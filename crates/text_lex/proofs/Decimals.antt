@@ -4,10 +4,10 @@ use Rattle.std.proofs.lemmas.Bool.{and_parts, and_from}
 use Rattle.std.proofs.lemmas.Bool.Decides.{nat_tests}
 use Rattle.std.proofs.lemmas.Fmt.{decimal_by_steps_wide}
 use Rattle.std.specs.Fmt.{decimal}
-use Rattle.forms.specs.Lexical.{is_digit}
+use Rattle.text_forms.specs.Lexical.{is_digit}
 use Rattle.text_lex.specs.Neighbours.{all_of}
 use Rattle.text_lex.specs.Names.{all_digits, is_digits}
-use Rattle.forms.specs.Numbers.{number_from, number_of}
+use Rattle.text_forms.specs.Numbers.{number_from, number_of}
 
 number_from-append : (n d : ℕ) (ds : List ℕ) → number_from n (ds ++ d ∷ []) ≡ number_from n ds * 10 + (d - 48)
 number_from-append n d [] = refl

@@ -3,10 +3,10 @@ use Rattle.std.proofs.Common.{◌≡◌, ◌≤◌, ◌<◌, ◌+◌, ℕ, zero,
 use Rattle.std.specs.Prelude.{nat_lt, MatchOption, map}
 use Rattle.std.proofs.lemmas.Bool.{cases_lt}
 use Rattle.std.proofs.lemmas.List.{take-append-drop, length-take}
-use Rattle.forms.specs.declared.TokenKind.{TokenKind}
-use Rattle.forms.proofs.Begins.{test}
-use Rattle.forms.specs.declared.Part.{Part}
-use Rattle.forms.specs.Lexical.{after, may_end, spells, kind_by, kind_of, table, NoToken}
+use Rattle.text_forms.specs.declared.TokenKind.{TokenKind}
+use Rattle.text_forms.proofs.Begins.{test}
+use Rattle.text_forms.specs.declared.Part.{Part}
+use Rattle.text_forms.specs.Lexical.{after, may_end, spells, kind_by, kind_of, table, NoToken}
 use Rattle.text_lex.specs.Scan.{far, front, join, best, At}
 
 abbrev pub cases : {A : Type 0} (o : Option A) → (o ≡ None) ⊎ ((a : A) × (o ≡ Some a))

@@ -3,10 +3,10 @@ use Rattle.std.proofs.Common.{◌≡◌, ℕ, true, false, ◌||◌, List, [], �
 use Rattle.std.specs.Prelude.{map, codes}
 use Rattle.std.specs.List.{AllByRecursion}
 use Rattle.std.proofs.lemmas.Bool.{and_parts, and_from}
-use Rattle.forms.specs.Form.{Lexeme, texts, same_text, is_one_of}
-use Rattle.forms.specs.Lexical.{kind_of, table, Lexes}
-use Rattle.forms.proofs.Begins.{test, or_true, or_right}
-use Rattle.forms.proofs.Tokens.{is_text}
+use Rattle.text_forms.specs.Form.{Lexeme, texts, same_text, is_one_of}
+use Rattle.text_forms.specs.Lexical.{kind_of, table, Lexes}
+use Rattle.text_forms.proofs.Begins.{test, or_true, or_right}
+use Rattle.text_forms.proofs.Tokens.{is_text}
 use Rattle.text_lex.specs.Layout.{Piece, lexeme, text_of, tokens_of, AreTokens, is_mark, begins_quoted, closed, bang, open_, left_by, may_stand, joins, end_of}
 use Rattle.text_lex.specs.KeptText.{token_of, IsToken, AreLexed, no_space_before, no_space_behind, is_node, touches, between, kept_behind, kept_pieces, line_pieces}
 use Rattle.text_lex.proofs.Layouts.{pieces_lexed, joins-from, joins_any, mark_stands}

@@ -1,15 +1,15 @@
 -- A printed text has the printed tokens.
 use Rattle.std.proofs.Common.{◌≡◌, ℕ, Bool, true, false, ◌&&◌, ◌||◌, eqb, List, [], ◌∷◌, ◌++◌, Some, refl, sym, ap, ◌∙◌, subst, append_assoc, ◌⊎◌, inl, inr}
 use Rattle.std.proofs.lemmas.Bool.{and_parts, and_from, eqb-true}
-use Rattle.forms.specs.declared.TokenKind.TheVariants.{Bang}
-use Rattle.forms.specs.Form.{Lexeme, kind_code}
-use Rattle.forms.specs.Lexical.{Lexes, here, space, token, Longest, kind_of, is_space}
+use Rattle.text_forms.specs.declared.TokenKind.TheVariants.{Bang}
+use Rattle.text_forms.specs.Form.{Lexeme, kind_code}
+use Rattle.text_forms.specs.Lexical.{Lexes, here, space, token, Longest, kind_of, is_space}
 use Rattle.text_lex.specs.Layout.{Piece, gap, lexeme, text_of, tokens_of, AreTokens, is_mark, begins_quoted, Before, closed, bang, open_, left_by, spaced, may_stand, joins, end_of}
 use Rattle.text_lex.specs.Neighbours.{all_of, separates}
 use Rattle.text_lex.proofs.Marks.{mark_is, bang_text}
 use Rattle.text_lex.proofs.Neighbours.{parted, alone, ended, last, bang_quote, space_separates, tab_separates, feed_separates, return_separates}
-use Rattle.forms.proofs.Begins.{test, or_true}
-use Rattle.forms.proofs.Tokens.{same_kind}
+use Rattle.text_forms.proofs.Begins.{test, or_true}
+use Rattle.text_forms.proofs.Tokens.{same_kind}
 
 space_apart : (c : ℕ) → is_space c ≡ true → separates c ≡ true
 space_apart c h = elim (or_true (eqb c 32) _ h) [

@@ -2,8 +2,8 @@
 use Rattle.std.proofs.Common.{◌≡◌, ℕ, List, [], ◌∷◌, ◌++◌, Some, refl, ap}
 use Rattle.std.specs.Prelude.{map}
 use Rattle.std.specs.List.{AllByRecursion}
-use Rattle.forms.specs.Form.{Lexeme, texts}
-use Rattle.forms.specs.Lexical.{kind_of, LexesTo, here, space, comment, token}
+use Rattle.text_forms.specs.Form.{Lexeme, texts}
+use Rattle.text_forms.specs.Lexical.{kind_of, LexesTo, here, space, comment, token}
 use Rattle.text_lex.specs.KeptText.{token_of, IsToken, AreLexed}
 
 pub lexes_lexed : {text rest : List ℕ} {ts : List Lexeme} → LexesTo text ts rest → AreLexed ts

@@ -2,18 +2,18 @@
 use Rattle.std.proofs.Common.{◌≡◌, ℕ, Bool, true, false, not, ◌&&◌, ◌||◌, eqb, List, [], ◌∷◌, Some, refl, ap, ◌∙◌, inl, inr}
 use Rattle.std.proofs.lemmas.Bool.{and_parts, eqb-true, eq-eqb}
 use Rattle.std.specs.Prelude.{codes}
-use Rattle.forms.specs.declared.TokenKind.{TokenKind}
-use Rattle.forms.specs.declared.TokenKind.TheVariants.{Quoted, Local, Global, Comdat, Label, Word, Number, TextConstant, Metadata, AttributeGroup, Dots, Equal, Comma, LeftParen, RightParen, LeftBracket, RightBracket, LeftBrace, RightBrace, Less, Greater, Star, Bang, Colon, Bar, Decimal, Hexadecimal, NamedGroup}
-use Rattle.forms.specs.declared.Class.{Class}
-use Rattle.forms.specs.declared.Class.TheVariants.{Byte, Digit, HexDigit, NameStart, NamePart, WordStart, WordPart, Exponent, Sign, NotQuote}
-use Rattle.forms.specs.declared.Part.{Part}
-use Rattle.forms.specs.declared.Part.TheVariants.{One, Perhaps, Run}
-use Rattle.forms.specs.Form.{kind_code}
-use Rattle.forms.specs.Lexical.{kind_of, spells, kind_by, table}
+use Rattle.text_forms.specs.declared.TokenKind.{TokenKind}
+use Rattle.text_forms.specs.declared.TokenKind.TheVariants.{Quoted, Local, Global, Comdat, Label, Word, Number, TextConstant, Metadata, AttributeGroup, Dots, Equal, Comma, LeftParen, RightParen, LeftBracket, RightBracket, LeftBrace, RightBrace, Less, Greater, Star, Bang, Colon, Bar, Decimal, Hexadecimal, NamedGroup}
+use Rattle.text_forms.specs.declared.Class.{Class}
+use Rattle.text_forms.specs.declared.Class.TheVariants.{Byte, Digit, HexDigit, NameStart, NamePart, WordStart, WordPart, Exponent, Sign, NotQuote}
+use Rattle.text_forms.specs.declared.Part.{Part}
+use Rattle.text_forms.specs.declared.Part.TheVariants.{One, Perhaps, Run}
+use Rattle.text_forms.specs.Form.{kind_code}
+use Rattle.text_forms.specs.Lexical.{kind_of, spells, kind_by, table}
 use Rattle.text_lex.specs.Layout.{is_mark}
 use Rattle.text_lex.specs.Neighbours.{separates}
 use Rattle.text_lex.proofs.Neighbours.{all_whole}
-use Rattle.forms.proofs.Begins.{test, or_true, not_true, not_both}
+use Rattle.text_forms.proofs.Begins.{test, or_true, not_true, not_both}
 
 is_class : ℕ → Class → Bool
 is_class b (Byte c) = eqb c b

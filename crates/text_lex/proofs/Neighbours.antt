@@ -1,13 +1,13 @@
 -- What stands behind a token, and ends it.
 use Rattle.std.proofs.Common.{◌≡◌, ◌≤◌, ◌<◌, ℕ, Bool, true, false, not, ◌&&◌, ◌||◌, cond, eqb, List, [], ◌∷◌, ◌++◌, length, Option, Some, None, refl, sym, ap, ◌∙◌, arith, inl, inr}
 use Rattle.std.proofs.lemmas.Bool.{and_parts, and_from, cases_lt, eqb-true}
-use Rattle.forms.specs.declared.TokenKind.{TokenKind}
-use Rattle.forms.proofs.Begins.{test, or_true, not_both, not_true}
-use Rattle.forms.specs.declared.Class.{Class}
-use Rattle.forms.specs.declared.Class.TheVariants.{Byte, Digit, HexDigit, NameStart, NamePart, WordStart, WordPart, Exponent, Sign, NotQuote}
-use Rattle.forms.specs.declared.Part.{Part}
-use Rattle.forms.specs.declared.Part.TheVariants.{One, Perhaps, Run}
-use Rattle.forms.specs.Lexical.{has, after, may_end, and_then, spells, kind_by, kind_of, table, Longest}
+use Rattle.text_forms.specs.declared.TokenKind.{TokenKind}
+use Rattle.text_forms.proofs.Begins.{test, or_true, not_both, not_true}
+use Rattle.text_forms.specs.declared.Class.{Class}
+use Rattle.text_forms.specs.declared.Class.TheVariants.{Byte, Digit, HexDigit, NameStart, NamePart, WordStart, WordPart, Exponent, Sign, NotQuote}
+use Rattle.text_forms.specs.declared.Part.{Part}
+use Rattle.text_forms.specs.declared.Part.TheVariants.{One, Perhaps, Run}
+use Rattle.text_forms.specs.Lexical.{has, after, may_end, and_then, spells, kind_by, kind_of, table, Longest}
 use Rattle.text_lex.specs.Neighbours.{behind, nothing, ends, is_quoted, avoids, avoids_later, avoided, separates, is_quote, is_plain, Side, outside, inside, closing, in_pairs, all_in_pairs}
 use Rattle.text_lex.proofs.Fronts.{cases}
 use Rattle.std.specs.Prelude.{codes}

@@ -7,16 +7,16 @@ use Rattle.std.specs.Option.{option_map}
 use Rattle.std.proofs.lemmas.Bool.{cases_lt}
 use Rattle.std.proofs.lemmas.List.{length-append}
 use Rattle.std.proofs.lemmas.Option.{slice_get-map, slice_get_past, slice_get_read}
-use Rattle.forms.specs.declared.Token.{Token}
-use Rattle.forms.specs.declared.TokenKind.{TokenKind}
-use Rattle.forms.specs.Form.{kind_code}
-use Rattle.forms.specs.LeftOut.{in_front, parts_of, stands_at, is_left_out_at, NoneLeftOut}
-use Rattle.forms.specs.Lexical.{Places, here_placed, space_placed, comment_placed, token_placed}
-use Rattle.forms.specs.View.{lexeme_in, lexemes}
+use Rattle.text_forms.specs.declared.Token.{Token}
+use Rattle.text_forms.specs.declared.TokenKind.{TokenKind}
+use Rattle.text_forms.specs.Form.{kind_code}
+use Rattle.text_forms.specs.LeftOut.{in_front, parts_of, stands_at, is_left_out_at, NoneLeftOut}
+use Rattle.text_forms.specs.Lexical.{Places, here_placed, space_placed, comment_placed, token_placed}
+use Rattle.text_forms.specs.View.{lexeme_in, lexemes}
 use Rattle.text_lex.specs.Scan.{IsWithin}
-use Rattle.forms.proofs.Begins.{test}
-use Rattle.forms.proofs.Tables.{tested}
-use Rattle.forms.proofs.Tokens.{same_kind, kind_is}
+use Rattle.text_forms.proofs.Begins.{test}
+use Rattle.text_forms.proofs.Tables.{tested}
+use Rattle.text_forms.proofs.Tokens.{same_kind, kind_is}
 
 -- ---- layouts
 

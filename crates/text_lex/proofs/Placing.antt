@@ -1,9 +1,9 @@
 -- Reading on, with places.
 use Rattle.std.proofs.Common.{◌≡◌, ◌≤◌, ◌<◌, ◌+◌, ℕ, List, [], ◌∷◌, ◌++◌, length, take, drop, arith}
 use Rattle.std.proofs.lemmas.List.{length-drop, drop-drop, append-nil}
-use Rattle.forms.specs.declared.TokenKind.{TokenKind}
-use Rattle.forms.specs.declared.Token.{Token}
-use Rattle.forms.specs.Lexical.{LexesTo, here, space, comment, Places, here_placed, space_placed, comment_placed, token_placed}
+use Rattle.text_forms.specs.declared.TokenKind.{TokenKind}
+use Rattle.text_forms.specs.declared.Token.{Token}
+use Rattle.text_forms.specs.Lexical.{LexesTo, here, space, comment, Places, here_placed, space_placed, comment_placed, token_placed}
 use Rattle.text_lex.specs.Scan.{blank, At}
 use Rattle.text_lex.proofs.Reading.{blank_reads}
 

@@ -2,18 +2,18 @@
 use Rattle.std.proofs.Common.{◌≡◌, ◌<◌, ℕ, Bool, true, false, not, ◌||◌, eqb, List, [], ◌∷◌, ◌++◌, Some, refl, arith, inl, inr}
 use Rattle.std.proofs.lemmas.Bool.{and_parts, and_from, eqb-true}
 use Rattle.std.proofs.lemmas.Bool.Decides.{nat_tests}
-use Rattle.forms.specs.declared.TokenKind.TheVariants.{Quoted, Local, Global, Label, Word, Number, TextConstant, Metadata, AttributeGroup}
-use Rattle.forms.specs.declared.Class.{Class}
-use Rattle.forms.specs.declared.Class.TheVariants.{Byte, Digit, NameStart, NamePart, WordPart, NotQuote}
-use Rattle.forms.specs.declared.Part.{Part}
-use Rattle.forms.specs.declared.Part.TheVariants.{One, Run}
-use Rattle.forms.specs.Lexical.{has, is_digit, is_letter, begins_name, spells, kind_of, table}
+use Rattle.text_forms.specs.declared.TokenKind.TheVariants.{Quoted, Local, Global, Label, Word, Number, TextConstant, Metadata, AttributeGroup}
+use Rattle.text_forms.specs.declared.Class.{Class}
+use Rattle.text_forms.specs.declared.Class.TheVariants.{Byte, Digit, NameStart, NamePart, WordPart, NotQuote}
+use Rattle.text_forms.specs.declared.Part.{Part}
+use Rattle.text_forms.specs.declared.Part.TheVariants.{One, Run}
+use Rattle.text_forms.specs.Lexical.{has, is_digit, is_letter, begins_name, spells, kind_of, table}
 use Rattle.text_lex.specs.Names.{all_digits, is_digits, is_plain_name, is_quotable}
 use Rattle.text_lex.specs.Neighbours.{all_of}
 use Rattle.text_lex.proofs.Decimals.{digits_all}
 use Rattle.text_lex.proofs.Ranges.{below_all}
 use Rattle.text_lex.specs.Scan.{all_below}
-use Rattle.forms.proofs.Begins.{test, or_true, not_true, or_left, or_right}
+use Rattle.text_forms.proofs.Begins.{test, or_true, not_true, or_left, or_right}
 
 -- ---- what parts spell
 

@@ -2,10 +2,10 @@
 use Rattle.std.proofs.Common.{◌≡◌, ◌<◌, ◌+◌, ℕ, zero, suc, Bool, true, false, not, List, [], ◌∷◌, ◌++◌, get_or, Fits, w8, length, take, drop, None, refl, sym, ap, ◌∙◌, arith, inl, inr}
 use Rattle.std.proofs.lemmas.Bool.{and_parts, cases_lt}
 use Rattle.std.proofs.lemmas.List.{take-append-drop, drop-drop}
-use Rattle.forms.specs.declared.TokenKind.{TokenKind}
-use Rattle.forms.proofs.Begins.{or_false, not_true}
-use Rattle.forms.specs.declared.Part.{Part}
-use Rattle.forms.specs.Lexical.{after, may_end, table}
+use Rattle.text_forms.specs.declared.TokenKind.{TokenKind}
+use Rattle.text_forms.proofs.Begins.{or_false, not_true}
+use Rattle.text_forms.specs.declared.Part.{Part}
+use Rattle.text_forms.specs.Lexical.{after, may_end, table}
 use Rattle.text_lex.specs.Scan.{front, join, best, range, starts, none_starts, is_covered, all_below}
 use Rattle.text_lex.proofs.Fronts.{cases}
 

@@ -3,12 +3,12 @@ use Rattle.std.proofs.Common.{◌≡◌, ◌<◌, ◌+◌, ◌-◌, ℕ, false, 
 use Rattle.std.proofs.lemmas.Bool.{eqb-true}
 use Rattle.std.proofs.lemmas.List.{take_all, length-drop, drop-drop, append-nil, map_push}
 use Rattle.std.specs.Prelude.{map}
-use Rattle.forms.specs.declared.Token.{Token}
-use Rattle.forms.specs.declared.TokenKind.{TokenKind}
-use Rattle.forms.specs.Form.{Lexeme}
-use Rattle.forms.proofs.Begins.{test}
-use Rattle.forms.specs.Lexical.{is_space, next_line, LexesTo, here, space, comment, token, is_blank, NoToken, StopsAt}
-use Rattle.forms.specs.View.{lexeme_in}
+use Rattle.text_forms.specs.declared.Token.{Token}
+use Rattle.text_forms.specs.declared.TokenKind.{TokenKind}
+use Rattle.text_forms.specs.Form.{Lexeme}
+use Rattle.text_forms.proofs.Begins.{test}
+use Rattle.text_forms.specs.Lexical.{is_space, next_line, LexesTo, here, space, comment, token, is_blank, NoToken, StopsAt}
+use Rattle.text_forms.specs.View.{lexeme_in}
 use Rattle.text_lex.specs.Scan.{line, blank, At}
 
 pub reads_on : {a b c : List ℕ} {ts us : List Lexeme} → LexesTo a ts b → LexesTo b us c → LexesTo a (ts ++ us) c

@@ -1,13 +1,13 @@
 -- The parts are taken from left to right as they stand.
 use Rattle.std.proofs.Common.{◌≡◌, ℕ, Bool, true, false, not, ◌&&◌, eqb, List, [], ◌∷◌, ◌++◌, Some, refl, sym, subst, inl, inr}
 use Rattle.std.proofs.lemmas.Bool.{and_parts, and_from, eqb-true}
-use Rattle.forms.specs.declared.TokenKind.{TokenKind}
-use Rattle.forms.proofs.Begins.{test, or_true, not_both, not_true}
-use Rattle.forms.specs.declared.Class.{Class}
-use Rattle.forms.specs.declared.Class.TheVariants.{Byte, Digit, HexDigit, NameStart, NamePart, WordStart, WordPart, Exponent, Sign, NotQuote}
-use Rattle.forms.specs.declared.Part.{Part}
-use Rattle.forms.specs.declared.Part.TheVariants.{One, Perhaps, Run}
-use Rattle.forms.specs.Lexical.{has, after, may_end, spells, kind_by, kind_of, table}
+use Rattle.text_forms.specs.declared.TokenKind.{TokenKind}
+use Rattle.text_forms.proofs.Begins.{test, or_true, not_both, not_true}
+use Rattle.text_forms.specs.declared.Class.{Class}
+use Rattle.text_forms.specs.declared.Class.TheVariants.{Byte, Digit, HexDigit, NameStart, NamePart, WordStart, WordPart, Exponent, Sign, NotQuote}
+use Rattle.text_forms.specs.declared.Part.{Part}
+use Rattle.text_forms.specs.declared.Part.TheVariants.{One, Perhaps, Run}
+use Rattle.text_forms.specs.Lexical.{has, after, may_end, spells, kind_by, kind_of, table}
 use Rattle.text_lex.specs.Neighbours.{all_of}
 use Rattle.text_lex.specs.Spelling.{Spelled, few, is_few, apart, none_begins, decides, all_decide, IsKind}
 use Rattle.text_lex.proofs.Fronts.{cases}

@@ -2,10 +2,10 @@
 use Rattle.std.proofs.Common.{◌≡◌, ℕ, true, false, ◌||◌, eqb, List, [], ◌∷◌, ◌++◌, length, drop, None, refl, sym, ap, ◌∙◌, subst, arith, inl, inr}
 use Rattle.std.proofs.lemmas.List.{length-drop}
 use Rattle.std.proofs.lemmas.Bool.{eqb-true}
-use Rattle.forms.specs.declared.TokenKind.{TokenKind}
-use Rattle.forms.specs.Form.{Lexeme}
-use Rattle.forms.proofs.Begins.{or_true, or_left, or_right, not_both}
-use Rattle.forms.specs.Lexical.{is_space, kind_of, table, Longest, LexesTo, here, space, comment, token, Lexes, NoToken, StopsAt, is_blank}
+use Rattle.text_forms.specs.declared.TokenKind.{TokenKind}
+use Rattle.text_forms.specs.Form.{Lexeme}
+use Rattle.text_forms.proofs.Begins.{or_true, or_left, or_right, not_both}
+use Rattle.text_forms.specs.Lexical.{is_space, kind_of, table, Longest, LexesTo, here, space, comment, token, Lexes, NoToken, StopsAt, is_blank}
 
 -- no token begins with white space or a semicolon
 no_space : (c : ℕ) (w : List ℕ) → c ≡ 32 → kind_of (c ∷ w) ≡ None

@@ -1,10 +1,10 @@
 -- Which faults a text has.
 use Rattle.std.specs.Prelude.{◌≡◌, ◌≤◌, ◌<◌, ℕ, List, [], length, slice_get, Some}
-use Rattle.forms.specs.declared.Token.{Token}
-use Rattle.forms.specs.Form.{Lexeme}
-use Rattle.forms.specs.LeftOut.{FirstLeftOut, NoneLeftOut}
-use Rattle.forms.specs.Lexical.{Lexes, Places, StopsAt}
-use Rattle.forms.specs.View.{lexeme_in, lexemes}
+use Rattle.text_forms.specs.declared.Token.{Token}
+use Rattle.text_forms.specs.Form.{Lexeme}
+use Rattle.text_forms.specs.LeftOut.{FirstLeftOut, NoneLeftOut}
+use Rattle.text_forms.specs.Lexical.{Lexes, Places, StopsAt}
+use Rattle.text_forms.specs.View.{lexeme_in, lexemes}
 use Rattle.text_lex.specs.declared.TheConstants.{TEXT_LIMIT}
 use Rattle.text_lex.specs.declared.fault.TextFault.{TextFault}
 use Rattle.text_lex.specs.declared.fault.TextFault.TheVariants.{BadToken, LeftOut, TextLimit, NoReading, CountLimit, Memory}

@@ -1,10 +1,10 @@
 -- How tokens are laid out that were kept as their texts.
 use Rattle.std.specs.Prelude.{◌≡◌, ℕ, Bool, ◌&&◌, ◌||◌, List, [], ◌∷◌, ◌++◌, codes, Some, if◌then◌else◌}
-use Rattle.forms.specs.declared.TokenKind.{TokenKind}
-use Rattle.forms.specs.declared.TokenKind.TheVariants.{Word}
-use Rattle.forms.specs.Form.{Lexeme, same_text, is_one_of}
-use Rattle.forms.specs.Lexical.{kind_of, and_then}
-pub use Rattle.forms.specs.Lexical.{AreLexed}
+use Rattle.text_forms.specs.declared.TokenKind.{TokenKind}
+use Rattle.text_forms.specs.declared.TokenKind.TheVariants.{Word}
+use Rattle.text_forms.specs.Form.{Lexeme, same_text, is_one_of}
+use Rattle.text_forms.specs.Lexical.{kind_of, and_then}
+pub use Rattle.text_forms.specs.Lexical.{AreLexed}
 use Rattle.text_lex.specs.Layout.{Piece, gap, lexeme, begins_quoted}
 
 -- the token with this text: of the text's kind, or a word where the text is no token

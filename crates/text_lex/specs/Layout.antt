@@ -1,9 +1,9 @@
 -- A printed text in pieces, and where two pieces may stand with nothing between them.
 use Rattle.std.specs.Prelude.{◌≡◌, ℕ, Bool, true, false, ◌&&◌, ◌||◌, ◌==◌, List, [], ◌∷◌, ◌++◌, Some, if◌then◌else◌}
-use Rattle.forms.specs.declared.TokenKind.{TokenKind}
-use Rattle.forms.specs.declared.TokenKind.TheVariants.{Quoted, Local, Global, Comdat, Label, Word, Number, TextConstant, Metadata, AttributeGroup, Dots, Equal, Comma, LeftParen, RightParen, LeftBracket, RightBracket, LeftBrace, RightBrace, Less, Greater, Star, Bang, Colon, Bar, Decimal, Hexadecimal, NamedGroup}
-use Rattle.forms.specs.Form.{Lexeme, kind_code}
-use Rattle.forms.specs.Lexical.{kind_of, is_space}
+use Rattle.text_forms.specs.declared.TokenKind.{TokenKind}
+use Rattle.text_forms.specs.declared.TokenKind.TheVariants.{Quoted, Local, Global, Comdat, Label, Word, Number, TextConstant, Metadata, AttributeGroup, Dots, Equal, Comma, LeftParen, RightParen, LeftBracket, RightBracket, LeftBrace, RightBrace, Less, Greater, Star, Bang, Colon, Bar, Decimal, Hexadecimal, NamedGroup}
+use Rattle.text_forms.specs.Form.{Lexeme, kind_code}
+use Rattle.text_forms.specs.Lexical.{kind_of, is_space}
 use Rattle.text_lex.specs.Neighbours.{all_of}
 
 -- a piece of a printed text: white space, or a token

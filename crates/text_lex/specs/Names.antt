@@ -1,7 +1,7 @@
 -- The texts of names and of numbers.
 use Rattle.std.specs.Prelude.{ℕ, Bool, false, ◌&&◌, List, [], ◌∷◌}
-use Rattle.forms.specs.declared.Class.TheVariants.{NamePart, NotQuote}
-use Rattle.forms.specs.Lexical.{has, is_digit, begins_name}
+use Rattle.text_forms.specs.declared.Class.TheVariants.{NamePart, NotQuote}
+use Rattle.text_forms.specs.Lexical.{has, is_digit, begins_name}
 use Rattle.text_lex.specs.Neighbours.{all_of}
 
 -- digits and nothing else

@@ -1,11 +1,11 @@
 -- Finding the token at the front of a text.
 use Rattle.std.specs.Prelude.{◌≡◌, ◌≤◌, ◌<◌, ◌+◌, ◌-◌, ℕ, zero, suc, Bool, true, false, not, ◌&&◌, ◌||◌, ◌==◌, nat_lt, List, [], ◌∷◌, length, take, drop, Option, Some, None, if◌then◌else◌}
-use Rattle.forms.specs.declared.TokenKind.{TokenKind}
-use Rattle.forms.specs.declared.Part.{Part}
-use Rattle.forms.specs.declared.Token.{Token}
+use Rattle.text_forms.specs.declared.TokenKind.{TokenKind}
+use Rattle.text_forms.specs.declared.Part.{Part}
+use Rattle.text_forms.specs.declared.Token.{Token}
 use Rattle.text_lex.specs.declared.names.NameRun.{NameRun}
-use Rattle.forms.specs.declared.Class.TheVariants.{NamePart}
-use Rattle.forms.specs.Lexical.{has, after, may_end, and_then, table, is_space, is_letter, is_digit, Longest}
+use Rattle.text_forms.specs.declared.Class.TheVariants.{NamePart}
+use Rattle.text_forms.specs.Lexical.{has, after, may_end, and_then, table, is_space, is_letter, is_digit, Longest}
 
 -- the best so far, or the length of a longer front that the parts spell
 abbrev pub far : List Part → List ℕ → ℕ → Option ℕ → Option ℕ

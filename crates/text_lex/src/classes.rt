@@ -1,9 +1,9 @@
 //! The sets of bytes of which tokens consist.
 
 ghost use Rattle.std.specs.Prelude.{◌≡◌};
-ghost use Rattle.forms.specs.Lexical.{has, is_digit, is_letter, is_hex, begins_name, is_space};
+ghost use Rattle.text_forms.specs.Lexical.{has, is_digit, is_letter, is_hex, begins_name, is_space};
 
-use forms::Class;
+use text_forms::Class;
 
 pub(crate) fn is_digit(byte: u8) -> bool
     ensures { result ≡ is_digit byte }

@@ -1,11 +1,11 @@
 //! The longest front of a text that parts of tokens spell.
 
 ghost use Rattle.std.specs.Prelude.{◌≡◌, MatchOption, map};
-ghost use Rattle.forms.specs.Lexical.{after, may_end};
+ghost use Rattle.text_forms.specs.Lexical.{after, may_end};
 ghost use Rattle.text_lex.specs.Scan.{front, join, best};
 
 use crate::classes::has;
-use forms::{Part, TokenKind};
+use text_forms::{Part, TokenKind};
 
 /// The parts that may follow behind this byte, where it may stand here.
 fn after(parts: &[Part], byte: u8) -> Option<&[Part]>

@@ -2,16 +2,16 @@
 
 ghost use Rattle.std.specs.Prelude.{◌≡◌, ◌==◌, ◌<◌, ◌≤◌, [], All, MatchOption, IfOk, IfSome, OnOk, IfErr, length};
 ghost use Rattle.std.specs.List.{list_all, list_any, slice_split};
-ghost use Rattle.forms.specs.Form.{is_one_of};
-ghost use Rattle.forms.specs.Lexical.{is_digit, Lexes, Places};
-ghost use Rattle.forms.specs.LeftOut.{left_out_words, widths, is_other_width, is_left_out, is_foreign_part, is_foreign_layout, stands_at, is_layout_at, is_left_out_at, FirstLeftOut, NoneLeftOut};
-ghost use Rattle.forms.specs.View.{lexeme_in, lexemes};
+ghost use Rattle.text_forms.specs.Form.{is_one_of};
+ghost use Rattle.text_forms.specs.Lexical.{is_digit, Lexes, Places};
+ghost use Rattle.text_forms.specs.LeftOut.{left_out_words, widths, is_other_width, is_left_out, is_foreign_part, is_foreign_layout, stands_at, is_layout_at, is_left_out_at, FirstLeftOut, NoneLeftOut};
+ghost use Rattle.text_forms.specs.View.{lexeme_in, lexemes};
 ghost use Rattle.text_lex.specs.Fault.{IsFaultOf};
 ghost use Rattle.text_lex.specs.Scan.{IsWithin};
 
 use crate::TEXT_LIMIT;
 use crate::fault::TextFault;
-use forms::{Token, TokenKind, is_one_of, unescaped, without_last};
+use text_forms::{Token, TokenKind, is_one_of, unescaped, without_last};
 use lists::Text;
 use std::alloc::{AllocError, Global};
 
@@ -84,14 +84,14 @@ static WORDS: [&[u8]; 62] = [
 /// The widths of integers that there are.
 static WIDTHS: [&[u8]; 5] = [b"1", b"8", b"16", b"32", b"64"];
 
-#[tactic(auto, unfolding(forms::specs::LeftOut::left_out_words))]
+#[tactic(auto, unfolding(text_forms::specs::LeftOut::left_out_words))]
 fn is_left_out_word(word: &[u8]) -> bool
     ensures { result ≡ is_one_of left_out_words word.now }
 {
     is_one_of(&WORDS, word)
 }
 
-#[tactic(auto, unfolding(forms::specs::LeftOut::widths))]
+#[tactic(auto, unfolding(text_forms::specs::LeftOut::widths))]
 fn is_width(digits: &[u8]) -> bool
     ensures { result ≡ is_one_of widths digits.now }
 {

@@ -2,9 +2,9 @@
 #![tactic(auto)]
 
 ghost use Rattle.std.specs.Prelude.{[], ◌≡◌, ◌≤◌, ◌<◌, length, IfOk, OnOk, IfErr};
-ghost use Rattle.forms.specs.Lexical.{Lexes, Places};
-ghost use Rattle.forms.specs.LeftOut.{NoneLeftOut};
-ghost use Rattle.forms.specs.View.{lexemes};
+ghost use Rattle.text_forms.specs.Lexical.{Lexes, Places};
+ghost use Rattle.text_forms.specs.LeftOut.{NoneLeftOut};
+ghost use Rattle.text_forms.specs.View.{lexemes};
 ghost use Rattle.text_lex.specs.Fault.{IsFaultOf};
 
 use std::alloc::Global;
@@ -22,7 +22,7 @@ pub use crate::fault::{Count, TextFault};
 use crate::left_out::refuse_left_out;
 use crate::names::{NameRun, run_at};
 use crate::table::token_at;
-pub use forms::{Token, TokenKind};
+pub use text_forms::{Token, TokenKind};
 
 /// The most bytes that a text may have.
 pub const TEXT_LIMIT: usize = 16_777_216;

@@ -4,7 +4,7 @@ ghost use Rattle.std.specs.Prelude.{◌<◌, length};
 ghost use Rattle.text_lex.specs.Scan.{TellsColon};
 
 use crate::classes::has;
-use forms::Class;
+use text_forms::Class;
 
 /// What is known of the run of bytes of a name in which a place stands: where it ends, its next byte with it,
 /// and whether that byte is a colon.

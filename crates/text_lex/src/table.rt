@@ -1,12 +1,12 @@
 //! The table of tokens, and the token at the front of a text.
 
 ghost use Rattle.std.specs.Prelude.{◌≡◌, ◌≢◌, ◌<◌, ◌≤◌, ◌+◌, MatchOption};
-ghost use Rattle.forms.specs.Lexical.{is_letter, is_digit, table, NoToken};
+ghost use Rattle.text_forms.specs.Lexical.{is_letter, is_digit, table, NoToken};
 ghost use Rattle.text_lex.specs.Scan.{range, mark_range, rows_for, colon_behind, best, At};
 
 use crate::classes::{is_digit, is_letter};
 use crate::front::best;
-use forms::{Class, Part, TokenKind};
+use text_forms::{Class, Part, TokenKind};
 
 /// Each kind of token, and the parts of which it consists.
 static TABLE: [(TokenKind, &[Part]); 37] = [

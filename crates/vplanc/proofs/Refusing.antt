@@ -5,9 +5,9 @@ use Rattle.std.specs.declared.option.Option.TheVariants.{None, Some}
 use Rattle.std.specs.declared.result.Result.{Result}
 use Rattle.std.specs.declared.result.Result.TheVariants.{Ok, Err}
 use Rattle.std.specs.Result.{IsErrAnd}
-use Rattle.forms.specs.Form.{Lexeme}
-use Rattle.forms.specs.LeftOut.{FirstLeftOut}
-use Rattle.forms.specs.View.{lexemes}
+use Rattle.text_forms.specs.Form.{Lexeme}
+use Rattle.text_forms.specs.LeftOut.{FirstLeftOut}
+use Rattle.text_forms.specs.View.{lexemes}
 use Rattle.vplan_io.specs.Causes.{Rose, longest, IsWhole}
 use Rattle.text_lex.specs.declared.fault.TextFault.{TextFault}
 use Rattle.text_lex.specs.declared.fault.TextFault.TheVariants.{BadToken, LeftOut, TextLimit, NoReading, CountLimit, Memory as TextMemory}

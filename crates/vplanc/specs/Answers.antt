@@ -16,7 +16,7 @@ use Rattle.ir_types.specs.Reads.{Reads}
 use Rattle.ir_types.specs.Tree.{ModuleTree}
 use Rattle.ir_meaning.specs.Allows.{Allows, factor_of}
 use Rattle.ir_meaning.specs.First.{IsFirstModule}
-use Rattle.type_printer.specs.Texts.{name_text}
+use Rattle.ir_printer_types.specs.Texts.{name_text}
 use Rattle.ir_rules.specs.declared.fault.Rule.{Rule}
 use Rattle.ir_rules.specs.declared.fault.Rule.TheVariants as rules
 use Rattle.ir_rules.specs.declared.fault.Subject.{Subject}

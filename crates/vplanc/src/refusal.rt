@@ -9,7 +9,7 @@ use ir_rules::{Breach, CheckFault, Subject};
 use ir_types::Name;
 use lists::Text;
 use std::alloc::{AllocError, Global};
-use type_printer::name::put_name;
+use ir_printer_types::name::put_name;
 
 // The function's name, or a dash.
 fn put_function(out: &mut Vec<u8>, function: &Option<Name>) -> Result<(), AllocError>

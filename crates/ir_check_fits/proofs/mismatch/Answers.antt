@@ -1,6 +1,6 @@
 use Rattle.std.proofs.Common.{◌≡◌, List, map, Option, Some, None, if◌then◌else◌, sym, ap, ◌∙◌, subst}
 use Rattle.std.specs.Prelude.{IfOk}
-use Rattle.forms.specs.Nested.{concat}
+use Rattle.text_forms.specs.Nested.{concat}
 use Rattle.ir_types.specs.declared.module.Module.{Module}
 use Rattle.ir_types.specs.declared.module.Symbol.{Symbol}
 use Rattle.ir_types.specs.declared.module.Function.{Function}

@@ -1,5 +1,5 @@
 use Rattle.std.proofs.Common.{◌≡◌, ◌⊎◌, length, Some, None}
-use Rattle.forms.specs.View.{lexemes}
+use Rattle.text_forms.specs.View.{lexemes}
 use Rattle.ir_reader.specs.Reading.{module_read, IsBuilt}
 use Rattle.ir_reader.specs.Refusal.{StartsAt}
 use Rattle.ir_reader.proofs.Exact.{within_limits, built_denotes, passes_limit, no_reading}

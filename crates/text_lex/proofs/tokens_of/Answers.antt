@@ -1,6 +1,6 @@
 use Rattle.std.proofs.Common.{arith}
 use Rattle.std.proofs.lemmas.List.{length-drop}
-use Rattle.forms.specs.Lexical.{here, here_placed}
+use Rattle.text_forms.specs.Lexical.{here, here_placed}
 use Rattle.text_lex.proofs.Placing.{skip_placed, token_on_placed}
 use Rattle.text_lex.proofs.Reading.{skip_on, token_on, rest_is, stops_at}
 use Rattle.text_lex.proofs.Colons.{tells_on}

@@ -1,6 +1,6 @@
 use Rattle.std.proofs.Common.{◌≤◌, ◌-◌, length, drop}
-use Rattle.forms.specs.Lexical.{LexesTo, Places}
-use Rattle.forms.specs.View.{lexemes}
+use Rattle.text_forms.specs.Lexical.{LexesTo, Places}
+use Rattle.text_forms.specs.View.{lexemes}
 use Rattle.text_lex.specs.Scan.{TellsColon}
 use Rattle.text_lex.proofs.tokens_of.Given as goal
 

@@ -1,6 +1,6 @@
 use Rattle.std.proofs.Common.{◌≡◌, length, map}
 use Rattle.std.specs.List.{AllByRecursion}
-use Rattle.forms.specs.Nested.{concat}
+use Rattle.text_forms.specs.Nested.{concat}
 use Rattle.ir_types.specs.Tree.{FunctionTree}
 use Rattle.ir_types.specs.Denotes.{tables_of, function_in, tree_of}
 use Rattle.ir_shape.specs.Placed.{IsFunctionPlaced}

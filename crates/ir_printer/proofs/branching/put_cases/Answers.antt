@@ -1,7 +1,7 @@
 use Rattle.std.proofs.Common.{◌∷◌, [], arith}
 use Rattle.std.proofs.lemmas.List.{length-map}
 use Rattle.std.proofs.lemmas.Slice.Zip.{length-zip}
-use Rattle.type_printer.specs.Pieces.{each_behind}
+use Rattle.ir_printer_types.specs.Pieces.{each_behind}
 use Rattle.ir_types.specs.Denotes.{name_in}
 use Rattle.ir_shape.specs.Shape.{IsName}
 use Rattle.ir_printer.specs.Print.{before_case, case_pieces}

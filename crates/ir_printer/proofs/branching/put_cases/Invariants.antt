@@ -2,7 +2,7 @@ use Rattle.std.proofs.Common.{◌≡◌, ◌++◌, ◌∷◌, [], take}
 use Rattle.std.specs.Prelude.{map}
 use Rattle.text_lex.specs.Layout.{text_of}
 use Rattle.ir_types.specs.Denotes.{name_in}
-use Rattle.type_printer.specs.Pieces.{each_behind}
+use Rattle.ir_printer_types.specs.Pieces.{each_behind}
 use Rattle.ir_printer.specs.Print.{before_case, cases_of}
 use Rattle.ir_printer.proofs.branching.put_cases.Given as goal
 

@@ -2,7 +2,7 @@ use Rattle.std.proofs.Common.{arith}
 use Rattle.std.specs.Prelude.{map}
 use Rattle.std.proofs.lemmas.List.{length-map}
 use Rattle.std.proofs.lemmas.Slice.Zip.{length-zip}
-use Rattle.type_printer.specs.Pieces.{with_commas}
+use Rattle.ir_printer_types.specs.Pieces.{with_commas}
 use Rattle.ir_types.specs.declared.call.Actual.{Actual}
 use Rattle.ir_types.specs.Denotes.{tables_of, operand_in}
 use Rattle.ir_shape.specs.Shape.{IsTyped}

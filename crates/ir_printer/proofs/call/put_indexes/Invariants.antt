@@ -3,7 +3,7 @@ use Rattle.std.specs.Prelude.{map}
 use Rattle.text_lex.specs.Layout.{text_of}
 use Rattle.ir_types.specs.declared.inst.Ty.TheVariants.{Int}
 use Rattle.ir_types.specs.Denotes.{tables_of, operand_in}
-use Rattle.type_printer.specs.Pieces.{comma, blank, each_behind}
+use Rattle.ir_printer_types.specs.Pieces.{comma, blank, each_behind}
 use Rattle.ir_printer.specs.Print.{each_typed}
 use Rattle.ir_printer.proofs.call.put_indexes.Given as goal
 

@@ -1,6 +1,6 @@
 use Rattle.std.proofs.Common.{arith}
 use Rattle.ir_types.specs.declared.inst.Ty.TheVariants.{Int}
-use Rattle.type_printer.specs.Pieces.{type_pieces}
+use Rattle.ir_printer_types.specs.Pieces.{type_pieces}
 use Rattle.ir_printer.proofs.Places.{at_index, at_map, next_part}
 use Rattle.ir_printer.proofs.call.put_types.Goals as goal
 

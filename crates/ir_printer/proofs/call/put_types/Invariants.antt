@@ -1,7 +1,7 @@
 use Rattle.std.proofs.Common.{◌≡◌, ◌++◌, take}
 use Rattle.std.specs.Prelude.{map}
 use Rattle.text_lex.specs.Layout.{text_of}
-use Rattle.type_printer.specs.Pieces.{with_commas, type_pieces}
+use Rattle.ir_printer_types.specs.Pieces.{with_commas, type_pieces}
 use Rattle.ir_printer.proofs.call.put_types.Given as goal
 
 abbrev pub invariant-loop-place : goal.invariant-loop-place

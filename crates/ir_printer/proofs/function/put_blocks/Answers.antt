@@ -2,9 +2,9 @@ use Rattle.std.proofs.Common.{arith, ◌∷◌, []}
 use Rattle.std.proofs.lemmas.Simd.{map-map}
 use Rattle.ir_types.specs.Denotes.{tables_of, block_in}
 use Rattle.ir_shape.specs.Shape.{IsBlock}
-use Rattle.type_printer.specs.Pieces.{line_feed}
+use Rattle.ir_printer_types.specs.Pieces.{line_feed}
 use Rattle.ir_printer.specs.Print.{block_pieces}
-use Rattle.type_printer.proofs.Appended.{behind_first, known_from, printed_next, printed_separated}
+use Rattle.ir_printer_types.proofs.Appended.{behind_first, known_from, printed_next, printed_separated}
 use Rattle.ir_printer.proofs.function.put_blocks.Goals as goal
 
 pub loop-block-preserved : goal.loop-block-preserved

@@ -2,9 +2,9 @@ use Rattle.std.proofs.Common.{arith, ◌∷◌, []}
 use Rattle.std.proofs.lemmas.Simd.{map-map}
 use Rattle.ir_types.specs.Denotes.{tables_of, function_in}
 use Rattle.ir_shape.specs.Shape.{IsFunction}
-use Rattle.type_printer.specs.Pieces.{line_feed}
+use Rattle.ir_printer_types.specs.Pieces.{line_feed}
 use Rattle.ir_printer.specs.Print.{function_pieces}
-use Rattle.type_printer.proofs.Appended.{behind_first, known_from, printed_next, printed_separated}
+use Rattle.ir_printer_types.proofs.Appended.{behind_first, known_from, printed_next, printed_separated}
 use Rattle.ir_printer.proofs.Appended.{functions_text}
 use Rattle.ir_printer.proofs.function.put_functions.Goals as goal
 

@@ -4,7 +4,7 @@ use Rattle.std.specs.List.{AllByRecursion}
 use Rattle.text_lex.specs.Layout.{text_of}
 use Rattle.ir_types.specs.Denotes.{tables_of, function_in}
 use Rattle.ir_shape.specs.Shape.{IsFunction}
-use Rattle.type_printer.specs.Pieces.{line_feed, each_behind}
+use Rattle.ir_printer_types.specs.Pieces.{line_feed, each_behind}
 use Rattle.ir_printer.specs.Print.{function_pieces}
 use Rattle.ir_printer.proofs.function.put_functions.Given as goal
 

@@ -2,9 +2,9 @@ use Rattle.std.proofs.Common.{arith, ◌∷◌, []}
 use Rattle.std.proofs.lemmas.Simd.{map-map}
 use Rattle.ir_types.specs.Denotes.{tables_of, inst_in}
 use Rattle.ir_shape.specs.Shape.{IsInst}
-use Rattle.type_printer.specs.Pieces.{indent}
+use Rattle.ir_printer_types.specs.Pieces.{indent}
 use Rattle.ir_printer.specs.Print.{inst_pieces}
-use Rattle.type_printer.proofs.Appended.{known_from, printed_next, printed_all}
+use Rattle.ir_printer_types.proofs.Appended.{known_from, printed_next, printed_all}
 use Rattle.ir_printer.proofs.function.put_insts.Goals as goal
 
 pub put_inst-requires-clause-known : goal.put_inst-requires-clause-known

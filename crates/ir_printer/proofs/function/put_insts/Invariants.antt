@@ -4,7 +4,7 @@ use Rattle.std.specs.List.{AllByRecursion}
 use Rattle.text_lex.specs.Layout.{text_of}
 use Rattle.ir_types.specs.Denotes.{tables_of, inst_in}
 use Rattle.ir_shape.specs.Shape.{IsInst}
-use Rattle.type_printer.specs.Pieces.{indent, each_behind}
+use Rattle.ir_printer_types.specs.Pieces.{indent, each_behind}
 use Rattle.ir_printer.specs.Print.{inst_pieces}
 use Rattle.ir_printer.proofs.function.put_insts.Given as goal
 

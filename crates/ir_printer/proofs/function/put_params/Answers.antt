@@ -2,9 +2,9 @@ use Rattle.std.proofs.Common.{arith, ◌∷◌, []}
 use Rattle.std.proofs.lemmas.Simd.{map-map}
 use Rattle.ir_types.specs.Denotes.{param_in}
 use Rattle.ir_shape.specs.Shape.{IsParam}
-use Rattle.type_printer.specs.Pieces.{comma, blank}
+use Rattle.ir_printer_types.specs.Pieces.{comma, blank}
 use Rattle.ir_printer.specs.Print.{param_pieces}
-use Rattle.type_printer.proofs.Appended.{behind_first, known_from, printed_next, printed_separated}
+use Rattle.ir_printer_types.proofs.Appended.{behind_first, known_from, printed_next, printed_separated}
 use Rattle.ir_printer.proofs.function.put_params.Goals as goal
 
 pub loop-param-preserved : goal.loop-param-preserved

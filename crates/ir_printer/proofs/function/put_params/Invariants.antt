@@ -4,7 +4,7 @@ use Rattle.std.specs.List.{AllByRecursion}
 use Rattle.text_lex.specs.Layout.{text_of}
 use Rattle.ir_types.specs.Denotes.{param_in}
 use Rattle.ir_shape.specs.Shape.{IsParam}
-use Rattle.type_printer.specs.Pieces.{comma, blank, each_behind}
+use Rattle.ir_printer_types.specs.Pieces.{comma, blank, each_behind}
 use Rattle.ir_printer.specs.Print.{param_pieces}
 use Rattle.ir_printer.proofs.function.put_params.Given as goal
 

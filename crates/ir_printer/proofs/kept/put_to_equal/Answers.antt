@@ -1,6 +1,6 @@
 use Rattle.std.proofs.Common.{◌≡◌, true, false, arith}
 use Rattle.std.specs.Prelude.{codes}
-use Rattle.forms.specs.Form.{same_text}
+use Rattle.text_forms.specs.Form.{same_text}
 use Rattle.ir_printer.proofs.KeptPrinted.{line_next, line_equal}
 use Rattle.ir_printer.proofs.kept.put_to_equal.Goals as goal
 

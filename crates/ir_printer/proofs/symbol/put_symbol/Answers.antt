@@ -4,7 +4,7 @@ use Rattle.std.proofs.lemmas.Grind.{common_steps}
 use Rattle.ir_types.specs.declared.module.Symbol.{Symbol}
 use Rattle.ir_types.specs.Denotes.{tables_of}
 use Rattle.ir_shape.proofs.Names.{within_names}
-use Rattle.type_printer.proofs.TypeNames.{named_by}
+use Rattle.ir_printer_types.proofs.TypeNames.{named_by}
 use Rattle.ir_printer.proofs.symbol.put_symbol.Goals as goal
 
 pub at-requires : goal.at-requires

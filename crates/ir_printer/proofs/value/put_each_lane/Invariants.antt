@@ -1,7 +1,7 @@
 use Rattle.std.proofs.Common.{◌≡◌, ◌++◌, take}
 use Rattle.std.specs.Prelude.{map}
 use Rattle.text_lex.specs.Layout.{text_of}
-use Rattle.type_printer.specs.Pieces.{with_commas}
+use Rattle.ir_printer_types.specs.Pieces.{with_commas}
 use Rattle.ir_printer.specs.Print.{lane_pieces}
 use Rattle.ir_printer.proofs.value.put_each_lane.Given as goal
 

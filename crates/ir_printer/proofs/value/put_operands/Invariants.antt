@@ -2,7 +2,7 @@ use Rattle.std.proofs.Common.{◌≡◌, ◌++◌, take}
 use Rattle.std.specs.Prelude.{map}
 use Rattle.text_lex.specs.Layout.{text_of}
 use Rattle.ir_types.specs.Denotes.{tables_of, operand_in}
-use Rattle.type_printer.specs.Pieces.{with_commas}
+use Rattle.ir_printer_types.specs.Pieces.{with_commas}
 use Rattle.ir_printer.specs.Print.{operand_pieces}
 use Rattle.ir_printer.proofs.value.put_operands.Given as goal
 

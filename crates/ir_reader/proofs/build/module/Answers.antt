@@ -3,7 +3,7 @@ use Rattle.std.specs.Global.{Vec}
 use Rattle.std.proofs.lemmas.Result.{err_from_is_err_and}
 use Rattle.ir_types.specs.declared.module.Function.{Function}
 use Rattle.ir_types.specs.Denotes.{function_in}
-use Rattle.type_reader.specs.Tables.{tables_in, definitions_of}
+use Rattle.ir_reader_types.specs.Tables.{tables_in, definitions_of}
 use Rattle.ir_limits.specs.Limits.{passed_by}
 use Rattle.ir_reader.specs.Gathered.{skimmed_of, long_among}
 use Rattle.ir_reader.specs.Trees.{missing_symbol, tables_in_parts}

@@ -1,9 +1,9 @@
 use Rattle.std.proofs.lemmas.Result.{err_from_is_err_and}
-use Rattle.forms.specs.declared.cursor.Cursor.{Cursor}
-use Rattle.forms.specs.Gives.{left}
+use Rattle.text_forms.specs.declared.cursor.Cursor.{Cursor}
+use Rattle.text_forms.specs.Gives.{left}
 use Rattle.ir_types.specs.declared.module.Function.{Function}
 use Rattle.ir_types.specs.Denotes.{function_in}
-use Rattle.type_reader.specs.Tables.{tables_in, definitions_of}
+use Rattle.ir_reader_types.specs.Tables.{tables_in, definitions_of}
 use Rattle.ir_reader.proofs.Outlines.{defined_read, declared_read, defined_refused, declared_refused, declared_uses}
 use Rattle.ir_reader.proofs.functions.function.Goals as goal
 

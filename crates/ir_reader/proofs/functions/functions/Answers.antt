@@ -4,8 +4,8 @@ use Rattle.std.proofs.lemmas.List.{take_more}
 use Rattle.std.proofs.lemmas.Result.{err_from_is_err_and}
 use Rattle.ir_types.specs.declared.module.Function.{Function}
 use Rattle.ir_types.specs.Denotes.{function_in}
-use Rattle.type_reader.specs.Tables.{tables_in}
-use Rattle.type_reader.proofs.Growth.{grows_trans}
+use Rattle.ir_reader_types.specs.Tables.{tables_in}
+use Rattle.ir_reader_types.proofs.Growth.{grows_trans}
 use Rattle.ir_reader.proofs.Outlines.{none_read, one_read, one_refused}
 use Rattle.ir_reader.proofs.functions.functions.Goals as goal
 

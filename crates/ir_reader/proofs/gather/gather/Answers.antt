@@ -1,8 +1,8 @@
 use Rattle.std.proofs.Common.{length, sym, ◌∙◌, arith}
 use Rattle.std.proofs.lemmas.Result.{err_from_is_err_and}
-use Rattle.forms.specs.Gives.{left}
-use Rattle.forms.proofs.Viewed.{count_viewed}
-use Rattle.item_reader.specs.Parts.{item_of}
+use Rattle.text_forms.specs.Gives.{left}
+use Rattle.text_forms.proofs.Viewed.{count_viewed}
+use Rattle.ir_reader_items.specs.Parts.{item_of}
 use Rattle.ir_reader.proofs.Gathering.{none_yet, one_more, none_left, item_shorter, fault_gives}
 use Rattle.ir_reader.proofs.gather.gather.Goals as goal
 

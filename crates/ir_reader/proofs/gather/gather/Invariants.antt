@@ -1,5 +1,5 @@
 use Rattle.std.proofs.Common.{length}
-use Rattle.forms.specs.Gives.{left}
+use Rattle.text_forms.specs.Gives.{left}
 use Rattle.ir_reader.proofs.Gathering.{SoFar}
 use Rattle.ir_reader.proofs.gather.gather.Given as goal
 

@@ -1,6 +1,6 @@
 use Rattle.std.proofs.Common.{[], ◌∷◌, ◌++◌, length, take, sym, ap, ◌∙◌}
 use Rattle.std.proofs.lemmas.List.{take_more}
-use Rattle.type_reader.proofs.Growth.{extends_length}
+use Rattle.ir_reader_types.proofs.Growth.{extends_length}
 use Rattle.ir_reader.specs.Trees.{stands_for, defined_as}
 use Rattle.ir_reader.specs.Typed.{definition_uses, StandsBefore}
 use Rattle.ir_reader.proofs.Making.{made_more, all_later, all_push}

@@ -1,7 +1,7 @@
 use Rattle.std.proofs.Common.{◌≡◌, take}
 use Rattle.std.specs.Prelude.{map}
-use Rattle.item_reader.specs.declared.part.Definition.{Definition}
-use Rattle.type_reader.specs.TypeTable.{missing_entry}
+use Rattle.ir_reader_items.specs.declared.part.Definition.{Definition}
+use Rattle.ir_reader_types.specs.TypeTable.{missing_entry}
 use Rattle.ir_reader.proofs.named.names_of.Given as goal
 
 abbrev pub invariant-loop-definition : goal.invariant-loop-definition

@@ -1,8 +1,8 @@
 use Rattle.std.proofs.Common.{List, length, sym, ap, ◌∙◌, subst, arith}
-use Rattle.forms.specs.Gives.{left}
+use Rattle.text_forms.specs.Gives.{left}
 use Rattle.ir_types.specs.TypeNodes.{TypeNode}
-use Rattle.type_reader.specs.TypeTable.{LooksUpAll}
-use Rattle.item_reader.specs.Sources.{nodes_read, nodes_or_none}
+use Rattle.ir_reader_types.specs.TypeTable.{LooksUpAll}
+use Rattle.ir_reader_items.specs.Sources.{nodes_read, nodes_or_none}
 use Rattle.ir_reader.proofs.named.type_at.Goals as goal
 
 pub returns-in-Ok-clause-stands : goal.returns-in-Ok-clause-stands

@@ -2,7 +2,7 @@ use Rattle.std.proofs.Common.{◌≡◌, ◌+◌, List, [], ◌∷◌, ◌++◌,
 use Rattle.std.proofs.lemmas.List.{map_push, take_more, length-take-le, length-map}
 use Rattle.ir_types.specs.declared.name.Name.{Name}
 use Rattle.ir_types.specs.declared.module.Symbol.{Symbol}
-use Rattle.item_reader.specs.declared.source.FunctionSource.{FunctionSource}
+use Rattle.ir_reader_items.specs.declared.source.FunctionSource.{FunctionSource}
 use Rattle.ir_reader.specs.Trees.{function_symbols}
 use Rattle.ir_reader.proofs.Symbolic.{function_more}
 use Rattle.ir_reader.proofs.symbols.add_functions.Goals as goal

@@ -1,5 +1,5 @@
 use Rattle.std.proofs.Common.{◌≡◌, ◌++◌, map, take}
-use Rattle.item_reader.specs.declared.source.FunctionSource.{FunctionSource}
+use Rattle.ir_reader_items.specs.declared.source.FunctionSource.{FunctionSource}
 use Rattle.ir_reader.specs.Trees.{function_symbols}
 use Rattle.ir_reader.proofs.symbols.add_functions.Given as goal
 

@@ -1,5 +1,5 @@
 use Rattle.std.proofs.Common.{Some}
-use Rattle.item_reader.specs.declared.part.Variable.{Variable}
+use Rattle.ir_reader_items.specs.declared.part.Variable.{Variable}
 use Rattle.ir_reader.specs.Trees.{symbol_over, variable_symbol}
 use Rattle.ir_reader.specs.Typed.{variable_uses}
 use Rattle.ir_reader.proofs.Making.{made_more}

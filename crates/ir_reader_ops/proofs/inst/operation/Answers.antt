@@ -1,7 +1,7 @@
-use Rattle.forms.specs.Gives.{left}
+use Rattle.text_forms.specs.Gives.{left}
 use Rattle.ir_reader_ops.proofs.Attached.{attached_reads, attached_steady}
-use Rattle.ir_reader_ops.specs.Seen.{definitions}
-use Rattle.forms.specs.Form.{by_word}
+use Rattle.ir_reader_values.specs.Seen.{definitions}
+use Rattle.text_forms.specs.Form.{by_word}
 use Rattle.ir_types.specs.Grammar.{operation, operation_words, operation_behind}
 use Rattle.ir_reader_ops.proofs.inst.operation.Goals as goal
 

@@ -1,5 +1,5 @@
 use Rattle.std.proofs.Common.{◌≡◌, length}
-use Rattle.forms.specs.View.{Extends}
+use Rattle.text_forms.specs.View.{Extends}
 use Rattle.ir_sizes.specs.Known.{AreFirstExtents}
 use Rattle.ir_sizes.proofs.added.extents_behind.Given as goal
 

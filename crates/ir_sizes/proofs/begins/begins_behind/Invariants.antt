@@ -1,5 +1,5 @@
 use Rattle.std.proofs.Common.{◌≡◌, List, length}
-use Rattle.forms.specs.View.{Extends}
+use Rattle.text_forms.specs.View.{Extends}
 use Rattle.ir_types.specs.declared.memory_type.TypeName.{TypeName}
 use Rattle.ir_sizes.specs.Known.{EachIsRight}
 use Rattle.ir_sizes.specs.Prepared.{AreStarts}

@@ -1,6 +1,6 @@
 use Rattle.std.proofs.Common.{sym, ◌∙◌}
-use Rattle.forms.specs.Gives.{left}
-use Rattle.forms.specs.Kept.{attachment, attachments}
+use Rattle.text_forms.specs.Gives.{left}
+use Rattle.text_forms.specs.Kept.{attachment, attachments}
 use Rattle.kept_runs.proofs.Behind.{each_next, kept_takes}
 use Rattle.kept_runs.proofs.Takes.{attachment_takes}
 use Rattle.kept_runs.proofs.attachments.keep_attachments.Goals as goal

@@ -1,6 +1,6 @@
 use Rattle.std.proofs.Common.{refl, sym, ◌∙◌}
-use Rattle.forms.specs.Gives.{left}
-use Rattle.forms.specs.Kept.{attachment, kept_behind_comma}
+use Rattle.text_forms.specs.Gives.{left}
+use Rattle.text_forms.specs.Kept.{attachment, kept_behind_comma}
 use Rattle.kept_runs.proofs.Behind.{each_next, kept_takes}
 use Rattle.kept_runs.proofs.attachments.keep_comma_attachments.Goals as goal
 

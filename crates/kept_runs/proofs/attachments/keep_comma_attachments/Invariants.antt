@@ -1,8 +1,8 @@
 use Rattle.std.proofs.Common.{◌≡◌, length}
-use Rattle.forms.specs.Gives.{left}
-use Rattle.forms.specs.Kept.{attachment, kept_behind_comma}
-use Rattle.forms.specs.Machine.{behind}
-use Rattle.forms.specs.Reading.{read}
+use Rattle.text_forms.specs.Gives.{left}
+use Rattle.text_forms.specs.Kept.{attachment, kept_behind_comma}
+use Rattle.text_forms.specs.Machine.{behind}
+use Rattle.text_forms.specs.Reading.{read}
 use Rattle.kept_runs.proofs.Behind.{each}
 use Rattle.kept_runs.proofs.attachments.keep_comma_attachments.Given as goal
 

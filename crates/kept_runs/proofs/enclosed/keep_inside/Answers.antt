@@ -1,5 +1,5 @@
 use Rattle.std.proofs.Common.{sym}
-use Rattle.forms.specs.Gives.{left}
+use Rattle.text_forms.specs.Gives.{left}
 use Rattle.kept_runs.proofs.Balanced.{inside_next, inside_ends}
 use Rattle.kept_runs.proofs.Stack.{fits_here}
 use Rattle.kept_runs.proofs.enclosed.keep_inside.Goals as goal

@@ -1,7 +1,7 @@
 use Rattle.std.proofs.Common.{◌≡◌, [], length}
-use Rattle.forms.specs.Gives.{left}
-use Rattle.forms.specs.Machine.{behind}
-use Rattle.forms.specs.Reading.{read_inside}
+use Rattle.text_forms.specs.Gives.{left}
+use Rattle.text_forms.specs.Machine.{behind}
+use Rattle.text_forms.specs.Reading.{read_inside}
 use Rattle.kept_runs.specs.Texts.{with_texts}
 use Rattle.kept_runs.proofs.enclosed.keep_inside.Given as goal
 

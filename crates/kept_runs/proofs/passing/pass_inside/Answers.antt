@@ -1,5 +1,5 @@
 use Rattle.std.proofs.Common.{sym}
-use Rattle.forms.specs.Gives.{left}
+use Rattle.text_forms.specs.Gives.{left}
 use Rattle.kept_runs.proofs.Balanced.{pass_next, pass_ends}
 use Rattle.kept_runs.proofs.Stack.{fits_here}
 use Rattle.kept_runs.proofs.passing.pass_inside.Goals as goal

@@ -1,6 +1,6 @@
 use Rattle.std.proofs.Common.{◌≡◌, [], length}
-use Rattle.forms.specs.Gives.{left}
-use Rattle.forms.specs.Reading.{read_inside}
+use Rattle.text_forms.specs.Gives.{left}
+use Rattle.text_forms.specs.Reading.{read_inside}
 use Rattle.kept_runs.specs.Passed.{passed}
 use Rattle.kept_runs.proofs.passing.pass_inside.Given as goal
 

@@ -1,6 +1,6 @@
 use Rattle.std.proofs.Common.{ℕ, List, map, sym, ◌∙◌}
-use Rattle.forms.specs.Gives.{left}
-use Rattle.forms.specs.Kept.{kept_piece, kept_run}
+use Rattle.text_forms.specs.Gives.{left}
+use Rattle.text_forms.specs.Kept.{kept_piece, kept_run}
 use Rattle.kept_runs.proofs.Behind.{each_next, kept_takes}
 use Rattle.kept_runs.proofs.Takes.{piece_takes}
 use Rattle.kept_runs.proofs.pieces.keep_run.Goals as goal

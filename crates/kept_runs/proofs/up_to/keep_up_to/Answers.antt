@@ -1,7 +1,7 @@
 use Rattle.std.proofs.Common.{◌≡◌, false, ◌&&◌, sym, refl, ◌∙◌}
 use Rattle.std.proofs.lemmas.Bool.{and_right}
-use Rattle.forms.specs.Form.{is_empty, stops_at}
-use Rattle.forms.specs.Gives.{left}
+use Rattle.text_forms.specs.Form.{is_empty, stops_at}
+use Rattle.text_forms.specs.Gives.{left}
 use Rattle.kept_runs.specs.Stopping.{stops_of}
 use Rattle.kept_runs.proofs.Balanced.{up_to_next}
 use Rattle.kept_runs.proofs.Stack.{fits_here}

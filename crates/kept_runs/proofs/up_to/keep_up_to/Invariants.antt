@@ -1,7 +1,7 @@
 use Rattle.std.proofs.Common.{◌≡◌, [], length}
-use Rattle.forms.specs.Gives.{left}
-use Rattle.forms.specs.Machine.{behind}
-use Rattle.forms.specs.Reading.{read_up_to}
+use Rattle.text_forms.specs.Gives.{left}
+use Rattle.text_forms.specs.Machine.{behind}
+use Rattle.text_forms.specs.Reading.{read_up_to}
 use Rattle.kept_runs.specs.Stopping.{stops_of}
 use Rattle.kept_runs.proofs.up_to.keep_up_to.Given as goal
 

@@ -1,5 +1,5 @@
 use Rattle.std.proofs.Common.{◌≡◌, length}
-use Rattle.forms.specs.Lexical.{after}
+use Rattle.text_forms.specs.Lexical.{after}
 use Rattle.text_lex.proofs.front.after.Given as goal
 
 abbrev pub invariant-loop-first : goal.invariant-loop-first

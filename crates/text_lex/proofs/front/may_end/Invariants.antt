@@ -1,5 +1,5 @@
 use Rattle.std.proofs.Common.{◌≡◌, drop}
-use Rattle.forms.specs.Lexical.{may_end}
+use Rattle.text_forms.specs.Lexical.{may_end}
 use Rattle.text_lex.proofs.front.may_end.Given as goal
 
 abbrev pub invariant-loop-part : goal.invariant-loop-part

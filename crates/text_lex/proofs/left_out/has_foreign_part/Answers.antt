@@ -1,7 +1,7 @@
 use Rattle.std.proofs.Common.{rules, tests, eqb}
 use Rattle.std.proofs.lemmas.Iterator.Search.{any_from_yields_List}
 use Rattle.std.proofs.lemmas.Iterator.Splits.{YieldsList-from_slice_split}
-use Rattle.forms.specs.LeftOut.{is_foreign_part}
+use Rattle.text_forms.specs.LeftOut.{is_foreign_part}
 use Rattle.text_lex.proofs.left_out.has_foreign_part.Goals as goal
 
 pub returns : goal.returns

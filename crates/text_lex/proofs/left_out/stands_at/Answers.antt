@@ -1,6 +1,6 @@
 use Rattle.std.proofs.Common.{rules, sym, ◌∙◌}
 use denote.Enum.Bare.{same_true, same_false}
-use Rattle.forms.specs.contracts.TokenKind.{the_type}
+use Rattle.text_forms.specs.contracts.TokenKind.{the_type}
 use Rattle.text_lex.proofs.Omitted.{stands_here, stands_other, stands_past}
 use Rattle.text_lex.proofs.left_out.stands_at.Goals as goal
 

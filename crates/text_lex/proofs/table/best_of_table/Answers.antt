@@ -1,5 +1,5 @@
 use Rattle.std.proofs.Common.{◌≡◌, ◌+◌, ◌-◌, ℕ, refl, ap, ◌∙◌, arith}
-use Rattle.forms.specs.Lexical.{table}
+use Rattle.text_forms.specs.Lexical.{table}
 use Rattle.text_lex.specs.Scan.{rows_for}
 use Rattle.text_lex.proofs.Ranges.{best_empty, first_fits}
 use Rattle.text_lex.proofs.Colons.{best_for}

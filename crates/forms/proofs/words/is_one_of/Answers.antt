@@ -1,6 +1,0 @@
-use Rattle.std.proofs.Common.{◌∙◌}
-use Rattle.forms.proofs.Tables.{tested_each}
-use Rattle.forms.proofs.words.is_one_of.Goals as goal
-
-pub returns : goal.returns
-returns c = c.contains.ensures.value ∙ tested_each (λ w. w.now) c.args.words.now c.args.word.now

@@ -1,5 +1,0 @@
-use Rattle.ir_reader_ops.proofs.Widening.{names_widen}
-use Rattle.function_reader.proofs.function.scoped_params.Goals as goal
-
-pub returns-clause-grows : goal.returns-clause-grows
-returns-clause-grows c = names_widen c.args.scope.now c.enclosed_params.new.names c.enclosed_params.ensures.grows

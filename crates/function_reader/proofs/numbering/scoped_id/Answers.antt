@@ -1,5 +1,0 @@
-use Rattle.ir_reader_ops.proofs.Widening.{names_widen}
-use Rattle.function_reader.proofs.numbering.scoped_id.Goals as goal
-
-pub returns-clause-grows : goal.returns-clause-grows
-returns-clause-grows c = names_widen c.args.scope.now c.named_id.new.names c.named_id.ensures.grows

@@ -1,0 +1,189 @@
+// Operators of integers, comparisons, `select` and `freeze`, without the words before them.
+
+ghost use Rattle.std.specs.Prelude.{◌≡◌, List, IfOk};
+ghost use Rattle.text_forms.specs.Reading.{read};
+ghost use Rattle.text_forms.specs.Gives.{Gives, left};
+ghost use Rattle.ir_types.specs.Grammar.{overflowing, possibly_exact, plain_binary, or_operation, compared, compare, bits_for, select, freeze};
+ghost use Rattle.ir_reader_values.specs.Seen.{operand_seen, inst_seen, definitions, Widens, Stays, InstUses};
+
+use crate::words::predicate_of;
+use text_forms::{Cursor, SyntaxFault, TokenKind};
+use ir_making::{applied, binary, one_operand, three_operands, two_operands};
+use ir_reader_values::{Scope, one_flag, three_values, two_flags, typed_pair, typed_value};
+use ir_types::{BinOp, Flags, Inst, InstKind, Pred, Ty};
+use std::alloc::Global;
+
+static NO_FLAGS: Flags = Flags {
+    nuw: false,
+    nsw: false,
+    exact: false,
+    disjoint: false,
+};
+
+/// [nuw] [nsw] T V, V.
+#[tactic(auto, unfolding(ir_types::specs::Grammar::overflowing))]
+pub fn overflowing<'t>(
+    alloc: Global,
+    operator: BinOp,
+    tokens: Cursor<'t>,
+    scope: &mut Scope,
+) -> Result<(Inst, Cursor<'t>), SyntaxFault>
+    ensures grows { Widens scope.old scope.new }
+    ensures reads { Gives (λ x. (inst_seen scope.new x.0, left x.1)) result (read (overflowing (definitions scope.old) operator) (left tokens.entry)) }
+    ensures stays { Stays inst_seen scope.new result }
+    ensures uses { IfOk result (λ x. InstUses scope.old (inst_seen scope.new x.0) scope.new) }
+{
+    let ((nuw, nsw), rest) = two_flags(tokens, b"nuw", b"nsw");
+    let ((ty, (first, second)), rest) = typed_pair(alloc, rest, scope)?;
+    let flags = Flags {
+        nuw,
+        nsw,
+        ..NO_FLAGS
+    };
+    let inst = binary(alloc, operator, flags, ty, first, second)?;
+    Ok((inst, rest))
+}
+
+/// [exact] T V, V.
+#[tactic(auto, unfolding(ir_types::specs::Grammar::possibly_exact))]
+pub fn possibly_exact<'t>(
+    alloc: Global,
+    operator: BinOp,
+    tokens: Cursor<'t>,
+    scope: &mut Scope,
+) -> Result<(Inst, Cursor<'t>), SyntaxFault>
+    ensures grows { Widens scope.old scope.new }
+    ensures reads { Gives (λ x. (inst_seen scope.new x.0, left x.1)) result (read (possibly_exact (definitions scope.old) operator) (left tokens.entry)) }
+    ensures stays { Stays inst_seen scope.new result }
+    ensures uses { IfOk result (λ x. InstUses scope.old (inst_seen scope.new x.0) scope.new) }
+{
+    let (exact, rest) = one_flag(tokens, b"exact");
+    let ((ty, (first, second)), rest) = typed_pair(alloc, rest, scope)?;
+    let flags = Flags { exact, ..NO_FLAGS };
+    let inst = binary(alloc, operator, flags, ty, first, second)?;
+    Ok((inst, rest))
+}
+
+/// T V, V behind a word that takes no flags.
+#[tactic(auto, unfolding(ir_types::specs::Grammar::plain_binary))]
+pub fn plain_binary<'t>(
+    alloc: Global,
+    operator: BinOp,
+    tokens: Cursor<'t>,
+    scope: &mut Scope,
+) -> Result<(Inst, Cursor<'t>), SyntaxFault>
+    ensures grows { Widens scope.old scope.new }
+    ensures reads { Gives (λ x. (inst_seen scope.new x.0, left x.1)) result (read (plain_binary (definitions scope.old) operator) (left tokens.entry)) }
+    ensures stays { Stays inst_seen scope.new result }
+    ensures uses { IfOk result (λ x. InstUses scope.old (inst_seen scope.new x.0) scope.new) }
+{
+    let ((ty, (first, second)), rest) = typed_pair(alloc, tokens, scope)?;
+    let inst = binary(alloc, operator, NO_FLAGS, ty, first, second)?;
+    Ok((inst, rest))
+}
+
+/// [disjoint] T V, V.
+#[tactic(auto, unfolding(ir_types::specs::Grammar::or_operation))]
+pub fn or_operation<'t>(
+    alloc: Global,
+    tokens: Cursor<'t>,
+    scope: &mut Scope,
+) -> Result<(Inst, Cursor<'t>), SyntaxFault>
+    ensures grows { Widens scope.old scope.new }
+    ensures reads { Gives (λ x. (inst_seen scope.new x.0, left x.1)) result (read (or_operation (definitions scope.old)) (left tokens.entry)) }
+    ensures stays { Stays inst_seen scope.new result }
+    ensures uses { IfOk result (λ x. InstUses scope.old (inst_seen scope.new x.0) scope.new) }
+{
+    let (disjoint, rest) = one_flag(tokens, b"disjoint");
+    let ((ty, (first, second)), rest) = typed_pair(alloc, rest, scope)?;
+    let flags = Flags {
+        disjoint,
+        ..NO_FLAGS
+    };
+    let inst = binary(alloc, BinOp::Or, flags, ty, first, second)?;
+    Ok((inst, rest))
+}
+
+/// The type of a comparison's result.
+fn bits_for(ty: Ty) -> Ty
+    ensures { result ≡ bits_for ty }
+{
+    match ty {
+        Ty::Vector(lanes, _) => Ty::Vector(lanes, 1),
+        Ty::Int(_) | Ty::Ptr | Ty::Void => Ty::Int(1),
+    }
+}
+
+/// T V, V behind the predicate.
+#[tactic(auto, unfolding(ir_types::specs::Grammar::compared))]
+fn compared<'t>(
+    alloc: Global,
+    predicate: Pred,
+    tokens: Cursor<'t>,
+    scope: &mut Scope,
+) -> Result<(Inst, Cursor<'t>), SyntaxFault>
+    ensures grows { Widens scope.old scope.new }
+    ensures reads { Gives (λ x. (inst_seen scope.new x.0, left x.1)) result (read (compared (definitions scope.old) predicate) (left tokens.entry)) }
+    ensures stays { Stays inst_seen scope.new result }
+    ensures uses { IfOk result (λ x. InstUses scope.old (inst_seen scope.new x.0) scope.new) }
+{
+    let ((ty, (first, second)), rest) = typed_pair(alloc, tokens, scope)?;
+    let args = two_operands(alloc, first, second)?;
+    let kind = InstKind::Compare(predicate, ty);
+    Ok((applied(alloc, kind, bits_for(ty), args), rest))
+}
+
+/// pred T V, V.
+#[tactic(auto, unfolding(ir_types::specs::Grammar::compare))]
+pub fn comparison<'t>(
+    alloc: Global,
+    tokens: Cursor<'t>,
+    scope: &mut Scope,
+) -> Result<(Inst, Cursor<'t>), SyntaxFault>
+    ensures grows { Widens scope.old scope.new }
+    ensures reads { Gives (λ x. (inst_seen scope.new x.0, left x.1)) result (read (compare (definitions scope.old)) (left tokens.entry)) }
+    ensures stays { Stays inst_seen scope.new result }
+    ensures uses { IfOk result (λ x. InstUses scope.old (inst_seen scope.new x.0) scope.new) }
+{
+    let (word, rest) = tokens.one(TokenKind::Word)?;
+    match predicate_of(word) {
+        Some(predicate) => compared(alloc, predicate, rest, scope),
+        None => Err(tokens.refusal()),
+    }
+}
+
+/// T V, T V, T V: a condition and two arms.
+#[tactic(auto, unfolding(ir_types::specs::Grammar::select))]
+pub fn selection<'t>(
+    alloc: Global,
+    tokens: Cursor<'t>,
+    scope: &mut Scope,
+) -> Result<(Inst, Cursor<'t>), SyntaxFault>
+    ensures grows { Widens scope.old scope.new }
+    ensures reads { Gives (λ x. (inst_seen scope.new x.0, left x.1)) result (read (select (definitions scope.old)) (left tokens.entry)) }
+    ensures stays { Stays inst_seen scope.new result }
+    ensures uses { IfOk result (λ x. InstUses scope.old (inst_seen scope.new x.0) scope.new) }
+{
+    let (values, rest) = three_values(alloc, tokens, scope)?;
+    let ((condition_type, condition), ((ty, then), (last_type, otherwise))) = values;
+    let args = three_operands(alloc, condition, then, otherwise)?;
+    let kind = InstKind::Select(condition_type, last_type);
+    Ok((applied(alloc, kind, ty, args), rest))
+}
+
+/// T V.
+#[tactic(auto, unfolding(ir_types::specs::Grammar::freeze))]
+pub fn freeze<'t>(
+    alloc: Global,
+    tokens: Cursor<'t>,
+    scope: &mut Scope,
+) -> Result<(Inst, Cursor<'t>), SyntaxFault>
+    ensures grows { Widens scope.old scope.new }
+    ensures reads { Gives (λ x. (inst_seen scope.new x.0, left x.1)) result (read (freeze (definitions scope.old)) (left tokens.entry)) }
+    ensures stays { Stays inst_seen scope.new result }
+    ensures uses { IfOk result (λ x. InstUses scope.old (inst_seen scope.new x.0) scope.new) }
+{
+    let ((ty, operand), rest) = typed_value(alloc, tokens, scope)?;
+    let args = one_operand(alloc, operand)?;
+    Ok((applied(alloc, InstKind::Freeze, ty, args), rest))
+}

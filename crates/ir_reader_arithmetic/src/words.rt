@@ -1,0 +1,29 @@
+// The words of predicates.
+
+ghost use Rattle.std.specs.Prelude.{◌≡◌};
+ghost use Rattle.text_forms.specs.Form.{entry};
+ghost use Rattle.ir_types.specs.Grammar.{predicates};
+
+use text_forms::find;
+use ir_types::Pred;
+
+static PREDICATES: [(&[u8], Pred); 10] = [
+    (b"eq", Pred::Eq),
+    (b"ne", Pred::Ne),
+    (b"ugt", Pred::Ugt),
+    (b"uge", Pred::Uge),
+    (b"ult", Pred::Ult),
+    (b"ule", Pred::Ule),
+    (b"sgt", Pred::Sgt),
+    (b"sge", Pred::Sge),
+    (b"slt", Pred::Slt),
+    (b"sle", Pred::Sle),
+];
+
+/// The predicate of the word.
+#[tactic(auto, unfolding(ir_types::specs::Grammar::predicates))]
+pub fn predicate_of(word: &[u8]) -> Option<Pred>
+    ensures { result ≡ entry predicates word.now }
+{
+    find(&PREDICATES, word)
+}

@@ -1,0 +1,128 @@
+// Terminators, without the words before them.
+
+ghost use Rattle.std.specs.Prelude.{◌≡◌, ◌∷◌, [], ◌≤◌, List, map, IfOk};
+ghost use Rattle.text_forms.specs.declared.TokenKind.TheVariants.{Comma};
+ghost use Rattle.text_forms.specs.Form.{mapped};
+ghost use Rattle.text_forms.specs.Reading.{read};
+ghost use Rattle.text_forms.specs.Gives.{Gives, left};
+ghost use Rattle.ir_types.specs.Grammar.{after_mark, target, branch, return_tree, typed_value, ret};
+ghost use Rattle.ir_reader_control.specs.Conditions.{conditional_read};
+ghost use Rattle.ir_reader_values.specs.Seen.{name_seen, operand_seen, inst_seen, definitions, Widens, Stays, InstUses};
+
+use text_forms::{Cursor, SyntaxFault, TokenKind};
+use ir_making::{applied, bare, one_label, one_operand, two_labels};
+use ir_reader_values::{Scope, local_id, typed_value, value_at};
+use ir_types::{Inst, InstKind, Ty, ValueId};
+use lists::Few;
+use std::alloc::Global;
+use ir_reader_types::begins_type;
+
+/// label %name.
+#[tactic(auto, unfolding(ir_types::specs::Grammar::target))]
+fn target<'t>(
+    alloc: Global,
+    tokens: Cursor<'t>,
+    scope: &mut Scope,
+) -> Result<(ValueId, Cursor<'t>), SyntaxFault>
+    ensures grows { Widens scope.old scope.new }
+    ensures reads { Gives (λ x. (name_seen scope.new x.0, left x.1)) result (read target (left tokens.entry)) }
+    ensures stays { Stays name_seen scope.new result }
+    ensures tables { scope.new.tables ≡ scope.old.tables }
+{
+    let Some(rest) = tokens.behind_word(b"label") else {
+        return Err(tokens.refusal());
+    };
+    local_id(alloc, rest, scope)
+}
+
+/// A target behind a comma.
+pub fn comma_target<'t>(
+    alloc: Global,
+    tokens: Cursor<'t>,
+    scope: &mut Scope,
+) -> Result<(ValueId, Cursor<'t>), SyntaxFault>
+    ensures grows { Widens scope.old scope.new }
+    ensures reads { Gives (λ x. (name_seen scope.new x.0, left x.1)) result (read (after_mark Comma target) (left tokens.entry)) }
+    ensures stays { Stays name_seen scope.new result }
+    ensures tables { scope.new.tables ≡ scope.old.tables }
+{
+    let rest = tokens.mark(TokenKind::Comma)?;
+    target(alloc, rest, scope)
+}
+
+/// V, label %name, label %name behind the condition's type.
+fn conditional<'t>(
+    alloc: Global,
+    tokens: Cursor<'t>,
+    scope: &mut Scope,
+) -> Result<(Inst, Cursor<'t>), SyntaxFault>
+    ensures grows { Widens scope.old scope.new }
+    ensures reads { Gives (λ x. (inst_seen scope.new x.0, left x.1)) result (conditional_read (definitions scope.old) (left tokens.entry)) }
+    ensures stays { Stays inst_seen scope.new result }
+    ensures uses { IfOk result (λ x. InstUses scope.old (inst_seen scope.new x.0) scope.new) }
+{
+    let (condition, rest) = value_at(alloc, Ty::Int(1), tokens, scope)?;
+    let (then, rest) = comma_target(alloc, rest, scope)?;
+    let (otherwise, rest) = comma_target(alloc, rest, scope)?;
+    let args = one_operand(alloc, condition)?;
+    let labels = two_labels(alloc, then, otherwise)?;
+    Ok((bare(alloc, InstKind::Branch, Ty::Void, args, labels), rest))
+}
+
+/// label %name | i1 V, label %name, label %name.
+#[tactic(auto, unfolding(ir_types::specs::Grammar::branch, ir_types::specs::Grammar::target))]
+pub fn branch<'t>(
+    alloc: Global,
+    tokens: Cursor<'t>,
+    scope: &mut Scope,
+) -> Result<(Inst, Cursor<'t>), SyntaxFault>
+    ensures grows { Widens scope.old scope.new }
+    ensures reads { Gives (λ x. (inst_seen scope.new x.0, left x.1)) result (read (branch (definitions scope.old)) (left tokens.entry)) }
+    ensures stays { Stays inst_seen scope.new result }
+    ensures uses { IfOk result (λ x. InstUses scope.old (inst_seen scope.new x.0) scope.new) }
+{
+    if let Some(rest) = tokens.behind_word(b"i1") {
+        let (inst, rest) = conditional(alloc, rest, scope)?;
+        return Ok((inst, rest));
+    }
+    let (label, rest) = target(alloc, tokens, scope)?;
+    let labels = one_label(alloc, label)?;
+    let args = Few::new(alloc);
+    Ok((bare(alloc, InstKind::Jump, Ty::Void, args, labels), rest))
+}
+
+/// T V.
+fn returned_value<'t>(
+    alloc: Global,
+    tokens: Cursor<'t>,
+    scope: &mut Scope,
+) -> Result<(Inst, Cursor<'t>), SyntaxFault>
+    ensures grows { Widens scope.old scope.new }
+    ensures reads { Gives (λ x. (inst_seen scope.new x.0, left x.1)) result (read (mapped return_tree (typed_value (definitions scope.old))) (left tokens.entry)) }
+    ensures stays { Stays inst_seen scope.new result }
+    ensures uses { IfOk result (λ x. InstUses scope.old (inst_seen scope.new x.0) scope.new) }
+{
+    let ((ty, value), rest) = typed_value(alloc, tokens, scope)?;
+    let args = one_operand(alloc, value)?;
+    Ok((applied(alloc, InstKind::Return(ty), Ty::Void, args), rest))
+}
+
+/// T V | void.
+#[tactic(auto, unfolding(ir_types::specs::Grammar::ret, ir_types::specs::Grammar::typed_value, ir_types::specs::Grammar::value_type, ir_types::specs::Grammar::vector_type, ir_types::specs::Grammar::width))]
+pub fn give_back<'t>(
+    alloc: Global,
+    tokens: Cursor<'t>,
+    scope: &mut Scope,
+) -> Result<(Inst, Cursor<'t>), SyntaxFault>
+    ensures grows { Widens scope.old scope.new }
+    ensures reads { Gives (λ x. (inst_seen scope.new x.0, left x.1)) result (read (ret (definitions scope.old)) (left tokens.entry)) }
+    ensures stays { Stays inst_seen scope.new result }
+    ensures uses { IfOk result (λ x. InstUses scope.old (inst_seen scope.new x.0) scope.new) }
+{
+    if begins_type(tokens) {
+        return returned_value(alloc, tokens, scope);
+    }
+    let rest = tokens.word(b"void")?;
+    let args = Few::new(alloc);
+    Ok((applied(alloc, InstKind::ReturnVoid, Ty::Void, args), rest))
+}

@@ -1,0 +1,65 @@
+// Variables.
+
+ghost use Rattle.std.specs.Prelude.{◌≡◌, ◌≤◌, ℕ, length};
+ghost use Rattle.text_forms.specs.Form.{mapped};
+ghost use Rattle.text_forms.specs.Gives.{Gives, left};
+ghost use Rattle.text_forms.specs.Reading.{read};
+ghost use Rattle.ir_types.specs.Grammar.{memory_type, variable_word, variable_definition};
+ghost use Rattle.ir_types.specs.Skimmed.{as_it_is};
+ghost use Rattle.ir_reader_items.specs.Parts.{item_of};
+ghost use Rattle.ir_reader_items.specs.Typed.{variable_read};
+
+use crate::extras::kept_behind_type;
+use crate::part::{Part, Variable};
+use crate::passing::type_source;
+use text_forms::{Cursor, SyntaxFault, TokenKind};
+use ir_reader_values::kept;
+use std::alloc::Global;
+use ir_reader_types::name_behind;
+
+/// `global` or `constant`: whether the variable may be written.
+#[tactic(auto, unfolding(ir_types::specs::Grammar::variable_word))]
+fn writable<'t>(tokens: Cursor<'t>) -> Result<(bool, Cursor<'t>), SyntaxFault>
+    ensures { Gives (λ x. (x.0, left x.1)) result (read variable_word (left tokens.entry)) }
+{
+    match tokens.behind_word(b"global") {
+        Some(rest) => Ok((true, rest)),
+        None => {
+            let rest = tokens.word(b"constant")?;
+            Ok((false, rest))
+        }
+    }
+}
+
+/// The parts of a variable.
+fn parts<'t>(alloc: Global, tokens: Cursor<'t>) -> Result<(Part<'t>, Cursor<'t>), SyntaxFault>
+    ensures { Gives (λ x. (item_of x.0, left x.1)) result (variable_read (left tokens.entry)) }
+{
+    let (token, rest) = tokens.one(TokenKind::Global)?;
+    let rest = rest.mark(TokenKind::Equal)?;
+    let (before, rest) = kept(alloc, rest)?;
+    let (writable, rest) = writable(rest)?;
+    let (ty, rest) = type_source(alloc, rest)?;
+    let (after, rest) = kept_behind_type(alloc, rest)?;
+    let Some(name) = name_behind(alloc, token)? else {
+        return Err(tokens.refusal());
+    };
+    let variable = Variable {
+        name,
+        before,
+        writable,
+        ty,
+        after,
+    };
+    Ok((Part::Variable(variable), rest))
+}
+
+/// A variable.
+pub fn variable<'t>(
+    alloc: Global,
+    tokens: Cursor<'t>,
+) -> Result<(Part<'t>, Cursor<'t>), SyntaxFault>
+    ensures { (d : ℕ) → length (left tokens.entry) ≤ d → Gives (λ x. (item_of x.0, left x.1)) result (read (mapped as_it_is (variable_definition (memory_type d))) (left tokens.entry)) }
+{
+    parts(alloc, tokens)
+}

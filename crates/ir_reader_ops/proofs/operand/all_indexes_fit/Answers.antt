@@ -1,8 +1,0 @@
-use Rattle.std.proofs.Common.{sym, ◌∙◌}
-use Rattle.ir_types.specs.Grammar.{index_fits}
-use Rattle.ir_reader_ops.specs.View.{index_in}
-use Rattle.ir_reader_ops.proofs.Operands.{one_fails}
-use Rattle.ir_reader_ops.proofs.operand.all_indexes_fit.Goals as goal
-
-pub returns-then-not-fits_width : goal.returns-then-not-fits_width
-returns-then-not-fits_width c = sym (one_fails index_fits index_in c.args.indexes.now c.loop-index.index-index _ c.loop-index-test.true (sym c.fits_width.ensures ∙ c.if-not-fits_width.true))

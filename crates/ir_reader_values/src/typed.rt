@@ -1,0 +1,154 @@
+// Values behind their types.
+
+ghost use Rattle.std.specs.Prelude.{◌≡◌, List, IfOk, ◌∷◌, []};
+ghost use Rattle.text_forms.specs.declared.TokenKind.TheVariants.{Comma};
+ghost use Rattle.text_forms.specs.Reading.{read};
+ghost use Rattle.text_forms.specs.Gives.{Gives, left};
+ghost use Rattle.ir_types.specs.Types.{IsType, IsOneOf, widths};
+ghost use Rattle.ir_types.specs.Grammar.{typed_value, comma_typed, three_values, typed_pair, pointer_value, index_value, after_mark};
+ghost use Rattle.ir_reader_values.specs.Seen.{operand_seen, definitions, Widens, Stays, OperandsUse};
+ghost use Rattle.ir_reader_values.specs.View.{typed_in, pair_in, three_in};
+
+use crate::operand::value_at;
+use crate::scope::Scope;
+use text_forms::{Cursor, SyntaxFault, TokenKind};
+use ir_types::{Operand, Ty};
+use std::alloc::Global;
+use ir_reader_types::{value_type, width};
+
+/// Three operands, each behind its type.
+pub type ThreeValues = ((Ty, Operand), ((Ty, Operand), (Ty, Operand)));
+
+/// T V.
+#[tactic(auto, using(crate::proofs::Operands::typed_value_is))]
+pub fn typed_value<'t>(
+    alloc: Global,
+    tokens: Cursor<'t>,
+    scope: &mut Scope,
+) -> Result<((Ty, Operand), Cursor<'t>), SyntaxFault>
+    ensures grows { Widens scope.old scope.new }
+    ensures reads { Gives (λ x. (typed_in scope.new x.0, left x.1)) result (read (typed_value (definitions scope.old)) (left tokens.entry)) }
+    ensures stays { Stays typed_in scope.new result }
+    ensures written { IfOk result (λ x. IsType x.0.0) }
+    ensures uses { IfOk result (λ x. OperandsUse scope.old (operand_seen scope.new x.0.1 ∷ []) scope.new) }
+{
+    let (ty, rest) = value_type(tokens)?;
+    let (operand, rest) = value_at(alloc, ty, rest, scope)?;
+    Ok(((ty, operand), rest))
+}
+
+/// T V behind a comma.
+pub fn comma_typed<'t>(
+    alloc: Global,
+    tokens: Cursor<'t>,
+    scope: &mut Scope,
+) -> Result<((Ty, Operand), Cursor<'t>), SyntaxFault>
+    ensures grows { Widens scope.old scope.new }
+    ensures reads { Gives (λ x. (typed_in scope.new x.0, left x.1)) result (read (comma_typed (definitions scope.old)) (left tokens.entry)) }
+    ensures stays { Stays typed_in scope.new result }
+    ensures uses { IfOk result (λ x. OperandsUse scope.old (operand_seen scope.new x.0.1 ∷ []) scope.new) }
+{
+    let rest = tokens.mark(TokenKind::Comma)?;
+    typed_value(alloc, rest, scope)
+}
+
+/// T V, T V, T V.
+pub fn three_values<'t>(
+    alloc: Global,
+    tokens: Cursor<'t>,
+    scope: &mut Scope,
+) -> Result<(ThreeValues, Cursor<'t>), SyntaxFault>
+    ensures grows { Widens scope.old scope.new }
+    ensures reads { Gives (λ x. (three_in scope.new x.0, left x.1)) result (read (three_values (definitions scope.old)) (left tokens.entry)) }
+    ensures stays { Stays three_in scope.new result }
+    ensures uses { IfOk result (λ x. OperandsUse scope.old (operand_seen scope.new x.0.0.1 ∷ operand_seen scope.new x.0.1.0.1 ∷ operand_seen scope.new x.0.1.1.1 ∷ []) scope.new) }
+{
+    let (first, rest) = typed_value(alloc, tokens, scope)?;
+    let (second, rest) = comma_typed(alloc, rest, scope)?;
+    let (third, rest) = comma_typed(alloc, rest, scope)?;
+    Ok(((first, (second, third)), rest))
+}
+
+/// T V, V.
+#[tactic(auto, using(crate::proofs::Operands::typed_pair_is))]
+pub fn typed_pair<'t>(
+    alloc: Global,
+    tokens: Cursor<'t>,
+    scope: &mut Scope,
+) -> Result<((Ty, (Operand, Operand)), Cursor<'t>), SyntaxFault>
+    ensures grows { Widens scope.old scope.new }
+    ensures reads { Gives (λ x. (pair_in scope.new x.0, left x.1)) result (read (typed_pair (definitions scope.old)) (left tokens.entry)) }
+    ensures stays { Stays pair_in scope.new result }
+    ensures uses { IfOk result (λ x. OperandsUse scope.old (operand_seen scope.new x.0.1.0 ∷ operand_seen scope.new x.0.1.1 ∷ []) scope.new) }
+{
+    let (ty, rest) = value_type(tokens)?;
+    let (first, rest) = value_at(alloc, ty, rest, scope)?;
+    let rest = rest.mark(TokenKind::Comma)?;
+    let (second, rest) = value_at(alloc, ty, rest, scope)?;
+    Ok(((ty, (first, second)), rest))
+}
+
+/// ptr V.
+#[tactic(auto, using(crate::proofs::Operands::pointer_is))]
+pub fn pointer_value<'t>(
+    alloc: Global,
+    tokens: Cursor<'t>,
+    scope: &mut Scope,
+) -> Result<(Operand, Cursor<'t>), SyntaxFault>
+    ensures grows { Widens scope.old scope.new }
+    ensures reads { Gives (λ x. (operand_seen scope.new x.0, left x.1)) result (read (pointer_value (definitions scope.old)) (left tokens.entry)) }
+    ensures stays { Stays operand_seen scope.new result }
+    ensures uses { IfOk result (λ x. OperandsUse scope.old (operand_seen scope.new x.0 ∷ []) scope.new) }
+{
+    let rest = tokens.word(b"ptr")?;
+    value_at(alloc, Ty::Ptr, rest, scope)
+}
+
+/// ptr V behind a comma.
+pub fn comma_pointer<'t>(
+    alloc: Global,
+    tokens: Cursor<'t>,
+    scope: &mut Scope,
+) -> Result<(Operand, Cursor<'t>), SyntaxFault>
+    ensures grows { Widens scope.old scope.new }
+    ensures reads { Gives (λ x. (operand_seen scope.new x.0, left x.1)) result (read (after_mark Comma (pointer_value (definitions scope.old))) (left tokens.entry)) }
+    ensures stays { Stays operand_seen scope.new result }
+    ensures uses { IfOk result (λ x. OperandsUse scope.old (operand_seen scope.new x.0 ∷ []) scope.new) }
+{
+    let rest = tokens.mark(TokenKind::Comma)?;
+    pointer_value(alloc, rest, scope)
+}
+
+/// iN V: the width and the value.
+#[tactic(auto, using(crate::proofs::Operands::index_is))]
+pub fn index_value<'t>(
+    alloc: Global,
+    tokens: Cursor<'t>,
+    scope: &mut Scope,
+) -> Result<((u32, Operand), Cursor<'t>), SyntaxFault>
+    ensures grows { Widens scope.old scope.new }
+    ensures reads { Gives (λ x. (typed_in scope.new x.0, left x.1)) result (read (index_value (definitions scope.old)) (left tokens.entry)) }
+    ensures stays { Stays typed_in scope.new result }
+    ensures written { IfOk result (λ x. IsOneOf widths x.0.0) }
+    ensures uses { IfOk result (λ x. OperandsUse scope.old (operand_seen scope.new x.0.1 ∷ []) scope.new) }
+{
+    let (width, rest) = width(tokens)?;
+    let (operand, rest) = value_at(alloc, Ty::Int(width), rest, scope)?;
+    Ok(((width, operand), rest))
+}
+
+/// iN V behind a comma.
+pub fn comma_index<'t>(
+    alloc: Global,
+    tokens: Cursor<'t>,
+    scope: &mut Scope,
+) -> Result<((u32, Operand), Cursor<'t>), SyntaxFault>
+    ensures grows { Widens scope.old scope.new }
+    ensures reads { Gives (λ x. (typed_in scope.new x.0, left x.1)) result (read (after_mark Comma (index_value (definitions scope.old))) (left tokens.entry)) }
+    ensures stays { Stays typed_in scope.new result }
+    ensures uses { IfOk result (λ x. OperandsUse scope.old (operand_seen scope.new x.0.1 ∷ []) scope.new) }
+{
+    let rest = tokens.mark(TokenKind::Comma)?;
+    let (value, rest) = index_value(alloc, rest, scope)?;
+    Ok((value, rest))
+}

@@ -1,8 +1,0 @@
-use Rattle.std.proofs.Common.{◌≡◌, drop}
-use Rattle.forms.specs.declared.Class.TheVariants.{NamePart}
-use Rattle.forms.specs.Lexical.{has}
-use Rattle.text_lex.specs.Neighbours.{all_of}
-use Rattle.type_printer.proofs.name.is_plain.Given as goal
-
-abbrev pub invariant-loop-byte : goal.invariant-loop-byte
-invariant-loop-byte l = all_of (has NamePart) (drop l.byte-index l.rest) ≡ all_of (has NamePart) l.rest

@@ -1,9 +1,0 @@
-use Rattle.std.proofs.Common.{◌≡◌, ◌<◌, ◌^◌, drop}
-use Rattle.ir_types.specs.Written.{number_of, number_from}
-use Rattle.type_reader.proofs.numbers.number_of_32_bits.Given as goal
-
-abbrev pub invariant-loop-digit : goal.invariant-loop-digit
-invariant-loop-digit l = record {
-  fits : l.number < 2 ^ 32;
-  reads : number_from l.number (drop l.digit-index l.digits) ≡ number_of l.digits;
-}
