@@ -2,13 +2,13 @@
 #![tactic(auto)]
 
 #[cfg(test)]
-mod of_text_forms;
-#[cfg(test)]
 mod of_ir_types;
 #[cfg(test)]
 mod of_kept_runs;
 #[cfg(test)]
 mod of_lists;
+#[cfg(test)]
+mod of_text_forms;
 #[cfg(test)]
 mod of_text_lex;
 #[cfg(test)]

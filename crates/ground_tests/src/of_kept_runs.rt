@@ -1,6 +1,5 @@
 // Each public call once.
 
-use text_forms::{Cursor, SyntaxFault, TokenKind};
 use kept_runs::{
     Stops, begins_attachment, begins_comma_attachment, begins_run, keep, keep_attachment,
     keep_attachments, keep_braces, keep_comma_attachments, keep_node, keep_parens, keep_run,
@@ -8,6 +7,7 @@ use kept_runs::{
 };
 use lists::Texts;
 use std::test::Fail;
+use text_forms::{Cursor, SyntaxFault, TokenKind};
 use text_lex::{Token, lex};
 
 /// A text's first token.

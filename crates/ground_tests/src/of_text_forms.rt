@@ -1,7 +1,7 @@
 // Each public call once, on tokens of a text.
 
-use text_forms::{Cursor, SyntaxFault, TokenKind, find, is_one_of, unescaped, without_last};
 use std::test::Fail;
+use text_forms::{Cursor, SyntaxFault, TokenKind, find, is_one_of, unescaped, without_last};
 use text_lex::lex;
 
 #[test]

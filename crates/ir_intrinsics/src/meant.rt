@@ -7,8 +7,8 @@ ghost use Rattle.ir_intrinsics.specs.Intrinsics.{first, in_family, meant_by};
 ghost use Rattle.ir_intrinsics.specs.Means.{meant_in, family_in, in_one, behind_llvm};
 
 use crate::written::{behind_front, type_written, vector_before};
-use text_forms::is_one_of;
 use ir_types::{BinOp, Name, Ty};
+use text_forms::is_one_of;
 
 /// A function that has a meaning by its name. (LLVM's Language Reference, "Intrinsic Functions".)
 #[derive(Clone, Copy, Debug, PartialEq, Eq)]

@@ -5,8 +5,8 @@ ghost use Rattle.std.specs.Option.{option_map};
 ghost use Rattle.ir_intrinsics.specs.Intrinsics.{first, behind_front, width_before, vector_before, type_written};
 ghost use Rattle.ir_intrinsics.specs.Means.{vector_in};
 
-use text_forms::find;
 use ir_types::Ty;
+use text_forms::find;
 
 static WIDTHS: [(&[u8], u32); 5] = [
     (b"i1", 1),

@@ -9,9 +9,9 @@ ghost use Rattle.ir_printer_types.specs.Pieces.{with_commas, each_behind};
 ghost use Rattle.ir_printer.specs.Print.{target_pieces, targets_pieces, entry_pieces, entries_of, before_case, case_pieces, cases_of, switch_pieces};
 
 use crate::value::{put_comma, put_operand, put_signed};
+use ir_printer_types::types::{put_local, put_width};
 use ir_types::{Module, Names, Operand, Ty, ValueId};
 use std::alloc::AllocError;
-use ir_printer_types::types::{put_local, put_width};
 
 fn put_target(out: &mut Vec<u8>, names: &Names, label: ValueId) -> Result<(), AllocError>
     requires { IsName (name_in names.now label) }

@@ -11,10 +11,10 @@ ghost use Rattle.ir_printer.specs.Print.{dots_pieces, written_types, signature_p
 
 use crate::kept::{put_blank_then_kept, put_kept_then_blank};
 use crate::value::{put_comma, put_operand, put_typed_operand};
-use ir_types::{Actual, Callee, Module, Names, Operand, Signature, Ty};
-use std::alloc::AllocError;
 use ir_printer_types::name::put_name;
 use ir_printer_types::types::put_type;
+use ir_types::{Actual, Callee, Module, Names, Operand, Signature, Ty};
+use std::alloc::AllocError;
 
 /// Appends the dots for further arguments, behind so many parameters.
 pub(crate) fn put_dots(out: &mut Vec<u8>, params: usize) -> Result<(), AllocError>

@@ -12,10 +12,10 @@ ghost use Rattle.ir_printer.specs.Print.{inst_pieces, block_pieces, param_pieces
 use crate::call::put_dots;
 use crate::kept::{put_blank_then_kept, put_kept_then_blank};
 use crate::line::put_inst;
-use ir_types::{Block, Function, Inst, Module, Names, Param};
-use std::alloc::{AllocError, Global};
 use ir_printer_types::name::put_name;
 use ir_printer_types::types::{put_local, put_type};
+use ir_types::{Block, Function, Inst, Module, Names, Param};
+use std::alloc::{AllocError, Global};
 
 fn put_insts(
     alloc: Global,

@@ -11,10 +11,10 @@ ghost use Rattle.ir_printer_types.specs.MemoryPieces.{node_pieces};
 ghost use Rattle.ir_printer.specs.Print.{for_one, definition_pieces, type_name_pieces, variable_word, variable_pieces, symbol_pieces, is_comdat, whole_line, head_line_pieces, comdat_line_pieces};
 
 use crate::kept::{put_kept_behind, put_kept_then_blank, put_line};
-use ir_types::{Kept, Module, Name, NamedType, Symbol, SymbolKind, TypeId, TypeName};
-use std::alloc::{AllocError, Global};
 use ir_printer_types::memory_type::put_memory_type;
 use ir_printer_types::name::put_name;
+use ir_types::{Kept, Module, Name, NamedType, Symbol, SymbolKind, TypeId, TypeName};
+use std::alloc::{AllocError, Global};
 
 // Whether a line at the head is that of a comdat.
 fn is_comdat(line: &Kept) -> bool

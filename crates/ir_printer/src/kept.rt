@@ -6,9 +6,9 @@ ghost use Rattle.text_lex.specs.Layout.{text_of, begins_quoted};
 ghost use Rattle.text_lex.specs.KeptText.{is_node, touches, between, kept_behind, kept_pieces, line_pieces};
 ghost use Rattle.ir_printer.specs.Print.{kept_then_blank, blank_then_kept, whole_line};
 
-use text_forms::is_one_of;
 use ir_types::Kept;
 use std::alloc::AllocError;
+use text_forms::is_one_of;
 
 // Whether a text is a `!`, and that behind it a string or a `{`.
 fn is_node(previous: &[u8], text: &[u8]) -> bool

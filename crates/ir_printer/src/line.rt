@@ -15,10 +15,10 @@ use crate::item::put_type_at;
 use crate::kept::{put_blank_then_kept, put_kept_behind};
 use crate::opening::put_opening;
 use crate::value::{put_listed, put_typed};
-use ir_types::{Inst, InstKind, Module, Names, Ty, TypeId, ValueId};
-use std::alloc::{AllocError, Global};
 use ir_printer_types::name::put_digits;
 use ir_printer_types::types::{put_local, put_type};
+use ir_types::{Inst, InstKind, Module, Names, Ty, TypeId, ValueId};
+use std::alloc::{AllocError, Global};
 
 // Appends a space and the memory type of a `getelementptr`, and a comma behind it.
 fn put_stepped_type(

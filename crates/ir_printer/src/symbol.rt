@@ -9,9 +9,9 @@ ghost use Rattle.ir_printer_types.specs.Pieces.{global_token};
 ghost use Rattle.ir_printer.specs.Print.{global_pieces};
 
 use crate::value::put_signed;
+use ir_printer_types::name::put_name;
 use ir_types::Module;
 use std::alloc::AllocError;
-use ir_printer_types::name::put_name;
 
 // Appends `@name` for a place in the list of symbols.
 fn put_symbol(out: &mut Vec<u8>, m: &Module, symbol: u32) -> Result<(), AllocError>

@@ -11,10 +11,10 @@ ghost use Rattle.ir_printer_types.specs.Pieces.{with_commas};
 ghost use Rattle.ir_printer.specs.Print.{comma_before, number_token, lane_pieces, lanes_pieces, operand_pieces, typed_operand, typed_pieces, each_typed, listed_pieces};
 
 use crate::symbol::put_global;
-use ir_types::{Module, Names, Operand, Ty};
-use std::alloc::AllocError;
 use ir_printer_types::name::put_digits;
 use ir_printer_types::types::{put_local, put_type};
+use ir_types::{Module, Names, Operand, Ty};
+use std::alloc::AllocError;
 
 /// Appends what parts the one at a place from those before it.
 pub(crate) fn put_comma(out: &mut Vec<u8>, place: usize) -> Result<(), AllocError>

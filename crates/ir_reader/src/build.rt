@@ -15,14 +15,14 @@ use crate::gather::Gathered;
 use crate::longs::{ItemLong, first_long};
 use crate::named::{named_types, names_of, set_types};
 use crate::symbols::{add_functions, symbol_names, variable_symbols, with_missing};
-use text_forms::{Cursor, SyntaxFault};
 use ir_limits::{LongNames, passed};
-use ir_types::{Function, Kept, MemTy, Module, Symbol};
 use ir_reader_items::{Definition, FunctionSource, Variable};
+use ir_reader_types::{TableParts, Tables, TypeNames};
+use ir_types::{Function, Kept, MemTy, Module, Symbol};
 use lists::Items;
 use std::alloc::{AllocError, Global};
+use text_forms::{Cursor, SyntaxFault};
 use text_lex::Count;
-use ir_reader_types::{TableParts, Tables, TypeNames};
 
 /// The types, their names, and the symbols of variables.
 #[derive(Drop)]

@@ -13,12 +13,12 @@ ghost use Rattle.ir_reader_types.specs.Uses.{InstsUse};
 ghost use Rattle.ir_reader.specs.Gathered.{skimmed_of};
 ghost use Rattle.ir_reader.specs.Reading.{function_read, functions_read};
 
-use text_forms::{Cursor, SyntaxFault};
 use ir_reader_functions::{declared, defined};
-use ir_types::Function;
 use ir_reader_items::FunctionSource;
-use std::alloc::Global;
 use ir_reader_types::Tables;
+use ir_types::Function;
+use std::alloc::Global;
+use text_forms::{Cursor, SyntaxFault};
 
 /// The function that stands there.
 fn function(

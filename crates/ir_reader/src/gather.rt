@@ -9,10 +9,10 @@ ghost use Rattle.ir_reader.specs.Gathered.{Holds};
 ghost use Rattle.ir_reader.specs.Reading.{GivesItems};
 
 use crate::longs::{ItemLong, long_in};
-use text_forms::{Cursor, SyntaxFault};
-use ir_types::Kept;
 use ir_reader_items::{Definition, FunctionSource, Part, Variable, begins_item, item};
+use ir_types::Kept;
 use std::alloc::{AllocError, Global};
+use text_forms::{Cursor, SyntaxFault};
 
 /// The items of a module by their kinds, each kind in the text's order.
 #[derive(Debug, Drop)]

@@ -20,9 +20,9 @@ mod symbols;
 
 use crate::build::{module, try_functions};
 use crate::gather::{Gathered, gather};
-use text_forms::{Cursor, SyntaxFault, Token};
 use ir_types::Module;
 use std::alloc::Global;
+use text_forms::{Cursor, SyntaxFault, Token};
 use text_lex::{Count, TEXT_LIMIT, TextFault, lex};
 
 /// The first fault in reading from left to right, where items were gathered up to these tokens: a function before them, or the one with

@@ -9,8 +9,8 @@ ghost use Rattle.ir_reader_items.specs.Parts.{item_of, nodes_of};
 ghost use Rattle.ir_reader.specs.Gathered.{long_of, long_among};
 
 use ir_limits::{LongNames, long_name, long_name_of_function};
-use ir_types::Function;
 use ir_reader_items::{Definition, Part};
+use ir_types::Function;
 
 /// What is known of an item's names before functions are read.
 #[derive(Clone, Copy, Debug)]

@@ -10,12 +10,12 @@ ghost use Rattle.ir_reader_items.specs.Parts.{nodes_of};
 ghost use Rattle.ir_reader.specs.Trees.{stands_for, defined_as};
 ghost use Rattle.ir_reader.specs.Typed.{LooksUpNames, Stands, Made, definition_uses, StandsBefore, with_types};
 
-use text_forms::SyntaxFault;
-use ir_types::{MemTy, NamedType, TypeId};
 use ir_reader_items::{Definition, TypeSource};
+use ir_reader_types::{TypeNames, memory_type};
+use ir_types::{MemTy, NamedType, TypeId};
 use lists::Copies;
 use std::alloc::{AllocError, Global};
-use ir_reader_types::{TypeNames, memory_type};
+use text_forms::SyntaxFault;
 
 /// The type that stands there.
 pub fn type_at(

@@ -11,11 +11,11 @@ ghost use Rattle.ir_reader.specs.Trees.{symbol_over, variable_symbol, function_s
 ghost use Rattle.ir_reader.specs.Typed.{LooksUpNames, Stands, Made, variable_uses};
 
 use crate::named::type_at;
-use ir_types::{FuncId, MemTy, Name, Symbol, SymbolKind};
 use ir_reader_items::{FunctionSource, Variable};
+use ir_reader_types::{SymbolNames, TypeNames};
+use ir_types::{FuncId, MemTy, Name, Symbol, SymbolKind};
 use lists::{Copies, Items, Texts};
 use std::alloc::{AllocError, Global};
-use ir_reader_types::{SymbolNames, TypeNames};
 
 /// The symbol of a variable.
 fn variable_symbol(

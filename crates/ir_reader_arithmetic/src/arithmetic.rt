@@ -7,11 +7,11 @@ ghost use Rattle.ir_types.specs.Grammar.{overflowing, possibly_exact, plain_bina
 ghost use Rattle.ir_reader_values.specs.Seen.{operand_seen, inst_seen, definitions, Widens, Stays, InstUses};
 
 use crate::words::predicate_of;
-use text_forms::{Cursor, SyntaxFault, TokenKind};
 use ir_making::{applied, binary, one_operand, three_operands, two_operands};
 use ir_reader_values::{Scope, one_flag, three_values, two_flags, typed_pair, typed_value};
 use ir_types::{BinOp, Flags, Inst, InstKind, Pred, Ty};
 use std::alloc::Global;
+use text_forms::{Cursor, SyntaxFault, TokenKind};
 
 static NO_FLAGS: Flags = Flags {
     nuw: false,

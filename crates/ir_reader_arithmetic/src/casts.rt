@@ -6,12 +6,12 @@ ghost use Rattle.text_forms.specs.Gives.{Gives, left};
 ghost use Rattle.ir_types.specs.Grammar.{to_type, trunc, zext, sext, ptrtoint};
 ghost use Rattle.ir_reader_values.specs.Seen.{operand_seen, inst_seen, definitions, Widens, Stays, InstUses};
 
-use text_forms::{Cursor, SyntaxFault};
 use ir_making::{applied, one_operand};
+use ir_reader_types::value_type;
 use ir_reader_values::{Scope, one_flag, pointer_value, two_flags, typed_value};
 use ir_types::{Inst, InstKind, Ty};
 use std::alloc::Global;
-use ir_reader_types::value_type;
+use text_forms::{Cursor, SyntaxFault};
 
 /// to T.
 fn to_type<'t>(tokens: Cursor<'t>) -> Result<(Ty, Cursor<'t>), SyntaxFault>

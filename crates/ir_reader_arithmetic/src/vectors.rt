@@ -6,11 +6,11 @@ ghost use Rattle.text_forms.specs.Gives.{Gives, left};
 ghost use Rattle.ir_types.specs.Grammar.{element_of, extractelement, insertelement, shuffled, shufflevector};
 ghost use Rattle.ir_reader_values.specs.Seen.{inst_seen, definitions, Widens, Stays, InstUses};
 
-use text_forms::{Cursor, SyntaxFault};
 use ir_making::{applied, three_operands, two_operands};
 use ir_reader_values::{Scope, comma_index, comma_typed, three_values, typed_value};
 use ir_types::{Inst, InstKind, Ty};
 use std::alloc::Global;
+use text_forms::{Cursor, SyntaxFault};
 
 /// The type of a vector's elements, and any other type itself.
 fn element_of(ty: Ty) -> Ty

@@ -4,8 +4,8 @@ ghost use Rattle.std.specs.Prelude.{◌≡◌};
 ghost use Rattle.text_forms.specs.Form.{entry};
 ghost use Rattle.ir_types.specs.Grammar.{predicates};
 
-use text_forms::find;
 use ir_types::Pred;
+use text_forms::find;
 
 static PREDICATES: [(&[u8], Pred); 10] = [
     (b"eq", Pred::Eq),

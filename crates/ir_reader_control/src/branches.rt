@@ -9,13 +9,13 @@ ghost use Rattle.ir_types.specs.Grammar.{after_mark, target, branch, return_tree
 ghost use Rattle.ir_reader_control.specs.Conditions.{conditional_read};
 ghost use Rattle.ir_reader_values.specs.Seen.{name_seen, operand_seen, inst_seen, definitions, Widens, Stays, InstUses};
 
-use text_forms::{Cursor, SyntaxFault, TokenKind};
 use ir_making::{applied, bare, one_label, one_operand, two_labels};
+use ir_reader_types::begins_type;
 use ir_reader_values::{Scope, local_id, typed_value, value_at};
 use ir_types::{Inst, InstKind, Ty, ValueId};
 use lists::Few;
 use std::alloc::Global;
-use ir_reader_types::begins_type;
+use text_forms::{Cursor, SyntaxFault, TokenKind};
 
 /// label %name.
 #[tactic(auto, unfolding(ir_types::specs::Grammar::target))]

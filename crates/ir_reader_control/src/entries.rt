@@ -11,12 +11,12 @@ ghost use Rattle.ir_reader_values.specs.Split.{split_each};
 ghost use Rattle.ir_reader_control.specs.Labelled.{entry_at, entry_in, entries_in};
 ghost use Rattle.ir_reader_values.specs.Seen.{inst_seen, definitions, Widens, Stays, OperandsUse, InstUses, operand_seen};
 
-use text_forms::{Cursor, SyntaxFault, TokenKind};
 use ir_making::{bare, one_label, one_operand};
+use ir_reader_types::value_type;
 use ir_reader_values::{Scope, comma_local, value_at};
 use ir_types::{Inst, InstKind, Labels, Operand, Operands, Ty, ValueId};
 use std::alloc::Global;
-use ir_reader_types::value_type;
+use text_forms::{Cursor, SyntaxFault, TokenKind};
 
 /// `[ V, %name ]` at a type.
 #[tactic(auto, using(crate::proofs::Labelled::entry_is))]

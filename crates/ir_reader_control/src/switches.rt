@@ -10,13 +10,13 @@ ghost use Rattle.ir_reader_control.specs.Labelled.{labels_in, case_at, case_in, 
 ghost use Rattle.ir_reader_values.specs.Seen.{name_seen, inst_seen, definitions, Widens, AreSteady, Stays, OperandsUse, InstUses, operand_seen};
 
 use crate::branches::comma_target;
-use text_forms::{Cursor, SyntaxFault, TokenKind};
 use ir_making::{bare, one_label, one_operand};
+use ir_reader_types::{begins_width, width};
 use ir_reader_values::{Scope, fits_width, index_value, number_at};
 use ir_types::{Inst, InstKind, Labels, Operand, Ty, ValueId};
 use lists::Items;
 use std::alloc::Global;
-use ir_reader_types::{begins_width, width};
+use text_forms::{Cursor, SyntaxFault, TokenKind};
 
 /// iN number, label %name, where the width is this: the number, whether it is out of range, and the label.
 #[tactic(auto, unfolding(ir_types::specs::Grammar::case_of_switch))]

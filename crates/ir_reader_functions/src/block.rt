@@ -14,12 +14,12 @@ ghost use Rattle.ir_reader_functions.specs.Blocks.{insts_in, block_seen, block_r
 
 use crate::line::{begins_line, line};
 use crate::numbering::{Numbering, scoped_id};
-use text_forms::{Cursor, SyntaxFault, TokenKind};
 use ir_reader_ops::{Place, Scope};
+use ir_reader_types::block_label;
 use ir_types::{Block, Inst, ValueId};
 use lists::Items;
 use std::alloc::Global;
-use ir_reader_types::block_label;
+use text_forms::{Cursor, SyntaxFault, TokenKind};
 
 /// No instructions, before the tokens. (A loop whose rest begins as a parameter isn't covered.)
 fn no_insts<'t>(alloc: Global, tokens: Cursor<'t>) -> (Vec<Inst>, Cursor<'t>)

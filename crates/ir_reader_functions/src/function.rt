@@ -23,13 +23,13 @@ use crate::block::block;
 use crate::line::begins_line;
 use crate::numbering::Numbering;
 use crate::param::{dotted_params, params};
-use text_forms::{Cursor, SyntaxFault, TokenKind};
 use ir_reader_ops::{Place, Scope, kept, kept_before, kept_behind};
+use ir_reader_types::{SymbolNames, Tables, TypeNames, global, return_type};
 use ir_types::{Block, Function, Names, Param};
 use lists::Items;
 use std::alloc::{AllocError, Global};
 use std::mem;
-use ir_reader_types::{SymbolNames, Tables, TypeNames, global, return_type};
+use text_forms::{Cursor, SyntaxFault, TokenKind};
 
 /// Whether a block stands next.
 #[tactic(auto, using(crate::proofs::Functions::block_begins))]

@@ -14,11 +14,11 @@ ghost use Rattle.ir_reader_ops.specs.Words.{form_at};
 ghost use Rattle.ir_reader_functions.specs.Lines.{tok, result_next, named_so, plainly};
 
 use crate::numbering::{Numbering, result_id, scoped_id};
-use text_forms::{Cursor, SyntaxFault, TokenKind};
 use ir_reader_ops::{Place, Scope, begins_instruction, inst_at};
+use ir_reader_types::name_behind;
 use ir_types::{Inst, Name, ValueId};
 use std::alloc::Global;
-use ir_reader_types::name_behind;
+use text_forms::{Cursor, SyntaxFault, TokenKind};
 
 /// The token of the result's name, and what is behind `%name =`, where that stands next.
 fn behind_result<'t>(tokens: Cursor<'t>) -> Option<(&'t [u8], Cursor<'t>)>

@@ -10,9 +10,9 @@ ghost use Rattle.ir_reader_values.specs.Seen.{name_seen, Widens, IsSteady};
 ghost use Rattle.ir_reader_functions.specs.View.{StaysAs};
 ghost use Rattle.ir_reader_functions.specs.Lines.{result_seen};
 
-use text_forms::{Cursor, SyntaxFault};
 use ir_reader_ops::Scope;
 use ir_types::{Name, Names, Ty, ValueId};
+use text_forms::{Cursor, SyntaxFault};
 
 /// How far a function's numbers are taken: the next one, 2^32 where none is left.
 #[derive(Drop)]

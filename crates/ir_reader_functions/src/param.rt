@@ -15,11 +15,11 @@ ghost use Rattle.ir_reader_functions.specs.View.{StaysNamed};
 ghost use Rattle.ir_reader_functions.specs.Functions.{params_in, dotted_in, numbered_dotted, some_dotted_read};
 
 use crate::numbering::{Numbering, named_id};
-use text_forms::{Cursor, SyntaxFault, TokenKind};
 use ir_reader_ops::{comma_dots, kept};
+use ir_reader_types::{begins_type, local, value_type};
 use ir_types::{Names, Param, ValueId};
 use std::alloc::Global;
-use ir_reader_types::{begins_type, local, value_type};
+use text_forms::{Cursor, SyntaxFault, TokenKind};
 
 /// The place of a parameter's name, which may be written behind what is kept.
 #[tactic(auto, unfolding(ir_types::specs::Grammar::local_name))]

@@ -11,9 +11,9 @@ ghost use Rattle.ir_reader_items.specs.Typed.{definition_read};
 
 use crate::part::{Definition, Part};
 use crate::passing::defined;
-use text_forms::{Cursor, SyntaxFault, TokenKind};
-use std::alloc::Global;
 use ir_reader_types::name_behind;
+use std::alloc::Global;
+use text_forms::{Cursor, SyntaxFault, TokenKind};
 
 /// The parts of a definition.
 fn parts<'t>(alloc: Global, tokens: Cursor<'t>) -> Result<(Part<'t>, Cursor<'t>), SyntaxFault>

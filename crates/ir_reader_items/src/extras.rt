@@ -12,11 +12,11 @@ ghost use Rattle.ir_types.specs.Grammar.{is_unsigned, extra_behind, extra, kept_
 ghost use Rattle.kept_runs.specs.Stopping.{stops_of};
 ghost use Rattle.ir_reader_items.specs.Extras.{with_extra, nothing_seen, kept_onto};
 
-use text_forms::{Cursor, SyntaxFault, TokenKind};
 use ir_types::{Extra, Kept};
 use kept_runs::{Stops, keep, keep_attachment, keep_up_to, keep_word};
 use lists::Texts;
 use std::alloc::Global;
+use text_forms::{Cursor, SyntaxFault, TokenKind};
 
 static STOP_KINDS: [TokenKind; 1] = [TokenKind::Comma];
 

@@ -16,9 +16,9 @@ use crate::part::Part;
 use crate::passing::function_source;
 use crate::variable::variable;
 use crate::words::item_word;
-use text_forms::{Cursor, SyntaxFault, TokenKind};
 use ir_types::ItemWord;
 use std::alloc::Global;
+use text_forms::{Cursor, SyntaxFault, TokenKind};
 
 /// Whether a token of this kind and `=` are next.
 fn begins_named(tokens: Cursor<'_>, kind: TokenKind) -> bool

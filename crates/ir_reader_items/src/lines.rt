@@ -9,11 +9,11 @@ ghost use Rattle.text_forms.specs.Reading.{read};
 ghost use Rattle.text_forms.specs.declared.TokenKind.TheVariants.{Word};
 ghost use Rattle.ir_types.specs.Grammar.{equal_string, target_line, attribute_group, comdat, metadata};
 
-use text_forms::{Cursor, SyntaxFault, TokenKind};
 use ir_types::Kept;
 use kept_runs::{keep, keep_braces, keep_word};
 use lists::Texts;
 use std::alloc::Global;
+use text_forms::{Cursor, SyntaxFault, TokenKind};
 
 /// Keeps `=` and a string.
 fn keep_equal_string<'t>(tokens: Cursor<'t>, texts: &mut Texts) -> Result<Cursor<'t>, SyntaxFault>

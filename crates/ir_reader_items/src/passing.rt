@@ -13,13 +13,13 @@ ghost use Rattle.ir_reader_items.specs.Passed.{outline_name, signature_passed};
 ghost use Rattle.ir_reader_items.specs.Typed.{defined_read};
 
 use crate::source::{FunctionSource, TypeSource};
-use text_forms::{Cursor, SyntaxFault};
 use ir_limits::long_name;
+use ir_reader_types::{TypeNames, global, memory_type, return_type};
 use ir_reader_values::{kept, kept_before, kept_behind};
 use ir_types::{Name, TypeName};
 use kept_runs::{pass_braces, pass_parens};
 use std::alloc::Global;
-use ir_reader_types::{TypeNames, global, memory_type, return_type};
+use text_forms::{Cursor, SyntaxFault};
 
 /// The bytes of the first of the names that has too many.
 fn first_long(names: &[TypeName]) -> Option<u64>

@@ -6,8 +6,8 @@ ghost use Rattle.ir_types.specs.TypeNodes.{names_used};
 ghost use Rattle.ir_limits.specs.Limits.{first_long};
 ghost use Rattle.ir_reader_items.specs.Sources.{type_read, nodes_read, outline_there, outline_read};
 
-use text_forms::Cursor;
 use ir_types::Name;
+use text_forms::Cursor;
 
 /// A place where a memory type stands.
 #[derive(Clone, Copy, Debug)]

@@ -12,10 +12,10 @@ ghost use Rattle.ir_reader_items.specs.Typed.{variable_read};
 use crate::extras::kept_behind_type;
 use crate::part::{Part, Variable};
 use crate::passing::type_source;
-use text_forms::{Cursor, SyntaxFault, TokenKind};
+use ir_reader_types::name_behind;
 use ir_reader_values::kept;
 use std::alloc::Global;
-use ir_reader_types::name_behind;
+use text_forms::{Cursor, SyntaxFault, TokenKind};
 
 /// `global` or `constant`: whether the variable may be written.
 #[tactic(auto, unfolding(ir_types::specs::Grammar::variable_word))]

@@ -4,8 +4,8 @@ ghost use Rattle.std.specs.Prelude.{◌≡◌};
 ghost use Rattle.text_forms.specs.Form.{entry};
 ghost use Rattle.ir_types.specs.Grammar.{item_words};
 
-use text_forms::find;
 use ir_types::ItemWord;
+use text_forms::find;
 
 static ITEMS: [(&[u8], ItemWord); 5] = [
     (b"source_filename", ItemWord::SourceFilename),

@@ -13,13 +13,13 @@ ghost use Rattle.ir_reader_values.specs.Split.{as_two};
 ghost use Rattle.ir_reader_memory.specs.Calls.{actual_in, actuals_in, some_arguments_read, arguments_read, call_read};
 
 use crate::signature::signature;
-use text_forms::{Cursor, SyntaxFault, TokenKind};
 use ir_making::{applied, one_operand};
+use ir_reader_types::{begins_type, global, return_type, value_type};
 use ir_reader_values::{Scope, kept, value_at};
 use ir_types::{Actual, Callee, Inst, InstKind, Operand, Operands, TailKind};
 use lists::{Few, Items};
 use std::alloc::Global;
-use ir_reader_types::{begins_type, global, return_type, value_type};
+use text_forms::{Cursor, SyntaxFault, TokenKind};
 
 /// T K V.
 #[tactic(auto, using(crate::proofs::Callees::argument_is))]

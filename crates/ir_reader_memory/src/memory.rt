@@ -10,12 +10,12 @@ ghost use Rattle.ir_types.specs.Grammar.{alignment_of, alignment, align_or, load
 ghost use Rattle.ir_reader_memory.specs.Alignments.{written_alignment};
 ghost use Rattle.ir_reader_values.specs.Seen.{inst_seen, definitions, Widens, Stays, InstUses};
 
-use text_forms::{Cursor, SyntaxFault, TokenKind};
 use ir_making::{applied, one_operand, two_operands};
+use ir_reader_types::value_type;
 use ir_reader_values::{Scope, comma_pointer, saturated_number_of, typed_value};
 use ir_types::{Inst, InstKind, Ty};
 use std::alloc::Global;
-use ir_reader_types::value_type;
+use text_forms::{Cursor, SyntaxFault, TokenKind};
 
 /// The alignment that is written so: digits without a sign, for a number of at most 64 bits.
 fn alignment_of(digits: &[u8]) -> Option<u64>

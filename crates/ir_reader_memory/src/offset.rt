@@ -9,13 +9,13 @@ ghost use Rattle.ir_reader_values.specs.Seen.{operand_seen, inst_seen, definitio
 ghost use Rattle.ir_reader_values.specs.View.{typed_in};
 ghost use Rattle.ir_reader_memory.specs.Offsets.{next_index, steps_in, indexes_read, steps_read};
 
-use text_forms::{Cursor, SyntaxFault, TokenKind};
 use ir_making::{applied, one_operand};
+use ir_reader_types::begins_width;
 use ir_reader_values::{Scope, comma_pointer, index_value, memory, three_flags};
 use ir_types::{Inst, InstKind, Operand, Operands, Ty};
 use lists::Items;
 use std::alloc::Global;
-use ir_reader_types::begins_width;
+use text_forms::{Cursor, SyntaxFault, TokenKind};
 
 /// iN V behind a comma.
 fn next_index<'t>(

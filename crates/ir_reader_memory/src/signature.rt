@@ -8,11 +8,11 @@ ghost use Rattle.text_forms.specs.Gives.{Gives, left, mark};
 ghost use Rattle.ir_types.specs.Grammar.{value_type, commas, marked, dotted, dotted_list, signature};
 
 use crate::dots::comma_dots;
-use text_forms::{Cursor, SyntaxFault, TokenKind};
+use ir_reader_types::{begins_type, value_type};
 use ir_types::{Signature, Ty};
 use lists::Items;
 use std::alloc::Global;
-use ir_reader_types::{begins_type, value_type};
+use text_forms::{Cursor, SyntaxFault, TokenKind};
 
 /// A type behind a comma.
 fn comma_type<'t>(tokens: Cursor<'t>) -> Result<(Ty, Cursor<'t>), SyntaxFault>

@@ -11,7 +11,6 @@ ghost use Rattle.std.specs.List.{list_any};
 ghost use Rattle.ir_reader_ops.specs.Words.{is_outside, attached_to, bare_terminator, form_at, instruction};
 
 use crate::words::{operation_of, terminator_of};
-use text_forms::{Cursor, SyntaxFault, TokenKind};
 use ir_making::applied;
 use ir_reader_arithmetic::{
     comparison, extract, freeze, insert, or_operation, overflowing, plain_binary, possibly_exact,
@@ -24,6 +23,7 @@ use ir_types::{Inst, InstKind, Operand, Operation, Terminator, Ty};
 use kept_runs::keep_comma_attachments;
 use lists::{Few, Texts};
 use std::alloc::Global;
+use text_forms::{Cursor, SyntaxFault, TokenKind};
 
 /// Where an instruction stands in its block.
 #[derive(Clone, Copy, Debug)]

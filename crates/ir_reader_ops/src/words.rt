@@ -4,8 +4,8 @@ ghost use Rattle.std.specs.Prelude.{◌≡◌};
 ghost use Rattle.text_forms.specs.Form.{entry};
 ghost use Rattle.ir_types.specs.Grammar.{operation_words, terminator_words};
 
-use text_forms::find;
 use ir_types::{BinOp, Operation, TailKind, Terminator};
+use text_forms::find;
 
 static OPERATIONS: [(&[u8], Operation); 31] = [
     (b"add", Operation::Overflowing(BinOp::Add)),

@@ -19,10 +19,10 @@ use crate::names::local;
 use crate::numbers::number_of_64_bits;
 use crate::type_names::TypeNames;
 use crate::types::{begins_type, value_type};
-use text_forms::{Around, Cursor, SyntaxFault, TokenKind};
 use ir_types::MemTy;
 use lists::Items;
 use std::alloc::Global;
+use text_forms::{Around, Cursor, SyntaxFault, TokenKind};
 
 /// The beginning of a memory type.
 #[derive(Debug, Drop)]

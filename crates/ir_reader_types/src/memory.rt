@@ -17,9 +17,9 @@ ghost use Rattle.ir_reader_types.specs.Frames.{innermost, goes_on, Holds, Looked
 use crate::heads::{Begun, head, next};
 use crate::stack::Stack;
 use crate::type_names::TypeNames;
-use text_forms::{Around, Cursor, SyntaxFault};
 use ir_types::{MemTy, TypeId};
 use std::alloc::{AllocError, Global};
+use text_forms::{Around, Cursor, SyntaxFault};
 
 /// Adds a type at the end of the list: its place.
 fn add_type(types: &mut Vec<MemTy>, ty: MemTy) -> Result<TypeId, AllocError>

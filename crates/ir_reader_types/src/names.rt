@@ -7,10 +7,10 @@ ghost use Rattle.ir_types.specs.Written.{numbered_name, number_of, name_of, name
 ghost use Rattle.ir_types.specs.Grammar.{local_name, global_name, label};
 
 use crate::numbers::number_of_32_bits;
-use text_forms::{Cursor, SyntaxFault, TokenKind, unescaped, without_last};
 use ir_types::Name;
 use lists::Text;
 use std::alloc::{AllocError, Global};
+use text_forms::{Cursor, SyntaxFault, TokenKind, unescaped, without_last};
 
 /// The name that is a number of 32 bits.
 fn numbered_name(digits: &[u8]) -> Option<Name>

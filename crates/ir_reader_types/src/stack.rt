@@ -2,11 +2,11 @@
 
 ghost use Rattle.std.specs.Prelude.{◌≡◌, ◌<◌, ◌≤◌, ◌-◌, ◌∷◌, ◌++◌, [], length, take, drop, IfOk, OnOk, OnErr};
 
-use text_forms::Around;
 use ir_types::{MemTy, TypeId};
 use lists::Items;
 use std::alloc::{AllocError, Global};
 use std::marker::Model;
+use text_forms::Around;
 
 /// An array with the number of its elements, or a struct, packed or not, with the number of its members so far.
 #[derive(Clone, Copy, Debug)]

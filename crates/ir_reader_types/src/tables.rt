@@ -21,12 +21,12 @@ ghost use Rattle.ir_reader_types.specs.Uses.{Uses};
 use crate::memory::memory_type;
 use crate::symbol_names::SymbolNames;
 use crate::type_names::TypeNames;
-use text_forms::{Cursor, SyntaxFault};
 use ir_sizes::{Index, Steps, extents_behind, extents_of, offset, steps_behind, steps_of};
 use ir_types::{Extent, MemTy, Name, TypeId, TypeName};
 use lists::Items;
 use std::alloc::{AllocError, Global};
 use std::marker::Model;
+use text_forms::{Cursor, SyntaxFault};
 
 /// The names of symbols, of which some are defined or declared and the others only used, the names of types, the types and their extents.
 #[derive(Drop, Debug)]

@@ -10,8 +10,8 @@ ghost use Rattle.ir_types.specs.Grammar.{behind, width, width_of, lane_counts, l
 ghost use Rattle.ir_reader_types.specs.Vectors.{vector_read};
 
 use crate::numbers::number_of_32_bits;
-use text_forms::{Cursor, SyntaxFault, TokenKind};
 use ir_types::Ty;
+use text_forms::{Cursor, SyntaxFault, TokenKind};
 
 /// iN.
 #[tactic(auto, unfolding(ir_types::specs::Grammar::width))]

@@ -15,11 +15,11 @@ ghost use Rattle.ir_reader_values.specs.View.{index_in, HasWidth, written_in, Ar
 use crate::flags::three_flags;
 use crate::scope::Scope;
 use crate::value::Written;
-use text_forms::{Cursor, SyntaxFault, TokenKind};
+use ir_reader_types::{global, width};
 use ir_types::TypeId;
 use lists::Items;
 use std::alloc::Global;
-use ir_reader_types::{global, width};
+use text_forms::{Cursor, SyntaxFault, TokenKind};
 
 /// An index as it is written.
 #[derive(Clone, Copy, Debug)]

@@ -7,11 +7,11 @@ ghost use Rattle.text_forms.specs.Nested.{joined};
 ghost use Rattle.text_forms.specs.Reading.{read};
 ghost use Rattle.ir_types.specs.Grammar.{excluded_words, kept};
 
-use text_forms::{Cursor, SyntaxFault};
 use ir_types::Kept;
 use kept_runs::{keep_attachments, keep_run};
 use lists::Texts;
 use std::alloc::Global;
+use text_forms::{Cursor, SyntaxFault};
 
 // The words that no kept run has outside parentheses, but for `align` and `cc`, behind which a number may stand.
 static EXCLUDED_WORDS: [&[u8]; 120] = [

@@ -7,11 +7,11 @@ ghost use Rattle.text_forms.specs.Gives.{Gives, left};
 ghost use Rattle.ir_types.specs.Grammar.{lane, typed_lane, commas, marked, between};
 ghost use Rattle.ir_reader_values.specs.View.{lane_in, typed_lane_in, lanes_in};
 
-use text_forms::{Cursor, SyntaxFault, TokenKind};
+use ir_reader_types::{begins_type, value_type};
 use ir_types::Ty;
 use lists::Items;
 use std::alloc::Global;
-use ir_reader_types::{begins_type, value_type};
+use text_forms::{Cursor, SyntaxFault, TokenKind};
 
 /// A constant lane as it is written.
 #[derive(Clone, Copy, Debug)]

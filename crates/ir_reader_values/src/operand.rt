@@ -22,11 +22,11 @@ use crate::lanes::Lane;
 use crate::numbers::{fits_width, number_at};
 use crate::scope::Scope;
 use crate::value::{Written, written_value};
-use text_forms::{Cursor, SyntaxFault};
 use ir_sizes::Index;
 use ir_types::{Operand, Ty, TypeId};
 use lists::Items;
 use std::alloc::{AllocError, Global};
+use text_forms::{Cursor, SyntaxFault};
 
 /// The number of a lane of so many bits, none where it is poison.
 fn lane_at(width: u32, lane: Lane<'_>) -> Option<u64>

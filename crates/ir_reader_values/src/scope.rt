@@ -1,7 +1,7 @@
 // What places in a function stand for, while it is read.
 
-use ir_types::Names;
 use ir_reader_types::Tables;
+use ir_types::Names;
 
 /// The names of a function, and the tables of its module.
 #[derive(Drop, Debug)]

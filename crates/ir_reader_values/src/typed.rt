@@ -11,10 +11,10 @@ ghost use Rattle.ir_reader_values.specs.View.{typed_in, pair_in, three_in};
 
 use crate::operand::value_at;
 use crate::scope::Scope;
-use text_forms::{Cursor, SyntaxFault, TokenKind};
+use ir_reader_types::{value_type, width};
 use ir_types::{Operand, Ty};
 use std::alloc::Global;
-use ir_reader_types::{value_type, width};
+use text_forms::{Cursor, SyntaxFault, TokenKind};
 
 /// Three operands, each behind its type.
 pub type ThreeValues = ((Ty, Operand), ((Ty, Operand), (Ty, Operand)));

@@ -12,11 +12,11 @@ ghost use Rattle.ir_reader_values.specs.View.{written_in, AreIndexed, WrittenUse
 use crate::constant::{WrittenIndex, constant_offset, symbol};
 use crate::lanes::{Lane, lane_in_parens, lane_list};
 use crate::scope::Scope;
-use text_forms::{Cursor, SyntaxFault, TokenKind};
+use ir_reader_types::local;
 use ir_types::{Ty, TypeId, ValueId};
 use lists::Items;
 use std::alloc::Global;
-use ir_reader_types::local;
+use text_forms::{Cursor, SyntaxFault, TokenKind};
 
 /// A value as it is written.
 #[derive(Debug, Drop)]

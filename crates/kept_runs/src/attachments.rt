@@ -11,9 +11,9 @@ ghost use Rattle.text_forms.specs.Reading.{read, opens};
 
 use crate::enclosed::keep_braces;
 use crate::tokens::keep;
-use text_forms::{Cursor, SyntaxFault, TokenKind};
 use lists::Texts;
 use std::alloc::Global;
+use text_forms::{Cursor, SyntaxFault, TokenKind};
 
 /// Whether the text is `!` and digits.
 fn is_numbered(text: &[u8]) -> bool

@@ -4,9 +4,9 @@ ghost use Rattle.std.specs.Prelude.{◌≡◌, [], IfOk, Some, None, if◌then�
 ghost use Rattle.text_forms.specs.Form.{closer, is_closer, closed, step, is_empty};
 ghost use Rattle.text_forms.specs.Reading.{ends};
 
-use text_forms::TokenKind;
 use std::alloc::{AllocError, Global};
 use std::marker::Model;
+use text_forms::TokenKind;
 
 /// The kinds of tokens that are awaited, each of which closes what an earlier token opened.
 #[derive(Drop)]

@@ -8,9 +8,9 @@ ghost use Rattle.text_forms.specs.Reading.{read, read_inside};
 ghost use Rattle.kept_runs.specs.Texts.{with_texts};
 
 use crate::awaited::Awaited;
-use text_forms::{Cursor, SyntaxFault, TokenKind};
 use lists::Texts;
 use std::alloc::Global;
+use text_forms::{Cursor, SyntaxFault, TokenKind};
 
 /// Keeps what stands up to the token of this kind that closes, with that one.
 fn keep_inside<'t>(

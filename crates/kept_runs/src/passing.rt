@@ -8,8 +8,8 @@ ghost use Rattle.text_forms.specs.Reading.{read, read_inside};
 ghost use Rattle.kept_runs.specs.Passed.{passed};
 
 use crate::awaited::Awaited;
-use text_forms::{Cursor, SyntaxFault, TokenKind};
 use std::alloc::Global;
+use text_forms::{Cursor, SyntaxFault, TokenKind};
 
 /// What is behind the token of this kind that closes.
 fn pass_inside<'t>(

@@ -11,9 +11,9 @@ ghost use Rattle.text_forms.specs.Reading.{read, opens};
 
 use crate::enclosed::keep_parens;
 use crate::tokens::{keep, keep_word};
-use text_forms::{Cursor, SyntaxFault, TokenKind, is_one_of};
 use lists::Texts;
 use std::alloc::Global;
+use text_forms::{Cursor, SyntaxFault, TokenKind, is_one_of};
 
 /// Keeps a balanced list in parentheses, or nothing.
 fn perhaps_parens<'t>(

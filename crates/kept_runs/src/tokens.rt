@@ -6,8 +6,8 @@ ghost use Rattle.text_forms.specs.Kept.{kept_one, kept_token};
 ghost use Rattle.text_forms.specs.Machine.{behind};
 ghost use Rattle.text_forms.specs.Reading.{read};
 
-use text_forms::{Cursor, SyntaxFault, TokenKind};
 use lists::Texts;
+use text_forms::{Cursor, SyntaxFault, TokenKind};
 
 /// Keeps a token of this kind.
 ///

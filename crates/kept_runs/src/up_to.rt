@@ -8,9 +8,9 @@ ghost use Rattle.text_forms.specs.Reading.{read};
 ghost use Rattle.kept_runs.specs.Stopping.{stops_of};
 
 use crate::awaited::Awaited;
-use text_forms::{Cursor, SyntaxFault, TokenKind, is_one_of};
 use lists::Texts;
 use std::alloc::Global;
+use text_forms::{Cursor, SyntaxFault, TokenKind, is_one_of};
 
 /// Where a run ends, outside brackets.
 #[derive(Clone, Copy, Debug)]

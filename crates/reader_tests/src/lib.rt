@@ -2,18 +2,18 @@
 #![tactic(auto)]
 
 #[cfg(test)]
-mod of_ir_reader_functions;
-#[cfg(test)]
 mod of_ir_limits;
 #[cfg(test)]
 mod of_ir_printer;
 #[cfg(test)]
-mod of_ir_reader;
-#[cfg(test)]
-mod of_ir_sizes;
-#[cfg(test)]
 mod of_ir_printer_types;
 #[cfg(test)]
+mod of_ir_reader;
+#[cfg(test)]
+mod of_ir_reader_functions;
+#[cfg(test)]
 mod of_ir_reader_types;
+#[cfg(test)]
+mod of_ir_sizes;
 #[cfg(test)]
 mod shared;

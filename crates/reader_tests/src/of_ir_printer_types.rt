@@ -1,13 +1,13 @@
 // Texts of names and types.
 
 use crate::shared::{at, name};
-use ir_types::{Name, Ty};
-use std::test::Fail;
-use text_lex::lex;
 use ir_printer_types::memory_type::put_memory_type;
 use ir_printer_types::name::put_name;
 use ir_printer_types::types::put_type;
 use ir_reader_types::{TypeNames, memory_type};
+use ir_types::{Name, Ty};
+use std::test::Fail;
+use text_lex::lex;
 
 #[test]
 fn names(rt: HostRuntime) -> Result<(), Fail> {

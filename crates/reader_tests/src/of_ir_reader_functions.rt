@@ -1,15 +1,15 @@
 // Each public call once, and instructions of all forms.
 
 use crate::shared::at;
-use text_forms::SyntaxFault;
 use ir_reader_functions::{declared, defined};
 use ir_reader_ops::{Scope, read_inst};
+use ir_reader_types::{SymbolNames, Tables, TypeNames};
 use ir_types::Names;
 use lists::Texts;
 use std::alloc::{AllocError, Global};
 use std::test::Fail;
+use text_forms::SyntaxFault;
 use text_lex::{Token, lex};
-use ir_reader_types::{SymbolNames, Tables, TypeNames};
 
 /// Whether so many texts are kept, the last of which is this one.
 fn ends(texts: &Texts, count: usize, last: &[u8]) -> bool {

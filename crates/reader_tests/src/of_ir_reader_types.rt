@@ -1,15 +1,15 @@
 // Each public call once.
 
 use crate::shared::{at, name};
-use text_forms::SyntaxFault;
-use ir_types::{MemTy, Name, NamedType, Ty, TypeId, TypeName};
-use std::test::Fail;
-use text_lex::lex;
 use ir_reader_types::{
     SymbolNames, TypeNames, begins_memory_type, begins_type, block_label, global, local,
     memory_type, name_before, name_behind, number_of_32_bits, number_of_64_bits, return_type,
     skip_type, value_type,
 };
+use ir_types::{MemTy, Name, NamedType, Ty, TypeId, TypeName};
+use std::test::Fail;
+use text_forms::SyntaxFault;
+use text_lex::lex;
 
 #[test]
 fn reads_numbers(rt: HostRuntime) {

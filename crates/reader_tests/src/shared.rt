@@ -1,9 +1,9 @@
 // What several tests make.
 
-use text_forms::{Cursor, Token};
 use ir_types::Name;
 use lists::Text;
 use std::alloc::{AllocError, Global};
+use text_forms::{Cursor, Token};
 
 /// A text's first token.
 pub fn at<'t>(text: &'t [u8], tokens: &'t [Token]) -> Cursor<'t> {

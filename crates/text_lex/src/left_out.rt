@@ -11,9 +11,9 @@ ghost use Rattle.text_lex.specs.Scan.{IsWithin};
 
 use crate::TEXT_LIMIT;
 use crate::fault::TextFault;
-use text_forms::{Token, TokenKind, is_one_of, unescaped, without_last};
 use lists::Text;
 use std::alloc::{AllocError, Global};
+use text_forms::{Token, TokenKind, is_one_of, unescaped, without_last};
 
 /// Words of types, constants, instructions and attributes.
 static WORDS: [&[u8]; 62] = [

@@ -5,11 +5,11 @@ ghost use Rattle.ir_types.specs.declared.name.Name.{Name};
 ghost use Rattle.vplanc.specs.Answers.{function_text, subject_text, breach_text, IsCheckStatus};
 
 use crate::answer::Status;
+use ir_printer_types::name::put_name;
 use ir_rules::{Breach, CheckFault, Subject};
 use ir_types::Name;
 use lists::Text;
 use std::alloc::{AllocError, Global};
-use ir_printer_types::name::put_name;
 
 // The function's name, or a dash.
 fn put_function(out: &mut Vec<u8>, function: &Option<Name>) -> Result<(), AllocError>
