@@ -1,7 +1,7 @@
 // Symbols whose names have a meaning.
 
 ghost use Rattle.std.specs.Prelude.{◌≡◌, filter_map, IfOk};
-ghost use Rattle.ir_types.specs.Grammar as grammar;
+ghost use Rattle.ir_types.specs.InstForms as grammar;
 ghost use Rattle.ir_rules.specs.Breaches.{first};
 ghost use Rattle.ir_intrinsics.specs.Means.{meant_in};
 ghost use Rattle.ir_check_calls.specs.Heads.{has_signature_of, may_mean_of, means_rightly_of, misdeclared_of};

@@ -8,7 +8,7 @@ use Rattle.ir_types.specs.declared.call.Callee.{Callee}
 use Rattle.ir_types.specs.Names.{same_name}
 use Rattle.ir_types.specs.Kinds.{Kind, Binary, Compare, Phi, Call, Jump, Branch, Return, ReturnVoid, operand_types, actual_types}
 use Rattle.ir_types.specs.Tree.{OperandTree, local, number, null, poison, lanes, global, out_of_range, InstTree, BlockTree, ParamTree, FunctionTree, ModuleTree}
-use Rattle.ir_types.specs.Grammar.{width_of}
+use Rattle.ir_types.specs.ValueForms.{width_of}
 use Rattle.ir_intrinsics.specs.Intrinsics.{meant_by}
 use Rattle.ir_meaning.specs.declared.value.Pointer.{Pointer}
 use Rattle.ir_meaning.specs.declared.value.Value.{Value}

@@ -16,7 +16,7 @@ use Rattle.text_forms.proofs.Begins.{test}
 use Rattle.text_forms.proofs.Tokens.{is_text}
 use Rattle.text_lex.specs.KeptText.{token_of, IsToken}
 use Rattle.ir_types.specs.Tree.{KeptTexts}
-use Rattle.ir_types.specs.Grammar.{equal_string, target_line, attribute_group, comdat, metadata}
+use Rattle.ir_types.specs.ItemForms.{equal_string, target_line, attribute_group, comdat, metadata}
 use Rattle.ir_shape.specs.Shape.{IsKept, head_form, attributes_form}
 use Rattle.ir_printer_types.specs.Pieces.{token}
 use Rattle.ir_printer.specs.Print.{begins_comdat, is_comdat}

@@ -11,7 +11,8 @@ use Rattle.ir_types.specs.declared.inst.Ty.{Ty}
 use Rattle.ir_types.specs.declared.inst.Ty.TheVariants.{Int, Ptr, Vector}
 use Rattle.ir_types.specs.Offsets.{Definitions}
 use Rattle.ir_types.specs.Tree.{OperandTree, local, number, null, poison, lanes, global, out_of_range}
-use Rattle.ir_types.specs.Grammar.{WrittenLane, lane_digits, lane_true, lane_false, lane_poison, lane, typed_lane, WrittenValue, named, digits, yes, no, null_word, poison_word, lane_list, symbol, stepped, constant_word, value, width_of, lane_at, lane_fits, is_int, operand_at, typed_value, pointer_value, index_value}
+use Rattle.ir_types.specs.ValueForms.{WrittenLane, lane_digits, lane_true, lane_false, lane_poison, lane, typed_lane, WrittenValue, named, digits, yes, no, null_word, poison_word, lane_list, symbol, stepped, constant_word, value, width_of, lane_at, lane_fits, is_int, operand_at}
+use Rattle.ir_types.specs.InstParts.{typed_value, pointer_value, index_value}
 use Rattle.ir_shape.specs.Shape.{IsName, IsOneOf, widths, IsType, IsBelow, IsLane, IsOperand, IsTyped}
 use Rattle.ir_printer_types.specs.Texts.{signed_text}
 use Rattle.ir_printer_types.specs.Pieces.{word, greater, type_pieces}

@@ -7,7 +7,7 @@ use Rattle.text_forms.specs.Lexical.{kind_of, table}
 use Rattle.text_lex.specs.Layout.{lexeme, closed}
 use Rattle.ir_types.specs.declared.name.Name.{Name}
 use Rattle.ir_types.specs.declared.inst.Ty.{Ty}
-use Rattle.ir_types.specs.Grammar.{local_name, global_name, width, value_type, return_type}
+use Rattle.ir_types.specs.TypeForms.{local_name, global_name, width, value_type, return_type}
 use Rattle.ir_shape.specs.Shape.{IsName, IsOneOf, widths, IsType, IsReturnType, IsBelow}
 use Rattle.ir_printer_types.specs.Texts.{signed_text}
 use Rattle.ir_printer_types.specs.Pieces.{token, word, local_token, global_token, width_word, type_pieces}

@@ -3,7 +3,7 @@
 ghost use Rattle.std.specs.Prelude.{◌≡◌, ◌<◌, ◌≤◌, ◌^◌, ◌++◌, ◌∷◌, [], map, length, OnOk};
 ghost use Rattle.std.specs.List.{AllByRecursion, AllZip};
 ghost use Rattle.text_lex.specs.Layout.{text_of};
-ghost use Rattle.ir_types.specs.Grammar.{width_of};
+ghost use Rattle.ir_types.specs.ValueForms.{width_of};
 ghost use Rattle.ir_types.specs.Denotes.{name_in, tables_of, operand_in};
 ghost use Rattle.ir_shape.specs.Shape.{IsName, IsType, IsLane, IsOperand, IsTyped};
 ghost use Rattle.ir_printer_types.specs.Texts.{signed_text};

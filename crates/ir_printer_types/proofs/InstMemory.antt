@@ -2,7 +2,7 @@
 use Rattle.std.proofs.Common.{List, length, arith}
 use Rattle.text_lex.specs.Layout.{Piece, tokens_of, closed}
 use Rattle.ir_types.specs.TypeNodes.{TypeNode}
-use Rattle.ir_types.specs.Grammar.{memory_type, inst_memory}
+use Rattle.ir_types.specs.TypeForms.{memory_type, inst_memory}
 use Rattle.ir_shape.specs.Shape.{IsMemory}
 use Rattle.ir_shape.proofs.InstMemory.{as_inst_memory}
 use Rattle.ir_printer_types.specs.MemoryPieces.{node_pieces}

@@ -14,7 +14,7 @@ use Rattle.text_lex.proofs.Decimals.{decimal_digits, number_of-decimal}
 use Rattle.text_lex.proofs.Layouts.{tokens_of-append}
 use Rattle.ir_types.specs.Written.{number_of}
 use Rattle.ir_types.specs.TypeNodes.{TypeNode, array, opening, closing}
-use Rattle.ir_types.specs.Grammar.{elements_of, memory_leaf, array_begin, type_parts, memory_type}
+use Rattle.ir_types.specs.TypeForms.{elements_of, memory_leaf, array_begin, type_parts, memory_type}
 use Rattle.ir_printer_types.specs.Pieces.{token, comma, blank, right_bracket, each_behind}
 use Rattle.ir_printer_types.specs.MemoryPieces as pieces_of
 use Rattle.ir_printer_types.specs.MemoryPieces.{array_head, array_pieces, struct_pieces}

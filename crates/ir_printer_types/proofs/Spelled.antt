@@ -12,7 +12,8 @@ use Rattle.ir_types.specs.declared.name.Name.{Name}
 use Rattle.ir_types.specs.declared.inst.Ty.{Ty}
 use Rattle.ir_types.specs.declared.inst.Ty.TheVariants.{Int, Ptr, Vector, Void}
 use Rattle.ir_types.specs.Written.{number_of}
-use Rattle.ir_types.specs.Grammar.{local_name, global_name, label, width, lane_counts, lanes_of, vector_type, value_type, return_type}
+use Rattle.ir_types.specs.Types.{lane_counts}
+use Rattle.ir_types.specs.TypeForms.{local_name, global_name, label, width, lanes_of, vector_type, value_type, return_type}
 use Rattle.ir_shape.specs.Shape.{IsName, IsOneOf, widths, IsType, IsReturnType}
 use Rattle.ir_shape.proofs.Among.{of_each}
 use Rattle.ir_printer_types.specs.Pieces.{token, local_token, global_token, label_token, width_word, type_pieces}

@@ -2,7 +2,7 @@
 use Rattle.std.proofs.Common.{◌≤◌, ◌<◌, ℕ, lit<, lit≤}
 use Rattle.ir_types.specs.declared.inst.Ty.{Ty}
 use Rattle.ir_types.specs.declared.inst.Ty.TheVariants.{Int, Ptr, Vector, Void}
-use Rattle.ir_types.specs.Grammar.{width_of}
+use Rattle.ir_types.specs.ValueForms.{width_of}
 use Rattle.ir_shape.specs.Shape.{IsOneOf, widths, IsType}
 use Rattle.ir_shape.proofs.Among.{of_each}
 

@@ -6,7 +6,9 @@ use Rattle.text_forms.specs.Reading.{read}
 use Rattle.ir_types.specs.declared.inst.Ty.{Ty}
 use Rattle.ir_types.specs.Offsets.{Definitions}
 use Rattle.ir_types.specs.Tree.{OperandTree}
-use Rattle.ir_types.specs.Grammar.{after_mark, typed_value, comma_typed, index_value, extract_tree, extractelement, insert_tree, insertelement}
+use Rattle.text_forms.specs.Combined.{after_mark}
+use Rattle.ir_types.specs.InstParts.{typed_value, comma_typed, index_value}
+use Rattle.ir_types.specs.InstForms.{extract_tree, extractelement, insert_tree, insertelement}
 
 -- an index behind a comma
 abbrev pub index_behind : Definitions → Form (ℕ × OperandTree)

@@ -3,7 +3,7 @@
 ghost use Rattle.std.specs.Prelude.{◌≡◌, List, IfOk};
 ghost use Rattle.text_forms.specs.Reading.{read};
 ghost use Rattle.text_forms.specs.Gives.{Gives, left};
-ghost use Rattle.ir_types.specs.Grammar.{overflowing, possibly_exact, plain_binary, or_operation, compared, compare, bits_for, select, freeze};
+ghost use Rattle.ir_types.specs.InstForms.{overflowing, possibly_exact, plain_binary, or_operation, compared, compare, bits_for, select, freeze};
 ghost use Rattle.ir_reader_values.specs.Seen.{operand_seen, inst_seen, definitions, Widens, Stays, InstUses};
 
 use crate::words::predicate_of;
@@ -21,7 +21,7 @@ static NO_FLAGS: Flags = Flags {
 };
 
 /// [nuw] [nsw] T V, V.
-#[tactic(auto, unfolding(ir_types::specs::Grammar::overflowing))]
+#[tactic(auto, unfolding(ir_types::specs::InstForms::overflowing))]
 pub fn overflowing<'t>(
     alloc: Global,
     operator: BinOp,
@@ -45,7 +45,7 @@ pub fn overflowing<'t>(
 }
 
 /// [exact] T V, V.
-#[tactic(auto, unfolding(ir_types::specs::Grammar::possibly_exact))]
+#[tactic(auto, unfolding(ir_types::specs::InstForms::possibly_exact))]
 pub fn possibly_exact<'t>(
     alloc: Global,
     operator: BinOp,
@@ -65,7 +65,7 @@ pub fn possibly_exact<'t>(
 }
 
 /// T V, V behind a word that takes no flags.
-#[tactic(auto, unfolding(ir_types::specs::Grammar::plain_binary))]
+#[tactic(auto, unfolding(ir_types::specs::InstForms::plain_binary))]
 pub fn plain_binary<'t>(
     alloc: Global,
     operator: BinOp,
@@ -83,7 +83,7 @@ pub fn plain_binary<'t>(
 }
 
 /// [disjoint] T V, V.
-#[tactic(auto, unfolding(ir_types::specs::Grammar::or_operation))]
+#[tactic(auto, unfolding(ir_types::specs::InstForms::or_operation))]
 pub fn or_operation<'t>(
     alloc: Global,
     tokens: Cursor<'t>,
@@ -115,7 +115,7 @@ fn bits_for(ty: Ty) -> Ty
 }
 
 /// T V, V behind the predicate.
-#[tactic(auto, unfolding(ir_types::specs::Grammar::compared))]
+#[tactic(auto, unfolding(ir_types::specs::InstForms::compared))]
 fn compared<'t>(
     alloc: Global,
     predicate: Pred,
@@ -134,7 +134,7 @@ fn compared<'t>(
 }
 
 /// pred T V, V.
-#[tactic(auto, unfolding(ir_types::specs::Grammar::compare))]
+#[tactic(auto, unfolding(ir_types::specs::InstForms::compare))]
 pub fn comparison<'t>(
     alloc: Global,
     tokens: Cursor<'t>,
@@ -153,7 +153,7 @@ pub fn comparison<'t>(
 }
 
 /// T V, T V, T V: a condition and two arms.
-#[tactic(auto, unfolding(ir_types::specs::Grammar::select))]
+#[tactic(auto, unfolding(ir_types::specs::InstForms::select))]
 pub fn selection<'t>(
     alloc: Global,
     tokens: Cursor<'t>,
@@ -172,7 +172,7 @@ pub fn selection<'t>(
 }
 
 /// T V.
-#[tactic(auto, unfolding(ir_types::specs::Grammar::freeze))]
+#[tactic(auto, unfolding(ir_types::specs::InstForms::freeze))]
 pub fn freeze<'t>(
     alloc: Global,
     tokens: Cursor<'t>,

@@ -3,7 +3,8 @@
 ghost use Rattle.std.specs.Prelude.{◌≡◌, List, IfOk};
 ghost use Rattle.text_forms.specs.Reading.{read};
 ghost use Rattle.text_forms.specs.Gives.{Gives, left};
-ghost use Rattle.ir_types.specs.Grammar.{to_type, trunc, zext, sext, ptrtoint};
+ghost use Rattle.ir_types.specs.InstParts.{to_type};
+ghost use Rattle.ir_types.specs.InstForms.{trunc, zext, sext, ptrtoint};
 ghost use Rattle.ir_reader_values.specs.Seen.{operand_seen, inst_seen, definitions, Widens, Stays, InstUses};
 
 use ir_making::{applied, one_operand};
@@ -23,7 +24,7 @@ fn to_type<'t>(tokens: Cursor<'t>) -> Result<(Ty, Cursor<'t>), SyntaxFault>
 }
 
 /// [nuw] [nsw] T V to T.
-#[tactic(auto, unfolding(ir_types::specs::Grammar::trunc))]
+#[tactic(auto, unfolding(ir_types::specs::InstForms::trunc))]
 pub fn trunc<'t>(
     alloc: Global,
     tokens: Cursor<'t>,
@@ -43,7 +44,7 @@ pub fn trunc<'t>(
 }
 
 /// [nneg] T V to T.
-#[tactic(auto, unfolding(ir_types::specs::Grammar::zext))]
+#[tactic(auto, unfolding(ir_types::specs::InstForms::zext))]
 pub fn zext<'t>(
     alloc: Global,
     tokens: Cursor<'t>,
@@ -62,7 +63,7 @@ pub fn zext<'t>(
 }
 
 /// T V to T.
-#[tactic(auto, unfolding(ir_types::specs::Grammar::sext))]
+#[tactic(auto, unfolding(ir_types::specs::InstForms::sext))]
 pub fn sext<'t>(
     alloc: Global,
     tokens: Cursor<'t>,
@@ -80,7 +81,7 @@ pub fn sext<'t>(
 }
 
 /// ptr V to T.
-#[tactic(auto, unfolding(ir_types::specs::Grammar::ptrtoint))]
+#[tactic(auto, unfolding(ir_types::specs::InstForms::ptrtoint))]
 pub fn ptrtoint<'t>(
     alloc: Global,
     tokens: Cursor<'t>,

@@ -3,7 +3,7 @@
 ghost use Rattle.std.specs.Prelude.{◌≡◌, List, IfOk};
 ghost use Rattle.text_forms.specs.Reading.{read};
 ghost use Rattle.text_forms.specs.Gives.{Gives, left};
-ghost use Rattle.ir_types.specs.Grammar.{element_of, extractelement, insertelement, shuffled, shufflevector};
+ghost use Rattle.ir_types.specs.InstForms.{element_of, extractelement, insertelement, shuffled, shufflevector};
 ghost use Rattle.ir_reader_values.specs.Seen.{inst_seen, definitions, Widens, Stays, InstUses};
 
 use ir_making::{applied, three_operands, two_operands};
@@ -23,7 +23,7 @@ fn element_of(ty: Ty) -> Ty
 }
 
 /// T V, iN V.
-#[tactic(auto, unfolding(ir_types::specs::Grammar::extractelement))]
+#[tactic(auto, unfolding(ir_types::specs::InstForms::extractelement))]
 pub fn extract<'t>(
     alloc: Global,
     tokens: Cursor<'t>,
@@ -42,7 +42,7 @@ pub fn extract<'t>(
 }
 
 /// T V, T V, iN V.
-#[tactic(auto, unfolding(ir_types::specs::Grammar::insertelement))]
+#[tactic(auto, unfolding(ir_types::specs::InstForms::insertelement))]
 pub fn insert<'t>(
     alloc: Global,
     tokens: Cursor<'t>,
@@ -72,7 +72,7 @@ fn shuffled(ty: Ty, mask: Ty) -> Ty
 }
 
 /// T V, T V, T V: two vectors and a mask.
-#[tactic(auto, unfolding(ir_types::specs::Grammar::shufflevector))]
+#[tactic(auto, unfolding(ir_types::specs::InstForms::shufflevector))]
 pub fn shuffle<'t>(
     alloc: Global,
     tokens: Cursor<'t>,

@@ -10,7 +10,10 @@ use Rattle.ir_types.specs.declared.inst.Ty.TheVariants.{Int, Void}
 use Rattle.ir_types.specs.Kinds.{Branch}
 use Rattle.ir_types.specs.Offsets.{Definitions}
 use Rattle.ir_types.specs.Tree.{OperandTree, InstTree}
-use Rattle.ir_types.specs.Grammar.{operand_at, bare_inst, value, after_mark, target, branch_tree, branch}
+use Rattle.text_forms.specs.Combined.{after_mark}
+use Rattle.ir_types.specs.ValueForms.{operand_at, value}
+use Rattle.ir_types.specs.InstParts.{target}
+use Rattle.ir_types.specs.InstForms.{bare_inst, branch_tree, branch}
 use Rattle.ir_reader_control.specs.Conditions.{conditional_read}
 use Rattle.ir_reader_values.specs.Operands.{value_read}
 use Rattle.ir_reader_values.proofs.Chains.{alike, chained}

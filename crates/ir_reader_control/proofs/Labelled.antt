@@ -14,7 +14,11 @@ use Rattle.ir_types.specs.Kinds as kinds
 use Rattle.ir_types.specs.Offsets.{Definitions}
 use Rattle.ir_types.specs.Tree.{OperandTree, InstTree}
 use Rattle.ir_types.specs.Written.{number_at}
-use Rattle.ir_types.specs.Grammar.{WrittenValue, operand_at, entries_at, cases_at, index_fits, if_wide, bare_inst, width, value_type, value, index_value, after_mark, between, target, commas, local_name, entry_of_phi, phi_tree, phi, case_of_switch, switch_tree, switch}
+use Rattle.text_forms.specs.Combined.{after_mark, between, commas}
+use Rattle.ir_types.specs.TypeForms.{width, value_type, local_name}
+use Rattle.ir_types.specs.ValueForms.{WrittenValue, operand_at, index_fits, value}
+use Rattle.ir_types.specs.InstParts.{index_value, target}
+use Rattle.ir_types.specs.InstForms.{entries_at, cases_at, if_wide, bare_inst, entry_of_phi, phi_tree, phi, case_of_switch, switch_tree, switch}
 use Rattle.ir_reader_values.specs.Split.{split_each, gathered}
 use Rattle.ir_reader_control.specs.Labelled.{entry_at, entry_read, phi_read, case_at, cases_behind, cases_read, switch_read}
 use Rattle.ir_reader_values.proofs.Chains.{alike, first_apart, chained, then_made, completed_alike, between_is}

@@ -5,7 +5,9 @@ ghost use Rattle.text_forms.specs.declared.TokenKind.TheVariants.{Comma};
 ghost use Rattle.text_forms.specs.Form.{mapped};
 ghost use Rattle.text_forms.specs.Reading.{read};
 ghost use Rattle.text_forms.specs.Gives.{Gives, left};
-ghost use Rattle.ir_types.specs.Grammar.{after_mark, target, branch, return_tree, typed_value, ret};
+ghost use Rattle.text_forms.specs.Combined.{after_mark};
+ghost use Rattle.ir_types.specs.InstParts.{target, typed_value};
+ghost use Rattle.ir_types.specs.InstForms.{branch, return_tree, ret};
 ghost use Rattle.ir_reader_control.specs.Conditions.{conditional_read};
 ghost use Rattle.ir_reader_values.specs.Seen.{name_seen, operand_seen, inst_seen, definitions, Widens, Stays, InstUses};
 
@@ -18,7 +20,7 @@ use std::alloc::Global;
 use text_forms::{Cursor, SyntaxFault, TokenKind};
 
 /// label %name.
-#[tactic(auto, unfolding(ir_types::specs::Grammar::target))]
+#[tactic(auto, unfolding(ir_types::specs::InstParts::target))]
 fn target<'t>(
     alloc: Global,
     tokens: Cursor<'t>,
@@ -70,7 +72,7 @@ fn conditional<'t>(
 }
 
 /// label %name | i1 V, label %name, label %name.
-#[tactic(auto, unfolding(ir_types::specs::Grammar::branch, ir_types::specs::Grammar::target))]
+#[tactic(auto, unfolding(ir_types::specs::InstForms::branch, ir_types::specs::InstParts::target))]
 pub fn branch<'t>(
     alloc: Global,
     tokens: Cursor<'t>,
@@ -108,7 +110,7 @@ fn returned_value<'t>(
 }
 
 /// T V | void.
-#[tactic(auto, unfolding(ir_types::specs::Grammar::ret, ir_types::specs::Grammar::typed_value, ir_types::specs::Grammar::value_type, ir_types::specs::Grammar::vector_type, ir_types::specs::Grammar::width))]
+#[tactic(auto, unfolding(ir_types::specs::InstForms::ret, ir_types::specs::InstParts::typed_value, ir_types::specs::TypeForms::value_type, ir_types::specs::TypeForms::vector_type, ir_types::specs::TypeForms::width))]
 pub fn give_back<'t>(
     alloc: Global,
     tokens: Cursor<'t>,

@@ -6,7 +6,8 @@ ghost use Rattle.text_forms.specs.Reading.{read, opens};
 ghost use Rattle.text_forms.specs.Walk.{completed};
 ghost use Rattle.text_forms.specs.Gives.{Gives, left};
 ghost use Rattle.ir_types.specs.Types.{IsType};
-ghost use Rattle.ir_types.specs.Grammar.{entry_of_phi, commas, marked, phi};
+ghost use Rattle.text_forms.specs.Combined.{commas, marked};
+ghost use Rattle.ir_types.specs.InstForms.{entry_of_phi, phi};
 ghost use Rattle.ir_reader_values.specs.Split.{split_each};
 ghost use Rattle.ir_reader_control.specs.Labelled.{entry_at, entry_in, entries_in};
 ghost use Rattle.ir_reader_values.specs.Seen.{inst_seen, definitions, Widens, Stays, OperandsUse, InstUses, operand_seen};
@@ -58,7 +59,7 @@ fn comma_entry<'t>(
 }
 
 /// Whether a comma and an entry stand next.
-#[tactic(auto, unfolding(ir_types::specs::Grammar::entry_of_phi))]
+#[tactic(auto, unfolding(ir_types::specs::InstForms::entry_of_phi))]
 fn another(tokens: Cursor<'_>) -> bool
     ensures { result ≡ opens (marked Comma entry_of_phi) (left tokens.entry) }
 {

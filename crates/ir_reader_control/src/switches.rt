@@ -5,7 +5,7 @@ ghost use Rattle.text_forms.specs.Reading.{read, opens};
 ghost use Rattle.text_forms.specs.Walk.{completed};
 ghost use Rattle.text_forms.specs.Gives.{Gives, left};
 ghost use Rattle.ir_types.specs.Types.{IsOneOf, widths};
-ghost use Rattle.ir_types.specs.Grammar.{case_of_switch, switch};
+ghost use Rattle.ir_types.specs.InstForms.{case_of_switch, switch};
 ghost use Rattle.ir_reader_control.specs.Labelled.{labels_in, case_at, case_in, cases_in, cases_read, switch_head, head_in};
 ghost use Rattle.ir_reader_values.specs.Seen.{name_seen, inst_seen, definitions, Widens, AreSteady, Stays, OperandsUse, InstUses, operand_seen};
 
@@ -19,7 +19,7 @@ use std::alloc::Global;
 use text_forms::{Cursor, SyntaxFault, TokenKind};
 
 /// iN number, label %name, where the width is this: the number, whether it is out of range, and the label.
-#[tactic(auto, unfolding(ir_types::specs::Grammar::case_of_switch))]
+#[tactic(auto, unfolding(ir_types::specs::InstForms::case_of_switch))]
 fn case<'t>(
     alloc: Global,
     bits: u32,
@@ -44,7 +44,7 @@ fn case<'t>(
 }
 
 /// Whether a case stands next.
-#[tactic(auto, unfolding(ir_types::specs::Grammar::case_of_switch, ir_types::specs::Grammar::width))]
+#[tactic(auto, unfolding(ir_types::specs::InstForms::case_of_switch, ir_types::specs::TypeForms::width))]
 fn begins_case(tokens: Cursor<'_>) -> bool
     ensures { result ≡ opens case_of_switch (left tokens.entry) }
 {

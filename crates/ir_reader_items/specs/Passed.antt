@@ -6,7 +6,8 @@ use Rattle.text_forms.specs.Reading.{◌>>=◌, read}
 use Rattle.text_forms.specs.Kept.{attachments}
 use Rattle.text_forms.specs.Nested.{joined}
 use Rattle.ir_types.specs.declared.name.Name.{Name}
-use Rattle.ir_types.specs.Grammar.{return_type, global_name, kept}
+use Rattle.ir_types.specs.TypeForms.{return_type, global_name}
+use Rattle.ir_types.specs.Words.{kept}
 use Rattle.ir_types.specs.Skimmed.{Outline}
 use Rattle.kept_runs.specs.Passed.{passed}
 

@@ -4,11 +4,11 @@ ghost use Rattle.std.specs.Prelude.{◌≡◌, codes};
 ghost use Rattle.text_forms.specs.declared.TokenKind.TheVariants.{LeftParen, RightParen, Quoted, Number, Word, Comdat};
 ghost use Rattle.text_forms.specs.Form.{made, many};
 ghost use Rattle.text_forms.specs.Gives.{Gives, left};
-ghost use Rattle.text_forms.specs.Kept.{kept_one, kept_token, kept_such, perhaps};
+ghost use Rattle.text_forms.specs.Kept.{kept_one, kept_token, kept_such, perhaps, is_unsigned};
 ghost use Rattle.text_forms.specs.Machine.{behind};
 ghost use Rattle.text_forms.specs.Nested.{joined};
 ghost use Rattle.text_forms.specs.Reading.{read, opens};
-ghost use Rattle.ir_types.specs.Grammar.{is_unsigned, extra_behind, extra, kept_once, initialiser_stops, behind_type};
+ghost use Rattle.ir_types.specs.ItemForms.{extra_behind, extra, kept_once, initialiser_stops, behind_type};
 ghost use Rattle.kept_runs.specs.Stopping.{stops_of};
 ghost use Rattle.ir_reader_items.specs.Extras.{with_extra, nothing_seen, kept_onto};
 
@@ -137,7 +137,7 @@ fn keep_alignment<'t>(tokens: Cursor<'t>, texts: &mut Texts) -> Result<Cursor<'t
 }
 
 /// Keeps what may stand behind a comma.
-#[tactic(auto, unfolding(ir_types::specs::Grammar::extra_behind))]
+#[tactic(auto, unfolding(ir_types::specs::ItemForms::extra_behind))]
 fn keep_behind_comma<'t>(
     alloc: Global,
     tokens: Cursor<'t>,
@@ -174,7 +174,7 @@ fn keep_extra<'t>(
 }
 
 /// Whether what may stand behind a comma is next.
-#[tactic(auto, unfolding(ir_types::specs::Grammar::extra_behind, text_forms::specs::Kept::attachment))]
+#[tactic(auto, unfolding(ir_types::specs::ItemForms::extra_behind, text_forms::specs::Kept::attachment))]
 fn begins_behind_comma(tokens: Cursor<'_>) -> bool
     ensures { result ≡ opens extra_behind (left tokens.entry) }
 {
@@ -185,7 +185,7 @@ fn begins_behind_comma(tokens: Cursor<'_>) -> bool
 }
 
 /// Whether a comma and what may stand behind it are next.
-#[tactic(auto, unfolding(ir_types::specs::Grammar::extra_behind, text_forms::specs::Kept::attachment))]
+#[tactic(auto, unfolding(ir_types::specs::ItemForms::extra_behind, text_forms::specs::Kept::attachment))]
 fn begins_extra(tokens: Cursor<'_>) -> bool
     ensures { result ≡ opens extra (left tokens.entry) }
 {
@@ -217,7 +217,7 @@ fn keep_extras<'t>(
 }
 
 /// Where an initialiser ends.
-#[tactic(auto, unfolding(ir_types::specs::Grammar::initialiser_stops, ir_types::specs::Grammar::item_words))]
+#[tactic(auto, unfolding(ir_types::specs::ItemForms::initialiser_stops, ir_types::specs::Words::item_words))]
 fn initialiser_stops() -> Stops<'static>
     ensures { stops_of result ≡ initialiser_stops }
 {
@@ -229,7 +229,7 @@ fn initialiser_stops() -> Stops<'static>
 }
 
 /// The initialiser and what stands behind it.
-#[tactic(auto, unfolding(ir_types::specs::Grammar::behind_type))]
+#[tactic(auto, unfolding(ir_types::specs::ItemForms::behind_type))]
 pub fn kept_behind_type<'t>(
     alloc: Global,
     tokens: Cursor<'t>,

@@ -6,7 +6,9 @@ ghost use Rattle.text_forms.specs.Form.{by_word, mapped};
 ghost use Rattle.text_forms.specs.Gives.{Gives, left};
 ghost use Rattle.text_forms.specs.Reading.{read, opens, next_in, mark_then, any_of};
 ghost use Rattle.ir_types.specs.Tree.{comdat_line, metadata_line};
-ghost use Rattle.ir_types.specs.Grammar.{memory_type, item_words, comdat, metadata};
+ghost use Rattle.ir_types.specs.TypeForms.{memory_type};
+ghost use Rattle.ir_types.specs.Words.{item_words};
+ghost use Rattle.ir_types.specs.ItemForms.{comdat, metadata};
 ghost use Rattle.ir_types.specs.Skimmed.{as_it_is, skimmed_behind, skimmed_item};
 ghost use Rattle.ir_reader_items.specs.Parts.{item_of};
 
@@ -54,7 +56,7 @@ pub fn begins_item(tokens: Cursor<'_>) -> bool
 }
 
 /// What is behind the word of an item.
-#[tactic(auto, unfolding(ir_types::specs::Grammar::target_line, ir_types::specs::Grammar::attribute_group))]
+#[tactic(auto, unfolding(ir_types::specs::ItemForms::target_line, ir_types::specs::ItemForms::attribute_group))]
 fn behind_word<'t>(
     alloc: Global,
     tokens: Cursor<'t>,

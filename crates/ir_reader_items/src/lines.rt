@@ -7,7 +7,7 @@ ghost use Rattle.text_forms.specs.Kept.{perhaps, kept_token};
 ghost use Rattle.text_forms.specs.Machine.{behind};
 ghost use Rattle.text_forms.specs.Reading.{read};
 ghost use Rattle.text_forms.specs.declared.TokenKind.TheVariants.{Word};
-ghost use Rattle.ir_types.specs.Grammar.{equal_string, target_line, attribute_group, comdat, metadata};
+ghost use Rattle.ir_types.specs.ItemForms.{equal_string, target_line, attribute_group, comdat, metadata};
 
 use ir_types::Kept;
 use kept_runs::{keep, keep_braces, keep_word};
@@ -47,7 +47,7 @@ fn keep_subject<'t>(tokens: Cursor<'t>, texts: &mut Texts) -> Result<Cursor<'t>,
 }
 
 /// A line about the target, behind its word.
-#[tactic(auto, unfolding(ir_types::specs::Grammar::target_line))]
+#[tactic(auto, unfolding(ir_types::specs::ItemForms::target_line))]
 pub fn target<'t>(alloc: Global, tokens: Cursor<'t>) -> Result<(Kept, Cursor<'t>), SyntaxFault>
     ensures { Gives (λ x. (x.0, left x.1)) result (read (mapped (λ xs. codes "target" ∷ xs) target_line) (left tokens.entry)) }
 {
@@ -59,7 +59,7 @@ pub fn target<'t>(alloc: Global, tokens: Cursor<'t>) -> Result<(Kept, Cursor<'t>
 }
 
 /// A group of attributes, behind its word.
-#[tactic(auto, unfolding(ir_types::specs::Grammar::attribute_group))]
+#[tactic(auto, unfolding(ir_types::specs::ItemForms::attribute_group))]
 pub fn attributes<'t>(alloc: Global, tokens: Cursor<'t>) -> Result<(Kept, Cursor<'t>), SyntaxFault>
     ensures { Gives (λ x. (x.0, left x.1)) result (read (mapped (λ xs. codes "attributes" ∷ xs) attribute_group) (left tokens.entry)) }
 {
@@ -72,7 +72,7 @@ pub fn attributes<'t>(alloc: Global, tokens: Cursor<'t>) -> Result<(Kept, Cursor
 }
 
 /// A comdat.
-#[tactic(auto, unfolding(ir_types::specs::Grammar::comdat))]
+#[tactic(auto, unfolding(ir_types::specs::ItemForms::comdat))]
 pub fn comdat<'t>(alloc: Global, tokens: Cursor<'t>) -> Result<(Kept, Cursor<'t>), SyntaxFault>
     ensures { Gives (λ x. (x.0, left x.1)) result (read comdat (left tokens.entry)) }
 {
@@ -95,7 +95,7 @@ fn keep_distinct<'t>(tokens: Cursor<'t>, texts: &mut Texts) -> Result<Cursor<'t>
 }
 
 /// Metadata.
-#[tactic(auto, unfolding(ir_types::specs::Grammar::metadata))]
+#[tactic(auto, unfolding(ir_types::specs::ItemForms::metadata))]
 pub fn metadata<'t>(alloc: Global, tokens: Cursor<'t>) -> Result<(Kept, Cursor<'t>), SyntaxFault>
     ensures { Gives (λ x. (x.0, left x.1)) result (read metadata (left tokens.entry)) }
 {

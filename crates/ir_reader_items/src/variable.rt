@@ -4,7 +4,8 @@ ghost use Rattle.std.specs.Prelude.{◌≡◌, ◌≤◌, ℕ, length};
 ghost use Rattle.text_forms.specs.Form.{mapped};
 ghost use Rattle.text_forms.specs.Gives.{Gives, left};
 ghost use Rattle.text_forms.specs.Reading.{read};
-ghost use Rattle.ir_types.specs.Grammar.{memory_type, variable_word, variable_definition};
+ghost use Rattle.ir_types.specs.TypeForms.{memory_type};
+ghost use Rattle.ir_types.specs.ItemForms.{variable_word, variable_definition};
 ghost use Rattle.ir_types.specs.Skimmed.{as_it_is};
 ghost use Rattle.ir_reader_items.specs.Parts.{item_of};
 ghost use Rattle.ir_reader_items.specs.Typed.{variable_read};
@@ -18,7 +19,7 @@ use std::alloc::Global;
 use text_forms::{Cursor, SyntaxFault, TokenKind};
 
 /// `global` or `constant`: whether the variable may be written.
-#[tactic(auto, unfolding(ir_types::specs::Grammar::variable_word))]
+#[tactic(auto, unfolding(ir_types::specs::ItemForms::variable_word))]
 fn writable<'t>(tokens: Cursor<'t>) -> Result<(bool, Cursor<'t>), SyntaxFault>
     ensures { Gives (λ x. (x.0, left x.1)) result (read variable_word (left tokens.entry)) }
 {

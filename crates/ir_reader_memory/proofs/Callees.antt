@@ -12,7 +12,11 @@ use Rattle.ir_types.specs.declared.call.TailKind.{TailKind}
 use Rattle.ir_types.specs.Kinds.{Call}
 use Rattle.ir_types.specs.Offsets.{Definitions}
 use Rattle.ir_types.specs.Tree.{KeptTexts, OperandTree, InstTree}
-use Rattle.ir_types.specs.Grammar.{operand_at, actual_at, bare_inst, value_type, vector_type, width, value, return_type, global_name, kept, signature, argument, between, commas, list, or_none, call_tree, call}
+use Rattle.text_forms.specs.Combined.{between, commas, list, or_none}
+use Rattle.ir_types.specs.TypeForms.{value_type, vector_type, width, return_type, global_name}
+use Rattle.ir_types.specs.ValueForms.{operand_at, value}
+use Rattle.ir_types.specs.Words.{kept}
+use Rattle.ir_types.specs.InstForms.{actual_at, bare_inst, signature, argument, call_tree, call}
 use Rattle.ir_reader_values.specs.Split.{split_each}
 use Rattle.ir_reader_values.specs.Split.{as_two}
 use Rattle.ir_reader_memory.specs.Calls.{argument_read, arguments_read, call_read}

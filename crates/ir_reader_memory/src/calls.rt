@@ -6,7 +6,8 @@ ghost use Rattle.text_forms.specs.Reading.{read, opens};
 ghost use Rattle.text_forms.specs.Walk.{completed};
 ghost use Rattle.text_forms.specs.Gives.{Gives, left};
 ghost use Rattle.ir_types.specs.Offsets.{Definitions};
-ghost use Rattle.ir_types.specs.Grammar.{argument, marked, list, call, call_behind};
+ghost use Rattle.text_forms.specs.Combined.{marked, list};
+ghost use Rattle.ir_types.specs.InstForms.{argument, call, call_behind};
 ghost use Rattle.ir_reader_values.specs.Seen.{operand_seen, inst_seen, definitions, Widens, Stays, OperandsUse, InstUses};
 ghost use Rattle.ir_reader_values.specs.Split.{split_each};
 ghost use Rattle.ir_reader_values.specs.Split.{as_two};
@@ -56,7 +57,7 @@ fn comma_argument<'t>(
 }
 
 /// Whether a comma and an argument stand next.
-#[tactic(auto, unfolding(ir_types::specs::Grammar::argument, ir_types::specs::Grammar::value_type, ir_types::specs::Grammar::vector_type, ir_types::specs::Grammar::width))]
+#[tactic(auto, unfolding(ir_types::specs::InstForms::argument, ir_types::specs::TypeForms::value_type, ir_types::specs::TypeForms::vector_type, ir_types::specs::TypeForms::width))]
 fn another(tokens: Cursor<'_>) -> bool
     ensures { (defs : Definitions) → result ≡ opens (marked Comma (argument defs)) (left tokens.entry) }
 {

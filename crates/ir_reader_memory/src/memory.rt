@@ -6,7 +6,8 @@ ghost use Rattle.text_forms.specs.Reading.{read, opens};
 ghost use Rattle.text_forms.specs.Gives.{Gives, left};
 ghost use Rattle.ir_types.specs.Sizes.{value_size};
 ghost use Rattle.ir_types.specs.Types.{IsType};
-ghost use Rattle.ir_types.specs.Grammar.{alignment_of, alignment, align_or, load, store};
+ghost use Rattle.ir_types.specs.InstParts.{alignment_of, alignment, align_or};
+ghost use Rattle.ir_types.specs.InstForms.{load, store};
 ghost use Rattle.ir_reader_memory.specs.Alignments.{written_alignment};
 ghost use Rattle.ir_reader_values.specs.Seen.{inst_seen, definitions, Widens, Stays, InstUses};
 
@@ -52,7 +53,7 @@ fn begins_alignment(tokens: Cursor<'_>) -> bool
 }
 
 /// [, align n].
-#[tactic(auto, unfolding(ir_types::specs::Grammar::alignment))]
+#[tactic(auto, unfolding(ir_types::specs::InstParts::alignment))]
 fn alignment<'t>(tokens: Cursor<'t>) -> Result<(Option<u64>, Cursor<'t>), SyntaxFault>
     ensures { Gives (λ x. (x.0, left x.1)) result (read alignment (left tokens.entry)) }
 {
@@ -88,7 +89,7 @@ fn align_or(ty: Ty, written: Option<u64>) -> u64
 }
 
 /// T, ptr V [, align n].
-#[tactic(auto, unfolding(ir_types::specs::Grammar::load))]
+#[tactic(auto, unfolding(ir_types::specs::InstForms::load))]
 pub fn load<'t>(
     alloc: Global,
     tokens: Cursor<'t>,
@@ -108,7 +109,7 @@ pub fn load<'t>(
 }
 
 /// T V, ptr V [, align n].
-#[tactic(auto, unfolding(ir_types::specs::Grammar::store))]
+#[tactic(auto, unfolding(ir_types::specs::InstForms::store))]
 pub fn store<'t>(
     alloc: Global,
     tokens: Cursor<'t>,

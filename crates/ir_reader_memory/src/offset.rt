@@ -4,7 +4,7 @@ ghost use Rattle.std.specs.Prelude.{◌≡◌, map, IfOk, ◌∷◌, []};
 ghost use Rattle.text_forms.specs.Reading.{read, opens};
 ghost use Rattle.text_forms.specs.Gives.{Gives, left};
 ghost use Rattle.ir_types.specs.Offsets.{Definitions};
-ghost use Rattle.ir_types.specs.Grammar.{getelementptr};
+ghost use Rattle.ir_types.specs.InstForms.{getelementptr};
 ghost use Rattle.ir_reader_values.specs.Seen.{operand_seen, inst_seen, definitions, Widens, AreSteady, Stays, OperandsUse, InstUses};
 ghost use Rattle.ir_reader_values.specs.View.{typed_in};
 ghost use Rattle.ir_reader_memory.specs.Offsets.{next_index, steps_in, indexes_read, steps_read};
@@ -34,7 +34,7 @@ fn next_index<'t>(
 }
 
 /// Whether a comma and an index stand next.
-#[tactic(auto, unfolding(ir_types::specs::Grammar::index_value, ir_types::specs::Grammar::width))]
+#[tactic(auto, unfolding(ir_types::specs::InstParts::index_value, ir_types::specs::TypeForms::width))]
 fn another(tokens: Cursor<'_>) -> bool
     ensures { (defs : Definitions) → result ≡ opens (next_index defs) (left tokens.entry) }
 {

@@ -7,7 +7,7 @@ use Rattle.ir_types.specs.declared.inst.Operand.{Operand}
 use Rattle.ir_types.specs.declared.inst.Operand.TheVariants.{Local, Int, Null, Poison, Lanes, Global, OutOfRange}
 use Rattle.ir_types.specs.declared.inst.Inst.{Inst}
 use Rattle.ir_types.specs.Tree.{KeptTexts, InstTree}
-use Rattle.ir_types.specs.Grammar.{inst_attachments, is_out_of_range, with_kept, attached}
+use Rattle.ir_types.specs.InstForms.{inst_attachments, is_out_of_range, with_kept, attached}
 use Rattle.ir_reader_values.specs.declared.scope.Scope.{Scope}
 use Rattle.ir_reader_values.specs.Seen.{operand_seen, inst_seen, IsSteady}
 use Rattle.ir_reader_ops.specs.Words.{is_outside, attached_to}

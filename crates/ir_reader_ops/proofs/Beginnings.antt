@@ -7,7 +7,8 @@ use Rattle.text_forms.specs.Form.{Lexeme, kind_code, entry}
 use Rattle.text_forms.specs.Reading.{Terminal, this, fits, fits_one, next_in, opens, words_of}
 use Rattle.text_forms.proofs.Tables.{word_next}
 use Rattle.ir_types.specs.Offsets.{Definitions}
-use Rattle.ir_types.specs.Grammar.{operation, operation_words, terminator, terminator_words}
+use Rattle.ir_types.specs.Words.{operation_words, terminator_words}
+use Rattle.ir_types.specs.InstForms.{operation, terminator}
 use Rattle.ir_reader_ops.specs.Words.{form_at}
 use Rattle.ir_reader_ops.specs.declared.inst.Place.TheVariants.{Inside, Last}
 

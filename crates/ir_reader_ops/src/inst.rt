@@ -5,7 +5,8 @@ ghost use Rattle.text_forms.specs.Form.{by_word};
 ghost use Rattle.text_forms.specs.Reading.{read, opens, next_in, words_of};
 ghost use Rattle.text_forms.specs.Gives.{Gives, left};
 ghost use Rattle.ir_types.specs.Offsets.{Definitions};
-ghost use Rattle.ir_types.specs.Grammar.{operation_words, operation_behind, terminator_words, terminator_behind, operation, terminator};
+ghost use Rattle.ir_types.specs.Words.{operation_words, terminator_words};
+ghost use Rattle.ir_types.specs.InstForms.{operation_behind, terminator_behind, operation, terminator};
 ghost use Rattle.ir_reader_values.specs.Seen.{inst_seen, definitions, Widens, Stays, InstUses};
 ghost use Rattle.std.specs.List.{list_any};
 ghost use Rattle.ir_reader_ops.specs.Words.{is_outside, attached_to, bare_terminator, form_at, instruction};
@@ -142,7 +143,7 @@ fn any_outside(operands: &[Operand]) -> bool
 }
 
 /// An instruction with the attachments that stand behind it, wide where an operand is out of range.
-#[tactic(auto, unfolding(ir_types::specs::Grammar::inst_attachments))]
+#[tactic(auto, unfolding(ir_types::specs::InstForms::inst_attachments))]
 fn with_attachments<'t>(
     alloc: Global,
     inst: Inst,
@@ -158,7 +159,7 @@ fn with_attachments<'t>(
 }
 
 /// An instruction that doesn't end a block.
-#[tactic(auto, unfolding(ir_types::specs::Grammar::operation), using(crate::proofs::Attached::outside_seen))]
+#[tactic(auto, unfolding(ir_types::specs::InstForms::operation), using(crate::proofs::Attached::outside_seen))]
 fn operation<'t>(
     alloc: Global,
     tokens: Cursor<'t>,
@@ -175,7 +176,7 @@ fn operation<'t>(
 }
 
 /// A terminator.
-#[tactic(auto, unfolding(ir_types::specs::Grammar::terminator), using(crate::proofs::Attached::outside_seen))]
+#[tactic(auto, unfolding(ir_types::specs::InstForms::terminator), using(crate::proofs::Attached::outside_seen))]
 fn terminator<'t>(
     alloc: Global,
     tokens: Cursor<'t>,

@@ -5,7 +5,7 @@ use Rattle.text_forms.specs.Form.{Lexeme}
 use Rattle.text_forms.specs.Reading.{Terminal, fits, fits_one, next_in, first, opens}
 use Rattle.text_forms.specs.Nested.{struct_begins}
 use Rattle.text_forms.proofs.NestedDecides.{array_begins}
-use Rattle.ir_types.specs.Grammar.{memory_leaf, array_begin, type_parts, memory_type}
+use Rattle.ir_types.specs.TypeForms.{memory_leaf, array_begin, type_parts, memory_type}
 use Rattle.ir_types.proofs.Decides.{parts_decide}
 
 one_of_both : (a b : List Terminal) (ts : List Lexeme) → fits_one ts (a ++ b) ≡ (fits_one ts a || fits_one ts b)

@@ -17,7 +17,7 @@ use Rattle.ir_types.specs.declared.memory_type.MemTy.TheVariants.{Array, Struct}
 use Rattle.ir_types.specs.TypeNodes.{TypeNode, array, opening, closing, type_nodes}
 use Rattle.ir_reader_types.specs.TypeTable.{names_of, LooksUpAll}
 use Rattle.ir_types.specs.Types.{IsBefore, AreTypes}
-use Rattle.ir_types.specs.Grammar.{type_parts, memory_type}
+use Rattle.ir_types.specs.TypeForms.{type_parts, memory_type}
 
 -- what a type that is read stands in
 pub data Frame : Type 0 where

@@ -10,7 +10,7 @@ ghost use Rattle.ir_types.specs.declared.memory_type.MemTy.{MemTy};
 ghost use Rattle.ir_types.specs.declared.memory_type.TypeName.{TypeName};
 ghost use Rattle.ir_types.specs.TypeNodes.{type_nodes};
 ghost use Rattle.ir_types.specs.Types.{AreTypes};
-ghost use Rattle.ir_types.specs.Grammar.{memory_type};
+ghost use Rattle.ir_types.specs.TypeForms.{memory_type};
 ghost use Rattle.ir_reader_types.specs.TypeTable.{names_of, LooksUpSome, LooksUpAll};
 ghost use Rattle.ir_reader_types.specs.Frames.{innermost, goes_on, Holds, Looked, is_refusal, behind_type};
 

@@ -11,7 +11,10 @@ use Rattle.ir_types.specs.declared.inst.Ty.{Ty}
 use Rattle.ir_types.specs.declared.inst.Ty.TheVariants.{Int, Ptr}
 use Rattle.ir_types.specs.Offsets.{Definitions}
 use Rattle.ir_types.specs.Tree.{OperandTree}
-use Rattle.ir_types.specs.Grammar.{WrittenValue, lane_at, is_int, operand_at, width, value_type, value, after_mark, two_values, typed_value, both_at, typed_pair, pointer_value, index_value}
+use Rattle.text_forms.specs.Combined.{after_mark}
+use Rattle.ir_types.specs.TypeForms.{width, value_type}
+use Rattle.ir_types.specs.ValueForms.{WrittenValue, lane_at, is_int, operand_at, value}
+use Rattle.ir_types.specs.InstParts.{two_values, typed_value, both_at, typed_pair, pointer_value, index_value}
 use Rattle.ir_reader_values.specs.declared.lanes.Lane.{Lane}
 use Rattle.ir_reader_values.specs.View.{typed_lane_in, lanes_in}
 use Rattle.ir_reader_values.specs.Operands.{lanes_of_width, typed_value_read, typed_pair_read, pointer_read, index_read}

@@ -5,7 +5,7 @@ use Rattle.ir_types.specs.declared.inst.Ty.{Ty}
 use Rattle.ir_types.specs.declared.inst.Operand.{Operand}
 use Rattle.ir_types.specs.TypeNodes.{names_used}
 use Rattle.ir_types.specs.Tree.{OperandTree, lanes, global, out_of_range}
-use Rattle.ir_types.specs.Grammar.{WrittenLane, lane_digits, lane_true, lane_false, lane_poison, WrittenValue, named, digits, yes, no, null_word, poison_word, zeros, splat, lane_list, symbol, stepped}
+use Rattle.ir_types.specs.ValueForms.{WrittenLane, lane_digits, lane_true, lane_false, lane_poison, WrittenValue, named, digits, yes, no, null_word, poison_word, zeros, splat, lane_list, symbol, stepped}
 use Rattle.ir_reader_types.specs.Uses.{Uses}
 use Rattle.ir_reader_values.specs.declared.constant.WrittenIndex.{WrittenIndex}
 use Rattle.ir_reader_values.specs.declared.lanes.Lane.{Lane}

@@ -8,7 +8,9 @@ ghost use Rattle.text_forms.specs.Gives.{Gives, left};
 ghost use Rattle.ir_types.specs.TypeNodes.{names_used};
 ghost use Rattle.ir_types.specs.Tree.{global};
 ghost use Rattle.ir_reader_types.specs.Uses.{Uses};
-ghost use Rattle.ir_types.specs.Grammar.{global_name, inst_memory, after_mark, behind, some, comma_index, stepped, constant_offset};
+ghost use Rattle.text_forms.specs.Combined.{after_mark, behind, some};
+ghost use Rattle.ir_types.specs.TypeForms.{global_name, inst_memory};
+ghost use Rattle.ir_types.specs.ValueForms.{comma_index, stepped, constant_offset};
 ghost use Rattle.ir_reader_values.specs.Seen.{nodes_seen, symbol_seen, Widens, Stays, OperandsUse};
 ghost use Rattle.ir_reader_values.specs.View.{index_in, HasWidth, written_in, AreIndexed, WrittenUses};
 
@@ -110,7 +112,7 @@ fn indexes<'t>(
 }
 
 /// ( M, ptr @name, iN number, .. ).
-#[tactic(auto, unfolding(ir_types::specs::Grammar::constant_offset))]
+#[tactic(auto, unfolding(ir_types::specs::ValueForms::constant_offset))]
 pub fn constant_offset<'t>(
     alloc: Global,
     tokens: Cursor<'t>,

@@ -4,7 +4,8 @@ ghost use Rattle.std.specs.Prelude.{◌≡◌};
 ghost use Rattle.text_forms.specs.declared.TokenKind.TheVariants.{Comma, LeftParen, RightParen, Less, Greater};
 ghost use Rattle.text_forms.specs.Reading.{read, opens};
 ghost use Rattle.text_forms.specs.Gives.{Gives, left};
-ghost use Rattle.ir_types.specs.Grammar.{lane, typed_lane, commas, marked, between};
+ghost use Rattle.text_forms.specs.Combined.{commas, marked, between};
+ghost use Rattle.ir_types.specs.ValueForms.{lane, typed_lane};
 ghost use Rattle.ir_reader_values.specs.View.{lane_in, typed_lane_in, lanes_in};
 
 use ir_reader_types::{begins_type, value_type};
@@ -24,7 +25,7 @@ pub enum Lane<'t> {
 }
 
 /// number | true | false | poison.
-#[tactic(auto, unfolding(ir_types::specs::Grammar::lane))]
+#[tactic(auto, unfolding(ir_types::specs::ValueForms::lane))]
 fn written_lane<'t>(tokens: Cursor<'t>) -> Result<(Lane<'t>, Cursor<'t>), SyntaxFault>
     ensures { Gives (λ x. (lane_in x.0, left x.1)) result (read lane (left tokens.entry)) }
 {
@@ -43,7 +44,7 @@ fn written_lane<'t>(tokens: Cursor<'t>) -> Result<(Lane<'t>, Cursor<'t>), Syntax
 }
 
 /// T V of a lane.
-#[tactic(auto, unfolding(ir_types::specs::Grammar::typed_lane))]
+#[tactic(auto, unfolding(ir_types::specs::ValueForms::typed_lane))]
 fn typed_lane<'t>(tokens: Cursor<'t>) -> Result<((Ty, Lane<'t>), Cursor<'t>), SyntaxFault>
     ensures { Gives (λ x. (typed_lane_in x.0, left x.1)) result (read typed_lane (left tokens.entry)) }
 {
@@ -61,7 +62,7 @@ fn comma_lane<'t>(tokens: Cursor<'t>) -> Result<((Ty, Lane<'t>), Cursor<'t>), Sy
 }
 
 /// Whether a comma and a lane stand next.
-#[tactic(auto, unfolding(ir_types::specs::Grammar::typed_lane, ir_types::specs::Grammar::value_type, ir_types::specs::Grammar::vector_type, ir_types::specs::Grammar::width))]
+#[tactic(auto, unfolding(ir_types::specs::ValueForms::typed_lane, ir_types::specs::TypeForms::value_type, ir_types::specs::TypeForms::vector_type, ir_types::specs::TypeForms::width))]
 fn another(tokens: Cursor<'_>) -> bool
     ensures { result ≡ opens (marked Comma typed_lane) (left tokens.entry) }
 {

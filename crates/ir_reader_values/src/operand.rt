@@ -11,7 +11,7 @@ ghost use Rattle.ir_sizes.specs.Stepping.{index_pair, IsIndex};
 ghost use Rattle.ir_types.specs.Offsets.{offset_of};
 ghost use Rattle.ir_types.specs.Tree.{lanes as lane_operand, number};
 ghost use Rattle.ir_reader_types.specs.Tables.{nodes_there};
-ghost use Rattle.ir_types.specs.Grammar.{width_of, lane_at, lane_fits, is_int, index_of, index_fits, if_in_range, zeros_at, splat_at, lanes_at, operand_at, stepped, value};
+ghost use Rattle.ir_types.specs.ValueForms.{width_of, lane_at, lane_fits, is_int, index_of, index_fits, if_in_range, zeros_at, splat_at, lanes_at, operand_at, stepped, value};
 ghost use Rattle.ir_reader_values.specs.Operands.{lanes_of_width};
 ghost use Rattle.ir_reader_values.specs.declared.scope.Scope.{Scope};
 ghost use Rattle.ir_reader_values.specs.Seen.{nodes_seen, symbol_seen, operand_seen, definitions, Widens, Stays, OperandsUse};

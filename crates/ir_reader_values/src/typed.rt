@@ -5,7 +5,9 @@ ghost use Rattle.text_forms.specs.declared.TokenKind.TheVariants.{Comma};
 ghost use Rattle.text_forms.specs.Reading.{read};
 ghost use Rattle.text_forms.specs.Gives.{Gives, left};
 ghost use Rattle.ir_types.specs.Types.{IsType, IsOneOf, widths};
-ghost use Rattle.ir_types.specs.Grammar.{typed_value, comma_typed, three_values, typed_pair, pointer_value, index_value, after_mark};
+ghost use Rattle.text_forms.specs.Combined.{after_mark};
+ghost use Rattle.ir_types.specs.InstParts.{typed_value, comma_typed, typed_pair, pointer_value, index_value};
+ghost use Rattle.ir_types.specs.InstForms.{three_values};
 ghost use Rattle.ir_reader_values.specs.Seen.{operand_seen, definitions, Widens, Stays, OperandsUse};
 ghost use Rattle.ir_reader_values.specs.View.{typed_in, pair_in, three_in};
 

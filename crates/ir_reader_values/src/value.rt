@@ -4,7 +4,9 @@ ghost use Rattle.std.specs.Prelude.{◌≡◌, Some, true, false, MatchOption, I
 ghost use Rattle.text_forms.specs.declared.TokenKind.TheVariants.{Comma};
 ghost use Rattle.text_forms.specs.Reading.{read, opens};
 ghost use Rattle.text_forms.specs.Gives.{Gives, left};
-ghost use Rattle.ir_types.specs.Grammar.{local_name, constant_word, value, after_mark};
+ghost use Rattle.text_forms.specs.Combined.{after_mark};
+ghost use Rattle.ir_types.specs.TypeForms.{local_name};
+ghost use Rattle.ir_types.specs.ValueForms.{constant_word, value};
 ghost use Rattle.ir_reader_values.specs.declared.scope.Scope.{Scope};
 ghost use Rattle.ir_reader_values.specs.Seen.{name_seen, Widens, Stays};
 ghost use Rattle.ir_reader_values.specs.View.{written_in, AreIndexed, WrittenUses};
@@ -72,7 +74,7 @@ pub fn comma_local<'t>(
 }
 
 /// A value that is one word, and what is behind it, where such a word stands next.
-#[tactic(auto, unfolding(ir_types::specs::Grammar::constant_word))]
+#[tactic(auto, unfolding(ir_types::specs::ValueForms::constant_word))]
 fn constant_word<'t>(tokens: Cursor<'t>) -> Option<(Written<'t>, Cursor<'t>)>
     ensures reads { MatchOption result (opens constant_word (left tokens.entry) ≡ false) (λ x. (opens constant_word (left tokens.entry) ≡ true) × (((scope : Scope) → read constant_word (left tokens.entry) ≡ Some (written_in scope x.0, left x.1)) × AreIndexed x.0)) }
     ensures uses { IfSome result (λ x. (scope : Scope) → WrittenUses scope (written_in scope x.0) scope) }
@@ -94,7 +96,7 @@ fn constant_word<'t>(tokens: Cursor<'t>) -> Option<(Written<'t>, Cursor<'t>)>
 }
 
 /// A value as it is written.
-#[tactic(auto, unfolding(ir_types::specs::Grammar::value, ir_types::specs::Grammar::local_name, ir_types::specs::Grammar::global_name))]
+#[tactic(auto, unfolding(ir_types::specs::ValueForms::value, ir_types::specs::TypeForms::local_name, ir_types::specs::TypeForms::global_name))]
 pub fn written_value<'t>(
     alloc: Global,
     tokens: Cursor<'t>,

@@ -8,7 +8,8 @@ use Rattle.ir_types.specs.declared.inst.Pred.{Pred}
 use Rattle.ir_types.specs.declared.inst.Pred.TheVariants.{Ne}
 use Rattle.ir_types.specs.Kinds.{Binary}
 use Rattle.ir_types.specs.Tree.{OperandTree, number, FunctionTree, ModuleTree}
-use Rattle.ir_types.specs.Grammar.{no_flags, bare_inst}
+use Rattle.ir_types.specs.FlagForms.{no_flags}
+use Rattle.ir_types.specs.InstForms.{bare_inst}
 use Rattle.ir_making.specs.Trees.{i1, i32, at, gives_name, jump, branch, ret, ret_at, phi, add, icmp, call, block, param, function_named, with_functions, f, one_function}
 use Rattle.ir_meaning.specs.declared.value.Value.{Value}
 use Rattle.ir_meaning.specs.declared.value.Value.TheVariants.{Int}

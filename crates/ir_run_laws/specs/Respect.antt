@@ -5,7 +5,7 @@ use Rattle.ir_types.specs.declared.name.Name.{Name}
 use Rattle.ir_types.specs.declared.inst.Ty.{Ty}
 use Rattle.ir_types.specs.Kinds.{Kind, Compare}
 use Rattle.ir_types.specs.Tree.{OperandTree, local}
-use Rattle.ir_types.specs.Grammar.{bits_for}
+use Rattle.ir_types.specs.InstForms.{bits_for}
 use Rattle.ir_meaning.specs.declared.value.Value.{Value}
 use Rattle.ir_meaning.specs.Values.{HasType}
 use Rattle.ir_meaning.specs.State.{Env}

@@ -6,7 +6,7 @@ use Rattle.ir_types.specs.declared.inst.Ty.{Ty}
 use Rattle.ir_types.specs.declared.inst.Ty.TheVariants.{Void}
 use Rattle.ir_types.specs.Kinds.{Kind, operand_types}
 use Rattle.ir_types.specs.Tree.{OperandTree, InstTree}
-use Rattle.ir_types.specs.Grammar.{bare_inst, if_wide}
+use Rattle.ir_types.specs.InstForms.{bare_inst, if_wide}
 use Rattle.ir_shape.specs.Shape.{IsName, IsTypedIn, label_count, IsTerminator, HasResult, HasParts, IsBodyOf}
 
 -- before it is known whether the instruction is wide

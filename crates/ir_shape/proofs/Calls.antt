@@ -14,9 +14,10 @@ use Rattle.ir_types.specs.declared.call.TailKind.TheVariants.{Unmarked, Tail, Mu
 use Rattle.ir_types.specs.Kinds.{Offset, Call}
 use Rattle.ir_types.specs.Offsets.{Definitions}
 use Rattle.ir_types.specs.Tree.{OperandTree}
-use Rattle.ir_types.specs.Grammar.{operand_at, getelementptr, argument, signature, callee_of, call, call_behind}
+use Rattle.ir_types.specs.ValueForms.{operand_at}
+use Rattle.ir_types.specs.InstForms.{getelementptr, argument, signature, callee_of, call, call_behind}
 use Rattle.ir_shape.specs.Shape.{IsKept, IsType, IsTypedIn, IsSignature}
-use Rattle.ir_types.specs.Grammar.{kept}
+use Rattle.ir_types.specs.Words.{kept}
 use Rattle.ir_shape.proofs.Sure.{Sure, any_sure, pair_sure, mapped_sure, made_sure, IsThere, optional_sure, behind_sure, after_mark_sure, between_sure, marked_sure, some_sure, list_sure}
 use Rattle.ir_shape.proofs.Values.{global_sure, type_sure, return_type_sure, value_sure, operand_is, pointer_sure, index_sure}
 use Rattle.ir_shape.proofs.Runs.{run_sure, dotted_sure}

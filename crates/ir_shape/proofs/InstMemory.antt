@@ -7,7 +7,7 @@ use Rattle.text_forms.proofs.Complete.{complete}
 use Rattle.text_forms.proofs.NestedDecides.{memory_decides}
 use Rattle.text_forms.proofs.Sound.{sound}
 use Rattle.ir_types.specs.TypeNodes.{TypeNode}
-use Rattle.ir_types.specs.Grammar.{type_parts, memory_type, inst_memory}
+use Rattle.ir_types.specs.TypeForms.{type_parts, memory_type, inst_memory}
 use Rattle.ir_types.proofs.Decides.{parts_decide}
 use Rattle.ir_types.proofs.InstMemory.{inst_memory_reads}
 

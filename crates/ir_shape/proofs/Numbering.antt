@@ -14,7 +14,7 @@ use Rattle.ir_types.specs.declared.name.Name.TheVariants.{Number}
 use Rattle.ir_types.specs.declared.inst.Ty.{Ty}
 use Rattle.ir_types.specs.declared.inst.Ty.TheVariants.{Int, Ptr, Vector, Void}
 use Rattle.ir_types.specs.Tree.{KeptTexts, InstTree, BlockTree, ParamTree, FunctionTree, WrittenParam, WrittenBlock, WrittenFunction, Item, head_line, comdat_line, type_item, variable_item, function_item, attribute_line, metadata_line}
-use Rattle.ir_types.specs.Grammar.{named_by}
+use Rattle.ir_types.specs.FunctionForms.{named_by}
 use Rattle.ir_types.specs.Numbered.{next_after, named, named_result, numbered_inst, numbered_block, numbered_param, numbered_function, numbered_item, numbered_module}
 use Rattle.ir_shape.specs.Shape.{IsName, IsNameThere, IsResult, IsReadInst, EndsOnce, IsKept, before_form, after_form, IsBlockOf, IsParam, IsFunctionOf, IsItemOf}
 use Rattle.ir_shape.proofs.Written.{IsWrittenInst, IsWrittenBlock, IsWrittenParam, renamed}

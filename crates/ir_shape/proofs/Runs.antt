@@ -5,7 +5,9 @@ use Rattle.text_forms.specs.declared.TokenKind.TheVariants.{Comma, Dots}
 use Rattle.text_forms.specs.Form.{Form}
 use Rattle.kept_runs.specs.Verbatim.{Verbatim}
 use Rattle.kept_runs.proofs.Verbatim.{verbatim_run}
-use Rattle.ir_types.specs.Grammar.{or_else, dotted_list, kept}
+use Rattle.ir_types.specs.FlagForms.{or_else}
+use Rattle.ir_types.specs.Words.{kept}
+use Rattle.ir_types.specs.InstParts.{dotted_list}
 use Rattle.ir_shape.specs.Shape.{IsKept}
 use Rattle.ir_shape.proofs.Sure.{Sure, mark_sure, pair_sure, either_sure, mapped_sure, IsThere, optional_sure, marked_sure, commas_sure, kept_sure}
 

@@ -11,7 +11,7 @@ use Rattle.text_lex.specs.KeptText.{token_of, IsToken, AreLexed}
 use Rattle.text_lex.proofs.Lexed.{lexed_split, tokens_again, lexed_are_tokens}
 use Rattle.kept_runs.specs.Verbatim.{Verbatim}
 use Rattle.ir_types.specs.Tree.{KeptTexts}
-use Rattle.ir_types.specs.Grammar.{word, behind, after_mark, between, marked, some, commas, list, or_none}
+use Rattle.text_forms.specs.Combined.{word, behind, after_mark, between, marked, some, commas, list, or_none}
 use Rattle.ir_shape.specs.Shape.{IsKept}
 
 pub record Sure {A : Type 0} (f : Form A) (P : A → Type 0) : Type 0 where

@@ -17,7 +17,12 @@ use Rattle.ir_types.specs.Offsets.{Definitions, small_size, path_offset, offset_
 use Rattle.ir_types.specs.TypeNodes.{TypeNode}
 use Rattle.ir_types.specs.Written.{number_of, number_at, fits_width, at_most_64_bits}
 use Rattle.ir_types.specs.Tree.{OperandTree, local, number, null, poison, lanes, global, out_of_range}
-use Rattle.ir_types.specs.Grammar.{local_name, global_name, label, width, lanes_of, vector_type, value_type, return_type, WrittenLane, lane_digits, lane_true, lane_false, lane_poison, typed_lane, WrittenValue, named, digits, yes, no, null_word, poison_word, zeros, splat, lane_list, symbol, stepped, constant_word, comma_index, constant_offset, value, lane_counts, width_of, lane_at, lane_fits, index_of, index_fits, if_in_range, is_out_of_range, zeros_at, splat_at, lanes_at, operand_at, typed_value, typed_pair, pointer_value, index_value, target, alignment_of, alignment, align_or, some}
+use Rattle.text_forms.specs.Combined.{some}
+use Rattle.ir_types.specs.Types.{lane_counts}
+use Rattle.ir_types.specs.TypeForms.{local_name, global_name, label, width, lanes_of, vector_type, value_type, return_type}
+use Rattle.ir_types.specs.ValueForms.{WrittenLane, lane_digits, lane_true, lane_false, lane_poison, typed_lane, WrittenValue, named, digits, yes, no, null_word, poison_word, zeros, splat, lane_list, symbol, stepped, constant_word, comma_index, constant_offset, value, width_of, lane_at, lane_fits, index_of, index_fits, if_in_range, zeros_at, splat_at, lanes_at, operand_at}
+use Rattle.ir_types.specs.InstParts.{typed_value, typed_pair, pointer_value, index_value, target, alignment_of, alignment, align_or}
+use Rattle.ir_types.specs.InstForms.{is_out_of_range}
 use Rattle.ir_shape.specs.Shape.{IsName, IsOneOf, widths, IsType, IsReturnType, IsBelow, IsLane, IsOperand, IsOperandIn, IsTypedIn}
 use Rattle.ir_shape.proofs.Among.{of_each}
 use Rattle.ir_shape.proofs.Names.{behind_is, before_is}

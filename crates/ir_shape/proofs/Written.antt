@@ -12,7 +12,9 @@ use Rattle.ir_types.specs.Offsets.{Definitions}
 use Rattle.ir_types.specs.Written.{name_behind}
 use Rattle.ir_types.specs.declared.inst.Ty.{Ty}
 use Rattle.ir_types.specs.Tree.{OperandTree, InstTree, WrittenParam, WrittenBlock}
-use Rattle.ir_types.specs.Grammar.{inst_attachments, operation, terminator, named_by, line, block, kept}
+use Rattle.ir_types.specs.Words.{kept}
+use Rattle.ir_types.specs.InstForms.{inst_attachments, operation, terminator}
+use Rattle.ir_types.specs.FunctionForms.{named_by, line, block}
 use Rattle.ir_shape.specs.Shape.{IsKept, IsName, IsType, IsTypedIn, IsBodyOf, IsNameThere, IsTerminator, EndsOnce}
 use Rattle.ir_shape.proofs.Names.{behind_is}
 use Rattle.ir_shape.proofs.Sure.{Sure, pair_sure, either_sure, mapped_sure, made_sure, ahead_sure, IsThere, optional_sure, many_sure}

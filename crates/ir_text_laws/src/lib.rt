@@ -10,7 +10,7 @@ ghost use Rattle.ir_types.specs.declared.module.Symbol.{Symbol};
 ghost use Rattle.ir_types.specs.declared.module.SymbolKind.TheVariants.{Missing};
 ghost use Rattle.ir_types.specs.declared.module.Module.{Module};
 ghost use Rattle.ir_types.specs.Denotes.{type_names_of, Denotes};
-ghost use Rattle.ir_types.specs.Grammar.{SpellsModule};
+ghost use Rattle.ir_types.specs.ItemForms.{SpellsModule};
 ghost use Rattle.ir_types.specs.Numbered.{numbered_module};
 ghost use Rattle.ir_types.specs.Reads.{Reads};
 ghost use Rattle.ir_types.specs.Tree.{WrittenFunction, Item, ModuleTree};

@@ -11,7 +11,14 @@ use Rattle.text_forms.proofs.Between.{in_two_steps, between_inside}
 use Rattle.ir_types.specs.Offsets.{Definitions}
 use Rattle.ir_types.specs.TypeNodes.{TypeNode}
 use Rattle.ir_types.specs.Tree.{WrittenParam, WrittenBlock}
-use Rattle.ir_types.specs.Grammar.{between, some, list, parameter, dotted_parameters, local_name, global_name, label, width, vector_type, value_type, memory_leaf, array_begin, type_parts, memory_type, return_type, three_flags, type_words, inst_memory, lane, constant_word, typed_lane, constant_offset, value, value_words, item_words, instruction_words, excluded_words, kept, typed_value, typed_pair, pointer_value, index_value, target, alignment, overflowing, possibly_exact, plain_binary, or_operation, predicates, compared, compare, select, freeze, trunc, zext, sext, ptrtoint, entry_of_phi, phi, getelementptr, load, store, argument, signature, call, extractelement, insertelement, shufflevector, branch, case_of_switch, switch, ret, inst_attachments, operation_words, operation, terminator_words, terminator, block}
+use Rattle.text_forms.specs.Combined.{between, some, list}
+use Rattle.ir_types.specs.TypeForms.{local_name, global_name, label, width, vector_type, value_type, memory_leaf, array_begin, type_parts, memory_type, return_type, type_words, inst_memory}
+use Rattle.ir_types.specs.FlagForms.{three_flags}
+use Rattle.ir_types.specs.ValueForms.{lane, constant_word, typed_lane, constant_offset, value}
+use Rattle.ir_types.specs.Words.{value_words, item_words, instruction_words, excluded_words, kept, operation_words, terminator_words}
+use Rattle.ir_types.specs.InstParts.{typed_value, typed_pair, pointer_value, index_value, target, alignment}
+use Rattle.ir_types.specs.InstForms.{overflowing, possibly_exact, plain_binary, or_operation, predicates, compared, compare, select, freeze, trunc, zext, sext, ptrtoint, entry_of_phi, phi, getelementptr, load, store, argument, signature, call, extractelement, insertelement, shufflevector, branch, case_of_switch, switch, ret, inst_attachments, operation, terminator}
+use Rattle.ir_types.specs.FunctionForms.{parameter, dotted_parameters, block}
 
 pub blocks_balanced : (defs : Definitions) (bs : List WrittenBlock) (ts : List Lexeme) → Spells (some (block defs)) bs ts → nests [] ts ≡ true
 unfolding local_name global_name label width vector_type value_type return_type three_flags inst_memory lane constant_word typed_lane constant_offset value kept kept_run kept_piece typed_value typed_pair pointer_value index_value target alignment overflowing possibly_exact plain_binary or_operation predicates compared compare select freeze trunc zext sext ptrtoint entry_of_phi phi getelementptr load store argument signature call extractelement insertelement shufflevector branch case_of_switch switch ret inst_attachments metadata_node attachment operation_words operation terminator_words terminator block

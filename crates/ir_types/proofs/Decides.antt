@@ -10,7 +10,14 @@ use Rattle.text_forms.proofs.NestedDecides.{memory_decides, memory_takes, memory
 use Rattle.ir_types.specs.Offsets.{Definitions}
 use Rattle.ir_types.specs.TypeNodes.{TypeNode}
 use Rattle.ir_types.specs.Tree.{WrittenFunction, Item, comdat_line, metadata_line}
-use Rattle.ir_types.specs.Grammar.{local_name, global_name, label, width, vector_type, value_type, memory_leaf, array_begin, type_parts, memory_type, return_type, three_flags, inst_memory, lane, constant_word, typed_lane, constant_offset, value, typed_value, typed_pair, pointer_value, index_value, target, alignment, overflowing, possibly_exact, plain_binary, or_operation, predicates, compared, compare, select, freeze, trunc, zext, sext, ptrtoint, entry_of_phi, phi, getelementptr, load, store, argument, signature, call, extractelement, insertelement, shufflevector, branch, case_of_switch, switch, ret, inst_attachments, operation_words, operation, terminator_words, terminator, line, block, type_words, value_words, item_words, instruction_words, excluded_words, kept, parameter, dotted_parameters, declared_function, defined_function, target_line, attribute_group, comdat, metadata, type_definition, initialiser_stops, extra_behind, behind_type, variable_word, variable_definition, item_behind, item, module_form}
+use Rattle.ir_types.specs.TypeForms.{local_name, global_name, label, width, vector_type, value_type, memory_leaf, array_begin, type_parts, memory_type, return_type, inst_memory, type_words}
+use Rattle.ir_types.specs.FlagForms.{three_flags}
+use Rattle.ir_types.specs.ValueForms.{lane, constant_word, typed_lane, constant_offset, value}
+use Rattle.ir_types.specs.Words.{operation_words, terminator_words, value_words, item_words, instruction_words, excluded_words, kept}
+use Rattle.ir_types.specs.InstParts.{typed_value, typed_pair, pointer_value, index_value, target, alignment}
+use Rattle.ir_types.specs.InstForms.{overflowing, possibly_exact, plain_binary, or_operation, predicates, compared, compare, select, freeze, trunc, zext, sext, ptrtoint, entry_of_phi, phi, getelementptr, load, store, argument, signature, call, extractelement, insertelement, shufflevector, branch, case_of_switch, switch, ret, inst_attachments, operation, terminator}
+use Rattle.ir_types.specs.FunctionForms.{line, block, parameter, dotted_parameters, declared_function, defined_function}
+use Rattle.ir_types.specs.ItemForms.{target_line, attribute_group, comdat, metadata, type_definition, initialiser_stops, extra_behind, behind_type, variable_word, variable_definition, item_behind, item, module_form}
 
 -- in memory types too, at every depth
 pub parts_decide : PartsDecide type_parts

@@ -15,7 +15,11 @@ use Rattle.ir_types.specs.declared.opcode.ItemWord.TheVariants as items
 use Rattle.ir_types.specs.TypeNodes.{TypeNode}
 use Rattle.ir_types.specs.Offsets.{Definitions, as_definition, definitions_in}
 use Rattle.ir_types.specs.Tree.{KeptTexts, WrittenParam, WrittenBlock, WrittenFunction, Item, head_line, comdat_line, type_item, variable_item, function_item, attribute_line, metadata_line}
-use Rattle.ir_types.specs.Grammar.{between, some, list, return_type, global_name, parameter, dotted_parameters, kept, block, declared_tree, declared_function, defined_tree, defined_function, item_words, item_behind, item, memory_type, module_form, SpellsModule}
+use Rattle.text_forms.specs.Combined.{between, some, list}
+use Rattle.ir_types.specs.TypeForms.{return_type, global_name, memory_type}
+use Rattle.ir_types.specs.Words.{kept, item_words}
+use Rattle.ir_types.specs.FunctionForms.{parameter, dotted_parameters, block, declared_tree, declared_function, defined_tree, defined_function}
+use Rattle.ir_types.specs.ItemForms.{item_behind, item, module_form, SpellsModule}
 use Rattle.ir_types.specs.Skimmed.{declared_outline, skimmed_declaration, defined_outline, skimmed_definition, Skimmed, outlined, as_it_is, skimmed_behind, wordless_item, skimmed_item, skimmed_module, dotted_read, params_read, body_read, with_dotted, with_inner, filled, with_body, with_body_of_item, with_bodies, with_own_bodies, items_read}
 use Rattle.ir_types.proofs.Balanced.{params_later, dotted_later, body_later}
 use Rattle.ir_types.proofs.Decides.{module_decides}

@@ -6,7 +6,7 @@ use Rattle.ir_types.specs.declared.name.Name.{Name}
 use Rattle.ir_types.specs.declared.name.Name.TheVariants.{Text, Number}
 use Rattle.ir_types.specs.declared.inst.Ty.{Ty}
 use Rattle.ir_types.specs.declared.inst.Ty.TheVariants.{Void}
-use Rattle.ir_types.specs.Grammar.{named_by}
+use Rattle.ir_types.specs.FunctionForms.{named_by}
 use Rattle.ir_types.specs.Tree.{InstTree, BlockTree, ParamTree, FunctionTree, WrittenParam, WrittenBlock, WrittenFunction, Item, head_line, comdat_line, type_item, variable_item, function_item, attribute_line, metadata_line}
 
 -- the number for the next thing without a name, behind a name: one more than the greatest number so far, and 0 at first

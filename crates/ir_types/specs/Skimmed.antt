@@ -14,7 +14,11 @@ use Rattle.ir_types.specs.declared.opcode.ItemWord.TheVariants as items
 use Rattle.ir_types.specs.TypeNodes.{TypeNode}
 use Rattle.ir_types.specs.Offsets.{Definitions, definitions_in}
 use Rattle.ir_types.specs.Tree.{KeptTexts, WrittenParam, WrittenBlock, WrittenFunction, Item, head_line, comdat_line, type_item, variable_item, function_item, attribute_line, metadata_line}
-use Rattle.ir_types.specs.Grammar.{between, some, list, return_type, global_name, parameter, kept, block, declared_tree, defined_tree, dotted_parameters, item_words, item_behind, memory_type, comdat, metadata, type_definition, variable_definition}
+use Rattle.text_forms.specs.Combined.{some, list}
+use Rattle.ir_types.specs.TypeForms.{return_type, global_name, memory_type}
+use Rattle.ir_types.specs.Words.{kept, item_words}
+use Rattle.ir_types.specs.FunctionForms.{parameter, block, declared_tree, defined_tree, dotted_parameters}
+use Rattle.ir_types.specs.ItemForms.{item_behind, comdat, metadata, type_definition, variable_definition}
 
 -- ---- items as they are skimmed
 
