@@ -15,7 +15,7 @@ use Rattle.ir_types.specs.Kinds.{Offset, Call}
 use Rattle.ir_types.specs.Offsets.{Definitions}
 use Rattle.ir_types.specs.Tree.{OperandTree}
 use Rattle.ir_types.specs.ValueForms.{operand_at}
-use Rattle.ir_types.specs.InstForms.{getelementptr, argument, signature, callee_of, call, call_behind}
+use Rattle.ir_types.specs.InstForms.{getelementptr, argument, signature, call_tree, call, call_behind}
 use Rattle.ir_shape.specs.Shape.{IsKept, IsType, IsTypedIn, IsSignature}
 use Rattle.ir_types.specs.Words.{kept}
 use Rattle.ir_shape.proofs.Sure.{Sure, any_sure, pair_sure, mapped_sure, made_sure, IsThere, optional_sure, behind_sure, after_mark_sure, between_sure, marked_sure, some_sure, list_sure}
@@ -72,7 +72,7 @@ call_sure : (defs : Definitions) (tail : TailKind) → Sure (call defs tail) IsO
 unfolding call
 call_sure defs tail = mapped_sure (pair_sure run_sure (pair_sure return_type_sure (pair_sure (optional_sure signature_sure) (pair_sure global_sure (pair_sure (between_sure LeftParen RightParen (list_sure (argument_sure defs))) run_sure))))) (λ x h.
     let arguments = x.1.1.1.1.0 in
-    operation_of (Call (callee_of tail x)) x.1.0 (map (λ a. a.1) arguments) (arguments_are arguments h.1.1.1.1.0) refl h.1.0 (record {
+    operation_of (call_tree tail x).kind x.1.0 (map (λ a. a.1) arguments) (arguments_are arguments h.1.1.1.1.0) refl h.1.0 (record {
       before = h.0;
       signature = there_signature x.1.1.0 h.1.1.0;
       name = h.1.1.1.0;

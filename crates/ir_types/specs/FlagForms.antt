@@ -28,15 +28,15 @@ unfoldable pub three_flags : Form (Bool × (Bool × Bool))
 three_flags =
     mapped (or_else (false, (false, false))) (optional
     (either (flag_then (λ x. (true, x)) (codes "inbounds") (two_flags (codes "nuw") (codes "nusw")))
-    (either (flag_then (λ x. (x.0, (true, x.1))) (codes "nuw") (two_flags (codes "inbounds") (codes "nusw")))
-    (flag_then (λ x. (x.0, (x.1, true))) (codes "nusw") (two_flags (codes "inbounds") (codes "nuw"))))))
+    (either (flag_then (λ (inbounds, nusw). (inbounds, (true, nusw))) (codes "nuw") (two_flags (codes "inbounds") (codes "nusw")))
+    (flag_then (λ (inbounds, nuw). (inbounds, (nuw, true))) (codes "nusw") (two_flags (codes "inbounds") (codes "nuw"))))))
 
 abbrev pub no_flags : Flags
 no_flags = record { nuw = false; nsw = false; exact = false; disjoint = false }
 
 -- `nuw` and `nsw`
 abbrev pub wrap_flags : Bool × Bool → Flags
-wrap_flags x = record { nuw = x.0; nsw = x.1; exact = false; disjoint = false }
+wrap_flags (nuw, nsw) = record { nuw = nuw; nsw = nsw; exact = false; disjoint = false }
 
 -- `exact`
 abbrev pub exact_flag : Bool → Flags

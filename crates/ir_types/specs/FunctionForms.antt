@@ -24,7 +24,7 @@ named_by i name = record i { result = name }
 
 -- the instruction with the name behind the `%` as its result's
 abbrev pub with_result : List ℕ × (List ℕ × InstTree) → Option InstTree
-with_result x = name_behind x.0 >>= λ n. Some (named_by x.1.1 (Some n))
+with_result (s, (_, i)) = name_behind s >>= λ n. Some (named_by i (Some n))
 
 -- the instruction with no name for its result
 abbrev pub without_result : InstTree → InstTree
@@ -36,7 +36,7 @@ line f = either (made with_result (ahead Local (ahead Equal f))) (mapped without
 
 -- the instructions, with the terminator behind them
 abbrev pub block_tree : Option Name × (List InstTree × InstTree) → WrittenBlock
-block_tree x = record { label = x.0; insts = x.1.0 ++ x.1.1 ∷ [] }
+block_tree (name, (insts, last)) = record { label = name; insts = insts ++ last ∷ [] }
 
 -- [label] line .., the last one a terminator's and no other
 unfoldable pub block : Definitions → Form WrittenBlock
@@ -46,7 +46,7 @@ block defs = mapped block_tree (pair (optional label) (pair (many (line (operati
 
 -- T K [%name]
 unfoldable pub parameter : Form WrittenParam
-parameter = mapped (λ x. record { ty = x.0; kept = x.1.0; name = x.1.1 }) (pair value_type (pair kept (optional local_name)))
+parameter = mapped (λ (t, (k, n)). record { ty = t; kept = k; name = n }) (pair value_type (pair kept (optional local_name)))
 
 -- `...`, or T K [%name], .. [, ...], or nothing
 unfoldable pub dotted_parameters : Form (List WrittenParam × Bool)
@@ -54,7 +54,7 @@ dotted_parameters = dotted_list parameter
 
 -- the parts of a declared function, by their names
 abbrev pub declared_tree : KeptTexts × (Ty × (Name × ((List WrittenParam × Bool) × KeptTexts))) → WrittenFunction
-declared_tree x = record { name = x.1.1.0; before = x.0; ret = x.1.0; params = x.1.1.1.0.0; varargs = x.1.1.1.0.1; after = x.1.1.1.1; body = [] }
+declared_tree (before, (t, (name, ((params, varargs), after)))) = record { name = name; before = before; ret = t; params = params; varargs = varargs; after = after; body = [] }
 
 -- B K R @name ( .. ) K
 unfoldable pub declared_function : Form WrittenFunction
@@ -63,7 +63,7 @@ declared_function =
 
 -- the parts of a defined function, by their names
 abbrev pub defined_tree : KeptTexts × (Ty × (Name × (List WrittenParam × (KeptTexts × List WrittenBlock)))) → WrittenFunction
-defined_tree x = record { name = x.1.1.0; before = x.0; ret = x.1.0; params = x.1.1.1.0; varargs = false; after = x.1.1.1.1.0; body = x.1.1.1.1.1 }
+defined_tree (before, (t, (name, (params, (after, body))))) = record { name = name; before = before; ret = t; params = params; varargs = false; after = after; body = body }
 
 -- K R @name ( .. ) K B { block.. }
 unfoldable pub defined_function : Definitions → Form WrittenFunction

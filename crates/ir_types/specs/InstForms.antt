@@ -18,7 +18,6 @@ use Rattle.ir_types.specs.declared.inst.Pred.TheVariants.{Eq, Ne, Ugt, Uge, Ult,
 use Rattle.ir_types.specs.declared.opcode.Operation.{Operation}
 use Rattle.ir_types.specs.declared.opcode.Operation.TheVariants as operations
 use Rattle.ir_types.specs.declared.call.Actual.{Actual}
-use Rattle.ir_types.specs.declared.call.Callee.{Callee}
 use Rattle.ir_types.specs.declared.call.Signature.{Signature}
 use Rattle.ir_types.specs.declared.call.TailKind.{TailKind}
 use Rattle.ir_types.specs.declared.call.TailKind.TheVariants.{Unmarked, Tail, MustTail, NoTail}
@@ -44,15 +43,15 @@ bare_inst kind ty args labels = record { kind = kind; ty = ty; args = args; labe
 
 -- an operation of two operands at one type, which is the result's
 abbrev pub binary_tree : BinOp → Flags → Ty × (OperandTree × OperandTree) → InstTree
-binary_tree op flags x = bare_inst (kinds.Binary op flags) x.0 (x.1.0 ∷ x.1.1 ∷ []) []
+binary_tree op flags (t, (a, b)) = bare_inst (kinds.Binary op flags) t (a ∷ b ∷ []) []
 
 -- [nuw] [nsw] T V, V
 unfoldable pub overflowing : Definitions → BinOp → Form InstTree
-overflowing defs op = mapped (λ x. binary_tree op (wrap_flags x.0) x.1) (pair (two_flags (codes "nuw") (codes "nsw")) (typed_pair defs))
+overflowing defs op = mapped (λ (flags, operands). binary_tree op (wrap_flags flags) operands) (pair (two_flags (codes "nuw") (codes "nsw")) (typed_pair defs))
 
 -- [exact] T V, V
 unfoldable pub possibly_exact : Definitions → BinOp → Form InstTree
-possibly_exact defs op = mapped (λ x. binary_tree op (exact_flag x.0) x.1) (pair (one_flag (codes "exact")) (typed_pair defs))
+possibly_exact defs op = mapped (λ (exact, operands). binary_tree op (exact_flag exact) operands) (pair (one_flag (codes "exact")) (typed_pair defs))
 
 -- T V, V
 unfoldable pub plain_binary : Definitions → BinOp → Form InstTree
@@ -60,7 +59,7 @@ plain_binary defs op = mapped (binary_tree op no_flags) (typed_pair defs)
 
 -- [disjoint] T V, V
 unfoldable pub or_operation : Definitions → Form InstTree
-or_operation defs = mapped (λ x. binary_tree Or (disjoint_flag x.0) x.1) (pair (one_flag (codes "disjoint")) (typed_pair defs))
+or_operation defs = mapped (λ (disjoint, operands). binary_tree Or (disjoint_flag disjoint) operands) (pair (one_flag (codes "disjoint")) (typed_pair defs))
 
 -- the ten predicates
 unfoldable pub predicates : List (List ℕ × Pred)
@@ -78,7 +77,7 @@ bits_for Void = Int 1
 
 -- a comparison of two operands at one type
 abbrev pub compare_tree : Pred → Ty × (OperandTree × OperandTree) → InstTree
-compare_tree p x = bare_inst (kinds.Compare p x.0) (bits_for x.0) (x.1.0 ∷ x.1.1 ∷ []) []
+compare_tree p (t, (a, b)) = bare_inst (kinds.Compare p t) (bits_for t) (a ∷ b ∷ []) []
 
 -- T V, V behind the predicate
 unfoldable pub compared : Definitions → Pred → Form InstTree
@@ -94,7 +93,7 @@ three_values defs = pair (typed_value defs) (pair (comma_typed defs) (comma_type
 
 -- a condition and two arms; the result has the first arm's type
 abbrev pub select_tree : (Ty × OperandTree) × ((Ty × OperandTree) × (Ty × OperandTree)) → InstTree
-select_tree x = bare_inst (kinds.Select x.0.0 x.1.1.0) x.1.0.0 (x.0.1 ∷ x.1.0.1 ∷ x.1.1.1 ∷ []) []
+select_tree ((bits, c), ((t, a), (u, b))) = bare_inst (kinds.Select bits u) t (c ∷ a ∷ b ∷ []) []
 
 -- T V, T V, T V
 unfoldable pub select : Definitions → Form InstTree
@@ -102,7 +101,7 @@ select defs = mapped select_tree (three_values defs)
 
 -- a value of its own type
 abbrev pub freeze_tree : Ty × OperandTree → InstTree
-freeze_tree x = bare_inst kinds.Freeze x.0 (x.1 ∷ []) []
+freeze_tree (t, a) = bare_inst kinds.Freeze t (a ∷ []) []
 
 -- T V
 unfoldable pub freeze : Definitions → Form InstTree
@@ -110,15 +109,15 @@ freeze defs = mapped freeze_tree (typed_value defs)
 
 -- a cast of a value to a type
 abbrev pub cast_tree : (Ty → Kind) → (Ty × OperandTree) × Ty → InstTree
-cast_tree kind x = bare_inst (kind x.0.0) x.1 (x.0.1 ∷ []) []
+cast_tree kind ((from, a), to) = bare_inst (kind from) to (a ∷ []) []
 
 -- [nuw] [nsw] T V to T
 unfoldable pub trunc : Definitions → Form InstTree
-trunc defs = mapped (λ x. cast_tree (λ t. kinds.Trunc t x.0.0 x.0.1) x.1) (pair (two_flags (codes "nuw") (codes "nsw")) (pair (typed_value defs) to_type))
+trunc defs = mapped (λ ((nuw, nsw), cast). cast_tree (λ t. kinds.Trunc t nuw nsw) cast) (pair (two_flags (codes "nuw") (codes "nsw")) (pair (typed_value defs) to_type))
 
 -- [nneg] T V to T
 unfoldable pub zext : Definitions → Form InstTree
-zext defs = mapped (λ x. cast_tree (λ t. kinds.Zext t x.0) x.1) (pair (one_flag (codes "nneg")) (pair (typed_value defs) to_type))
+zext defs = mapped (λ (nneg, cast). cast_tree (λ t. kinds.Zext t nneg) cast) (pair (one_flag (codes "nneg")) (pair (typed_value defs) to_type))
 
 -- T V to T
 unfoldable pub sext : Definitions → Form InstTree
@@ -126,7 +125,7 @@ sext defs = mapped (cast_tree kinds.Sext) (pair (typed_value defs) to_type)
 
 -- the address of a pointer at a type
 abbrev pub address_tree : OperandTree × Ty → InstTree
-address_tree x = bare_inst kinds.PtrToInt x.1 (x.0 ∷ []) []
+address_tree (a, t) = bare_inst kinds.PtrToInt t (a ∷ []) []
 
 -- ptr V to T
 unfoldable pub ptrtoint : Definitions → Form InstTree
@@ -139,11 +138,11 @@ entry_of_phi = between LeftBracket RightBracket (pair value (after_mark Comma lo
 -- the operands of a phi's entries at its type
 abbrev pub entries_at : Definitions → Ty → List (WrittenValue × Name) → Option (List OperandTree)
 entries_at defs t [] = Some []
-entries_at defs t (e ∷ es) = operand_at defs t e.0 >>= λ a. entries_at defs t es >>= λ bs. Some (a ∷ bs)
+entries_at defs t ((v, l) ∷ es) = operand_at defs t v >>= λ a. entries_at defs t es >>= λ bs. Some (a ∷ bs)
 
 -- a phi: its operands at its type, and a label for each
 abbrev pub phi_tree : Definitions → Ty × List (WrittenValue × Name) → Option InstTree
-phi_tree defs x = entries_at defs x.0 x.1 >>= λ args. Some (bare_inst kinds.Phi x.0 args (map (λ e. e.1) x.1))
+phi_tree defs (t, entries) = entries_at defs t entries >>= λ args. Some (bare_inst kinds.Phi t args (map (λ (_, l). l) entries))
 
 -- T [ V, %name ], ..
 unfoldable pub phi : Definitions → Form InstTree
@@ -151,7 +150,7 @@ phi defs = made (phi_tree defs) (pair value_type (commas entry_of_phi))
 
 -- a pointer that is stepped from through a memory type, by indexes
 abbrev pub offset_tree : (Bool × (Bool × Bool)) × (List TypeNode × (OperandTree × List (ℕ × OperandTree))) → InstTree
-offset_tree x = bare_inst (kinds.Offset x.1.0 (map (λ i. i.0) x.1.1.1) x.0.0 x.0.1.0 x.0.1.1) Ptr (x.1.1.0 ∷ map (λ i. i.1) x.1.1.1) []
+offset_tree ((inbounds, (nuw, nusw)), (m, (a, indexes))) = bare_inst (kinds.Offset m (map (λ (w, _). w) indexes) inbounds nuw nusw) Ptr (a ∷ map (λ (_, i). i) indexes) []
 
 -- [inbounds] [nuw] [nusw] M, ptr V, iN V, ..
 unfoldable pub getelementptr : Definitions → Form InstTree
@@ -159,7 +158,7 @@ getelementptr defs = mapped offset_tree (pair three_flags (pair inst_memory (pai
 
 -- a load from a pointer
 abbrev pub load_tree : Ty × (OperandTree × Option ℕ) → InstTree
-load_tree x = bare_inst (kinds.Load (align_or x.0 x.1.1)) x.0 (x.1.0 ∷ []) []
+load_tree (t, (p, align)) = bare_inst (kinds.Load (align_or t align)) t (p ∷ []) []
 
 -- T, ptr V [, align n]
 unfoldable pub load : Definitions → Form InstTree
@@ -167,7 +166,7 @@ load ds = mapped load_tree (pair value_type (pair (after_mark Comma (pointer_val
 
 -- a store of a value to a pointer
 abbrev pub store_tree : (Ty × OperandTree) × (OperandTree × Option ℕ) → InstTree
-store_tree x = bare_inst (kinds.Store x.0.0 (align_or x.0.0 x.1.1)) Void (x.0.1 ∷ x.1.0 ∷ []) []
+store_tree ((t, a), (p, align)) = bare_inst (kinds.Store t (align_or t align)) Void (a ∷ p ∷ []) []
 
 -- T V, ptr V [, align n]
 unfoldable pub store : Definitions → Form InstTree
@@ -182,7 +181,7 @@ element_of Void = Void
 
 -- a lane of a vector
 abbrev pub extract_tree : (Ty × OperandTree) × (ℕ × OperandTree) → InstTree
-extract_tree x = bare_inst (kinds.Extract x.0.0 x.1.0) (element_of x.0.0) (x.0.1 ∷ x.1.1 ∷ []) []
+extract_tree ((t, a), (w, i)) = bare_inst (kinds.Extract t w) (element_of t) (a ∷ i ∷ []) []
 
 -- T V, iN V
 unfoldable pub extractelement : Definitions → Form InstTree
@@ -190,7 +189,7 @@ extractelement ds = mapped extract_tree (pair (typed_value ds) (after_mark Comma
 
 -- a vector with another lane
 abbrev pub insert_tree : (Ty × OperandTree) × ((Ty × OperandTree) × (ℕ × OperandTree)) → InstTree
-insert_tree x = bare_inst (kinds.Insert x.1.0.0 x.1.1.0) x.0.0 (x.0.1 ∷ x.1.0.1 ∷ x.1.1.1 ∷ []) []
+insert_tree ((t, a), ((u, b), (w, i))) = bare_inst (kinds.Insert u w) t (a ∷ b ∷ i ∷ []) []
 
 -- T V, T V, iN V
 unfoldable pub insertelement : Definitions → Form InstTree
@@ -203,7 +202,7 @@ shuffled t u = t
 
 -- two vectors and a mask
 abbrev pub shuffle_tree : (Ty × OperandTree) × ((Ty × OperandTree) × (Ty × OperandTree)) → InstTree
-shuffle_tree x = bare_inst (kinds.Shuffle x.0.0 x.1.0.0 x.1.1.0) (shuffled x.0.0 x.1.1.0) (x.0.1 ∷ x.1.0.1 ∷ x.1.1.1 ∷ []) []
+shuffle_tree ((t, a), ((u, b), (m, mask))) = bare_inst (kinds.Shuffle t u m) (shuffled t m) (a ∷ b ∷ mask ∷ []) []
 
 -- T V, T V, T V
 unfoldable pub shufflevector : Definitions → Form InstTree
@@ -211,7 +210,7 @@ shufflevector defs = mapped shuffle_tree (three_values defs)
 
 -- an argument at its type
 abbrev pub actual_at : Definitions → Ty × (KeptTexts × WrittenValue) → Option (Actual × OperandTree)
-actual_at defs x = operand_at defs x.0 x.1.1 >>= λ a. Some (record { ty = x.0; kept = x.1.0 }, a)
+actual_at defs (t, (k, v)) = operand_at defs t v >>= λ a. Some (record { ty = t; kept = k }, a)
 
 -- T K V
 unfoldable pub argument : Definitions → Form (Actual × OperandTree)
@@ -219,15 +218,13 @@ argument defs = made (actual_at defs) (pair value_type (pair kept value))
 
 -- ( T, .. [, ...] )
 unfoldable pub signature : Form Signature
-signature = mapped (λ x. record { params = x.0; varargs = x.1 }) (between LeftParen RightParen (dotted_list value_type))
-
--- what is called, of its parts
-abbrev pub callee_of : TailKind → KeptTexts × (Ty × (Option Signature × (Name × (List (Actual × OperandTree) × KeptTexts)))) → Callee
-callee_of tail x = record { tail = tail; before = x.0; signature = x.1.1.0; name = x.1.1.1.0; actuals = map (λ a. a.0) x.1.1.1.1.0; after = x.1.1.1.1.1 }
+signature = mapped (λ (params, varargs). record { params = params; varargs = varargs }) (between LeftParen RightParen (dotted_list value_type))
 
 -- a call, whose operands are the arguments
 abbrev pub call_tree : TailKind → KeptTexts × (Ty × (Option Signature × (Name × (List (Actual × OperandTree) × KeptTexts)))) → InstTree
-call_tree tail x = bare_inst (kinds.Call (callee_of tail x)) x.1.0 (map (λ a. a.1) x.1.1.1.1.0) []
+call_tree tail (before, (t, (s, (name, (arguments, after))))) =
+    bare_inst (kinds.Call (record { tail = tail; before = before; signature = s; name = name; actuals = map (λ (actual, _). actual) arguments; after = after }))
+    t (map (λ (_, a). a) arguments) []
 
 -- K R [( T, .. [, ...] )] @name ( T K V, .. ) K
 unfoldable pub call : Definitions → TailKind → Form InstTree
@@ -246,7 +243,7 @@ jump_tree l = bare_inst kinds.Jump Void [] (l ∷ [])
 
 -- a condition, and the labels for true and for false
 abbrev pub branch_tree : Definitions → WrittenValue × (Name × Name) → Option InstTree
-branch_tree defs x = operand_at defs (Int 1) x.0 >>= λ a. Some (bare_inst kinds.Branch Void (a ∷ []) (x.1.0 ∷ x.1.1 ∷ []))
+branch_tree defs (v, (on_true, on_false)) = operand_at defs (Int 1) v >>= λ a. Some (bare_inst kinds.Branch Void (a ∷ []) (on_true ∷ on_false ∷ []))
 
 -- label %name | i1 V, label %name, label %name
 unfoldable pub branch : Definitions → Form InstTree
@@ -258,7 +255,7 @@ case_of_switch = pair (pair width (one Number)) (after_mark Comma target)
 
 -- the numbers of the cases, each of this width, modulo 2^w
 abbrev pub cases_at : ℕ → List ((ℕ × List ℕ) × Name) → Option (List ℕ)
-cases_at w cs = if list_all (λ c. c.0.0 == w) cs then Some (map (λ c. number_at w c.0.1) cs) else None
+cases_at w cs = if list_all (λ ((v, _), _). v == w) cs then Some (map (λ ((_, s), _). number_at w s) cs) else None
 
 -- an instruction that is wide where this says so
 abbrev pub if_wide : Bool → InstTree → InstTree
@@ -266,9 +263,9 @@ if_wide wide i = record i { wide = wide }
 
 -- a value with its width, the label of the default, and the cases
 abbrev pub switch_tree : (ℕ × OperandTree) × (Name × List ((ℕ × List ℕ) × Name)) → Option InstTree
-switch_tree x =
-    cases_at x.0.0 x.1.1 >>= λ ns.
-    Some (if_wide (list_any (λ c. not (index_fits c.0)) x.1.1) (bare_inst (kinds.Switch x.0.0 ns) Void (x.0.1 ∷ []) (x.1.0 ∷ map (λ c. c.1) x.1.1)))
+switch_tree ((w, a), (other, cases)) =
+    cases_at w cases >>= λ ns.
+    Some (if_wide (list_any (λ (n, _). not (index_fits n)) cases) (bare_inst (kinds.Switch w ns) Void (a ∷ []) (other ∷ map (λ (_, l). l) cases)))
 
 -- iN V, label %name [ iN number, label %name .. ]
 unfoldable pub switch : Definitions → Form InstTree
@@ -276,7 +273,7 @@ switch defs = made switch_tree (pair (index_value defs) (pair (after_mark Comma 
 
 -- a return of a value at its type
 abbrev pub return_tree : Ty × OperandTree → InstTree
-return_tree x = bare_inst (kinds.Return x.0) Void (x.1 ∷ []) []
+return_tree (t, a) = bare_inst (kinds.Return t) Void (a ∷ []) []
 
 -- a return of no value
 abbrev pub void_tree : InstTree
@@ -307,7 +304,7 @@ with_kept i kept = record i { wide = list_any is_out_of_range i.args || i.wide; 
 
 -- an instruction, and its attachments behind it
 abbrev pub attached : Form InstTree → Form InstTree
-attached f = mapped (λ x. with_kept x.0 x.1) (pair f inst_attachments)
+attached f = mapped (λ (i, texts). with_kept i texts) (pair f inst_attachments)
 
 -- what is behind such a word, before the attachments
 abbrev pub operation_behind : Definitions → Operation → Form InstTree

@@ -18,7 +18,7 @@ use Rattle.ir_types.specs.ValueForms.{WrittenValue, value, operand_at}
 
 -- a value with its type
 abbrev pub with_type : Definitions → Ty × WrittenValue → Option (Ty × OperandTree)
-with_type defs x = operand_at defs x.0 x.1 >>= λ a. Some (x.0, a)
+with_type defs (t, v) = operand_at defs t v >>= λ a. Some (t, a)
 
 -- T V
 unfoldable pub typed_value : Definitions → Form (Ty × OperandTree)
@@ -34,7 +34,7 @@ two_values = pair value (after_mark Comma value)
 
 -- two values with the type of both
 abbrev pub both_at : Definitions → Ty × (WrittenValue × WrittenValue) → Option (Ty × (OperandTree × OperandTree))
-both_at ds x = operand_at ds x.0 x.1.0 >>= λ a. operand_at ds x.0 x.1.1 >>= λ b. Some (x.0, (a, b))
+both_at ds (t, (v, w)) = operand_at ds t v >>= λ a. operand_at ds t w >>= λ b. Some (t, (a, b))
 
 -- T V, V
 unfoldable pub typed_pair : Definitions → Form (Ty × (OperandTree × OperandTree))
@@ -46,7 +46,7 @@ pointer_value defs = made (operand_at defs Ptr) (behind (codes "ptr") value)
 
 -- a value with the width of its type
 abbrev pub with_width : Definitions → ℕ × WrittenValue → Option (ℕ × OperandTree)
-with_width defs x = operand_at defs (Int x.0) x.1 >>= λ a. Some (x.0, a)
+with_width defs (w, v) = operand_at defs (Int w) v >>= λ a. Some (w, a)
 
 -- iN V
 unfoldable pub index_value : Definitions → Form (ℕ × OperandTree)
@@ -76,7 +76,7 @@ align_or t (Some n) = n
 
 -- elements, and whether dots stand behind them
 abbrev pub dotted : {A : Type 0} → List A × Option (Unit {0}) → List A × Bool
-dotted x = (x.0, is_some x.1)
+dotted (xs, dots) = (xs, is_some dots)
 
 -- `...`, or elements parted by commas [, ...], or nothing
 abbrev pub dotted_list : {A : Type 0} → Form A → Form (List A × Bool)

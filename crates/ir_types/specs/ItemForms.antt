@@ -35,17 +35,17 @@ attribute_group = joined (kept_one AttributeGroup) (joined (kept_one Equal) in_b
 
 -- $name = comdat word
 unfoldable pub comdat : Form KeptTexts
-comdat = mapped (λ x. x.0 ∷ x.1) (ahead Comdat (joined (kept_one Equal) (joined (kept_token Word (codes "comdat")) (kept_one Word))))
+comdat = mapped (λ (name, texts). name ∷ texts) (ahead Comdat (joined (kept_one Equal) (joined (kept_token Word (codes "comdat")) (kept_one Word))))
 
 -- !name = [distinct] !{ balanced }
 unfoldable pub metadata : Form KeptTexts
-metadata = mapped (λ x. x.0 ∷ x.1) (ahead Metadata (joined (kept_one Equal) (joined (perhaps (kept_token Word (codes "distinct"))) (joined (kept_one Bang) in_braces))))
+metadata = mapped (λ (name, texts). name ∷ texts) (ahead Metadata (joined (kept_one Equal) (joined (perhaps (kept_token Word (codes "distinct"))) (joined (kept_one Bang) in_braces))))
 
 -- ---- named types and variables, where memory types are of the form m
 
 -- a named type
 abbrev pub named_type : List ℕ × Option (List TypeNode) → Option (Item WrittenFunction)
-named_type x = name_behind x.0 >>= λ n. Some (type_item n x.1)
+named_type (s, m) = name_behind s >>= λ n. Some (type_item n m)
 
 -- %name = type M | %name = type opaque
 unfoldable pub type_definition : Form (List TypeNode) → Form (Item WrittenFunction)
@@ -53,7 +53,7 @@ type_definition m = made named_type (ahead Local (after_mark Equal (behind (code
 
 -- where a variable's initialiser ends, outside brackets: at a comma, and where an item begins
 unfoldable pub initialiser_stops : Stops
-initialiser_stops = record { kinds = Comma ∷ []; words = map (λ e. e.0) item_words; before_equal = Local ∷ Global ∷ Comdat ∷ Metadata ∷ [] }
+initialiser_stops = record { kinds = Comma ∷ []; words = map (λ (w, _). w) item_words; before_equal = Local ∷ Global ∷ Comdat ∷ Metadata ∷ [] }
 
 -- section string | comdat [ ($name) ] | align n | an attachment
 unfoldable pub extra_behind : Form (Extra × KeptTexts)
@@ -64,11 +64,11 @@ extra_behind =
 
 -- the same behind a comma
 abbrev pub extra : Form (Extra × KeptTexts)
-extra = mapped (λ x. (x.1.0, x.0 ∷ x.1.1)) (ahead Comma extra_behind)
+extra = mapped (λ (comma, (e, texts)). (e, comma ∷ texts)) (ahead Comma extra_behind)
 
 -- how many of them are of one kind
 abbrev pub count_of : (Extra → Bool) → List (Extra × KeptTexts) → ℕ
-count_of p xs = count_by (λ x. p x.0) xs
+count_of p xs = count_by (λ (e, _). p e) xs
 
 abbrev pub is_section : Extra → Bool
 is_section Section = true
@@ -85,7 +85,7 @@ is_alignment e = false
 -- the texts of all, where no two are sections, comdats or alignments
 abbrev pub kept_once : List (Extra × KeptTexts) → Option KeptTexts
 kept_once xs =
-    if nat_le (count_of is_section xs) 1 && (nat_le (count_of is_comdat xs) 1 && nat_le (count_of is_alignment xs) 1) then Some (concat (map (λ x. x.1) xs)) else None
+    if nat_le (count_of is_section xs) 1 && (nat_le (count_of is_comdat xs) 1 && nat_le (count_of is_alignment xs) 1) then Some (concat (map (λ (_, texts). texts) xs)) else None
 
 -- [initialiser] [, section string] [, comdat [($name)]] [, align n] A, all behind the initialiser in any order
 unfoldable pub behind_type : Form KeptTexts
@@ -97,7 +97,7 @@ variable_word = either (word (codes "global") true) (word (codes "constant") fal
 
 -- a variable of its parts
 abbrev pub named_variable : List ℕ × (KeptTexts × (Bool × (List TypeNode × KeptTexts))) → Option (Item WrittenFunction)
-named_variable x = name_behind x.0 >>= λ n. Some (variable_item (record { name = n; before = x.1.0; writable = x.1.1.0; ty = x.1.1.1.0; after = x.1.1.1.1 }))
+named_variable (s, (before, (writable, (m, after)))) = name_behind s >>= λ n. Some (variable_item (record { name = n; before = before; writable = writable; ty = m; after = after }))
 
 -- @name = K (global | constant) M ..
 unfoldable pub variable_definition : Form (List TypeNode) → Form (Item WrittenFunction)

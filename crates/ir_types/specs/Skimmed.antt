@@ -34,7 +34,7 @@ pub record Outline : Type 0 where
 
 -- the parts of a declared function
 abbrev pub declared_outline : KeptTexts × (Ty × (Name × (List Lexeme × KeptTexts))) → Outline
-declared_outline x = record { name = x.1.1.0; before = x.0; ret = x.1.0; params = x.1.1.1.0; after = x.1.1.1.1; body = None }
+declared_outline (before, (t, (name, (params, after)))) = record { name = name; before = before; ret = t; params = params; after = after; body = None }
 
 -- B K R @name ( .. ) K
 unfoldable pub skimmed_declaration : Form Outline
@@ -42,7 +42,7 @@ skimmed_declaration = mapped declared_outline (pair (joined attachments kept) (p
 
 -- the parts of a defined function
 abbrev pub defined_outline : KeptTexts × (Ty × (Name × (List Lexeme × (KeptTexts × List Lexeme)))) → Outline
-defined_outline x = record { name = x.1.1.0; before = x.0; ret = x.1.0; params = x.1.1.1.0; after = x.1.1.1.1.0; body = Some x.1.1.1.1.1 }
+defined_outline (before, (t, (name, (params, (after, body))))) = record { name = name; before = before; ret = t; params = params; after = after; body = Some body }
 
 -- K R @name ( .. ) K B { .. }
 unfoldable pub skimmed_definition : Form Outline

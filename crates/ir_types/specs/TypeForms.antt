@@ -37,11 +37,11 @@ lanes_of (c ∷ ds) = if c == 45 then None else find (λ n. n == number_of (c �
 
 -- a vector of so many lanes of a width
 abbrev pub vector_of : List ℕ × ℕ → Option Ty
-vector_of x = lanes_of x.0 >>= λ n. Some (Vector n x.1)
+vector_of (digits, w) = lanes_of digits >>= λ n. Some (Vector n w)
 
 -- n x iN >
 abbrev pub vector_parts : Form (List ℕ × ℕ)
-vector_parts = mapped (λ x. x.0) (pair (pair (one Number) (behind (codes "x") width)) (mark Greater))
+vector_parts = mapped (λ (parts, _). parts) (pair (pair (one Number) (behind (codes "x") width)) (mark Greater))
 
 -- < n x iN >, where a number stands behind `<`
 unfoldable pub vector_type : Form Ty
@@ -66,7 +66,7 @@ memory_leaf = either (mapped (λ t. scalar t ∷ []) value_type) (mapped (λ n. 
 
 -- [ n x
 unfoldable pub array_begin : Form (List TypeNode)
-array_begin = mapped (λ n. array n.0 ∷ []) (after_mark LeftBracket (pair (made elements_of (one Number)) (exactly Word (codes "x"))))
+array_begin = mapped (λ (n, _). array n ∷ []) (after_mark LeftBracket (pair (made elements_of (one Number)) (exactly Word (codes "x"))))
 
 -- what stands in memory types: T | %name | [ n x M ] | { M, .. } | <{ M, .. }>
 unfoldable pub type_parts : TypeParts TypeNode

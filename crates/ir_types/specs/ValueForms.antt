@@ -77,7 +77,7 @@ comma_index = after_mark Comma (pair width (one Number))
 -- getelementptr [inbounds] [nuw] [nusw] ( M, ptr @name, iN number, .. ): the flags are read and not kept
 unfoldable pub constant_offset : Form (List TypeNode × (Name × List (ℕ × List ℕ)))
 constant_offset =
-    behind (codes "getelementptr") (mapped (λ x. x.1) (pair three_flags (between LeftParen RightParen (pair inst_memory (pair (after_mark Comma (behind (codes "ptr") global_name)) (some comma_index))))))
+    behind (codes "getelementptr") (mapped (λ (_, offset). offset) (pair three_flags (between LeftParen RightParen (pair inst_memory (pair (after_mark Comma (behind (codes "ptr") global_name)) (some comma_index))))))
 
 -- V := %name | number | true | false | null | poison | zeroinitializer | splat ( T V ) | < T V, .. > | @name | getelementptr .. ( M, ptr @name, .. )
 unfoldable pub value : Form WrittenValue
@@ -112,11 +112,11 @@ lane_fits w lane_poison = true
 
 -- an index with its width, modulo 2^w
 abbrev pub index_of : ℕ × List ℕ → ℕ × ℕ
-index_of x = (x.0, number_at x.0 x.1)
+index_of (w, s) = (w, number_at w s)
 
 -- whether an index is in its width's range
 abbrev pub index_fits : ℕ × List ℕ → Bool
-index_fits x = fits_width x.0 x.1
+index_fits (w, s) = fits_width w s
 
 -- this operand where its numbers are in range, else one that says that they aren't
 abbrev pub if_in_range : Bool → OperandTree → OperandTree
@@ -136,14 +136,14 @@ zeros_at t = None
 
 -- one lane for all at a type: a vector's, whose element type is written
 abbrev pub splat_at : Ty → Ty × WrittenLane → Option OperandTree
-splat_at (Vector n w) x = if is_int w x.0 then Some (if_in_range (lane_fits w x.1) (lanes (replicate n (lane_at w x.1)))) else None
+splat_at (Vector n w) (t, l) = if is_int w t then Some (if_in_range (lane_fits w l) (lanes (replicate n (lane_at w l)))) else None
 splat_at t x = None
 
 -- lanes at a type: a vector's, whose element type is written with each; how many they are is not looked at
 abbrev pub lanes_at : Ty → List (Ty × WrittenLane) → Option OperandTree
 lanes_at (Vector n w) xs =
-    if list_all (λ x. is_int w x.0) xs
-    then Some (if_in_range (list_all (λ x. lane_fits w x.1) xs) (lanes (map (λ x. lane_at w x.1) xs)))
+    if list_all (λ (t, _). is_int w t) xs
+    then Some (if_in_range (list_all (λ (_, l). lane_fits w l) xs) (lanes (map (λ (_, l). lane_at w l) xs)))
     else None
 lanes_at t xs = None
 
@@ -160,5 +160,5 @@ operand_at defs t zeros = zeros_at t
 operand_at defs t (splat x) = splat_at t x
 operand_at defs t (lane_list xs) = lanes_at t xs
 operand_at defs t (symbol n) = Some (global n 0)
-operand_at defs t (stepped x) =
-    offset_of defs x.0 (map index_of x.1.1) >>= λ o. Some (if list_all index_fits x.1.1 then global x.1.0 o else out_of_range (Some x.1.0))
+operand_at defs t (stepped (m, (n, is))) =
+    offset_of defs m (map index_of is) >>= λ o. Some (if list_all index_fits is then global n o else out_of_range (Some n))

@@ -52,12 +52,12 @@ terminator_words = (codes "br", terminators.Br) ∷ (codes "switch", terminators
 
 -- the words with which instructions begin
 unfoldable pub instruction_words : List (List ℕ)
-instruction_words = map (λ e. e.0) operation_words ++ (map (λ e. e.0) terminator_words ++ codes "unreachable" ∷ [])
+instruction_words = map (λ (w, _). w) operation_words ++ (map (λ (w, _). w) terminator_words ++ codes "unreachable" ∷ [])
 
 -- the words that no kept run has outside parentheses, but for `align` and `cc`, behind which a number may stand
 unfoldable pub excluded_words : List (List ℕ)
 excluded_words =
-    codes "align" ∷ codes "cc" ∷ codes "global" ∷ codes "constant" ∷ (type_words ++ (value_words ++ (map (λ e. e.0) item_words ++ (instruction_words ++ left_out_words))))
+    codes "align" ∷ codes "cc" ∷ codes "global" ∷ codes "constant" ∷ (type_words ++ (value_words ++ (map (λ (w, _). w) item_words ++ (instruction_words ++ left_out_words))))
 
 -- K: as many words, attributes and other pieces as stand there, which are kept as they are
 unfoldable pub kept : Form KeptTexts
