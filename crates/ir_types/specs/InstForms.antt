@@ -33,7 +33,7 @@ use Rattle.ir_types.specs.TypeForms.{local_name, global_name, width, value_type,
 use Rattle.ir_types.specs.FlagForms.{one_flag, two_flags, three_flags, no_flags, wrap_flags, exact_flag, disjoint_flag}
 use Rattle.ir_types.specs.ValueForms.{WrittenValue, value, index_fits, operand_at}
 use Rattle.ir_types.specs.Words.{operation_words, terminator_words, kept}
-use Rattle.ir_types.specs.InstParts.{typed_value, comma_typed, typed_pair, pointer_value, index_value, to_type, target, alignment, align_or, dotted_list}
+use Rattle.ir_types.specs.InstParts.{TypedOperand, typed_value, comma_typed, typed_pair, pointer_value, index_value, to_type, target, alignment, align_or, dotted_list}
 
 -- ---- without the name of the result and attachments
 
@@ -88,11 +88,11 @@ unfoldable pub compare : Definitions → Form InstTree
 compare defs = by_word predicates (compared defs)
 
 -- three values with their types
-abbrev pub three_values : Definitions → Form ((Ty × OperandTree) × ((Ty × OperandTree) × (Ty × OperandTree)))
+abbrev pub three_values : Definitions → Form (TypedOperand × (TypedOperand × TypedOperand))
 three_values defs = pair (typed_value defs) (pair (comma_typed defs) (comma_typed defs))
 
 -- a condition and two arms; the result has the first arm's type
-abbrev pub select_tree : (Ty × OperandTree) × ((Ty × OperandTree) × (Ty × OperandTree)) → InstTree
+abbrev pub select_tree : TypedOperand × (TypedOperand × TypedOperand) → InstTree
 select_tree ((bits, c), ((t, a), (u, b))) = bare_inst (kinds.Select bits u) t (c ∷ a ∷ b ∷ []) []
 
 -- T V, T V, T V
@@ -100,7 +100,7 @@ unfoldable pub select : Definitions → Form InstTree
 select defs = mapped select_tree (three_values defs)
 
 -- a value of its own type
-abbrev pub freeze_tree : Ty × OperandTree → InstTree
+abbrev pub freeze_tree : TypedOperand → InstTree
 freeze_tree (t, a) = bare_inst kinds.Freeze t (a ∷ []) []
 
 -- T V
@@ -108,7 +108,7 @@ unfoldable pub freeze : Definitions → Form InstTree
 freeze defs = mapped freeze_tree (typed_value defs)
 
 -- a cast of a value to a type
-abbrev pub cast_tree : (Ty → Kind) → (Ty × OperandTree) × Ty → InstTree
+abbrev pub cast_tree : (Ty → Kind) → TypedOperand × Ty → InstTree
 cast_tree kind ((from, a), to) = bare_inst (kind from) to (a ∷ []) []
 
 -- [nuw] [nsw] T V to T
@@ -165,7 +165,7 @@ unfoldable pub load : Definitions → Form InstTree
 load ds = mapped load_tree (pair value_type (pair (after_mark Comma (pointer_value ds)) alignment))
 
 -- a store of a value to a pointer
-abbrev pub store_tree : (Ty × OperandTree) × (OperandTree × Option ℕ) → InstTree
+abbrev pub store_tree : TypedOperand × (OperandTree × Option ℕ) → InstTree
 store_tree ((t, a), (p, align)) = bare_inst (kinds.Store t (align_or t align)) Void (a ∷ p ∷ []) []
 
 -- T V, ptr V [, align n]
@@ -180,7 +180,7 @@ element_of Ptr = Ptr
 element_of Void = Void
 
 -- a lane of a vector
-abbrev pub extract_tree : (Ty × OperandTree) × (ℕ × OperandTree) → InstTree
+abbrev pub extract_tree : TypedOperand × (ℕ × OperandTree) → InstTree
 extract_tree ((t, a), (w, i)) = bare_inst (kinds.Extract t w) (element_of t) (a ∷ i ∷ []) []
 
 -- T V, iN V
@@ -188,7 +188,7 @@ unfoldable pub extractelement : Definitions → Form InstTree
 extractelement ds = mapped extract_tree (pair (typed_value ds) (after_mark Comma (index_value ds)))
 
 -- a vector with another lane
-abbrev pub insert_tree : (Ty × OperandTree) × ((Ty × OperandTree) × (ℕ × OperandTree)) → InstTree
+abbrev pub insert_tree : TypedOperand × (TypedOperand × (ℕ × OperandTree)) → InstTree
 insert_tree ((t, a), ((u, b), (w, i))) = bare_inst (kinds.Insert u w) t (a ∷ b ∷ i ∷ []) []
 
 -- T V, T V, iN V
@@ -201,7 +201,7 @@ shuffled (Vector n w) (Vector m v) = Vector m w
 shuffled t u = t
 
 -- two vectors and a mask
-abbrev pub shuffle_tree : (Ty × OperandTree) × ((Ty × OperandTree) × (Ty × OperandTree)) → InstTree
+abbrev pub shuffle_tree : TypedOperand × (TypedOperand × TypedOperand) → InstTree
 shuffle_tree ((t, a), ((u, b), (m, mask))) = bare_inst (kinds.Shuffle t u m) (shuffled t m) (a ∷ b ∷ mask ∷ []) []
 
 -- T V, T V, T V
@@ -272,7 +272,7 @@ unfoldable pub switch : Definitions → Form InstTree
 switch defs = made switch_tree (pair (index_value defs) (pair (after_mark Comma target) (between LeftBracket RightBracket (many case_of_switch))))
 
 -- a return of a value at its type
-abbrev pub return_tree : Ty × OperandTree → InstTree
+abbrev pub return_tree : TypedOperand → InstTree
 return_tree (t, a) = bare_inst (kinds.Return t) Void (a ∷ []) []
 
 -- a return of no value

@@ -16,16 +16,20 @@ use Rattle.ir_types.specs.TypeForms.{local_name, width, value_type}
 use Rattle.ir_types.specs.FlagForms.{or_else}
 use Rattle.ir_types.specs.ValueForms.{WrittenValue, value, operand_at}
 
+-- a value and its type
+abbrev pub TypedOperand : Type 0
+TypedOperand = Ty × OperandTree
+
 -- a value with its type
-abbrev pub with_type : Definitions → Ty × WrittenValue → Option (Ty × OperandTree)
+abbrev pub with_type : Definitions → Ty × WrittenValue → Option TypedOperand
 with_type defs (t, v) = operand_at defs t v >>= λ a. Some (t, a)
 
 -- T V
-unfoldable pub typed_value : Definitions → Form (Ty × OperandTree)
+unfoldable pub typed_value : Definitions → Form TypedOperand
 typed_value defs = made (with_type defs) (pair value_type value)
 
 -- , T V
-abbrev pub comma_typed : Definitions → Form (Ty × OperandTree)
+abbrev pub comma_typed : Definitions → Form TypedOperand
 comma_typed defs = after_mark Comma (typed_value defs)
 
 -- V, V

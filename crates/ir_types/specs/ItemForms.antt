@@ -113,13 +113,13 @@ item_behind defs items.Declare = mapped function_item declared_function
 item_behind defs items.Define = mapped function_item (defined_function defs)
 item_behind defs items.Attributes = mapped (λ xs. attribute_line (codes "attributes" ∷ xs)) attribute_group
 
+-- an item that begins with no word, where memory types are of the form m
+abbrev pub wordless_item : Form (List TypeNode) → Form (Item WrittenFunction)
+wordless_item m = either (mapped comdat_line comdat) (either (mapped metadata_line metadata) (either (type_definition m) (variable_definition m)))
+
 -- an item, where names of types are defined so and memory types are of the form m
 unfoldable pub item : Definitions → Form (List TypeNode) → Form (Item WrittenFunction)
-item defs m =
-    either (by_word item_words (item_behind defs))
-    (either (mapped comdat_line comdat)
-    (either (mapped metadata_line metadata)
-    (either (type_definition m) (variable_definition m))))
+item defs m = either (by_word item_words (item_behind defs)) (wordless_item m)
 
 -- item .., where names of types are defined so and memory types are nested at most so deep
 unfoldable pub module_form : Definitions → ℕ → Form (List (Item WrittenFunction))

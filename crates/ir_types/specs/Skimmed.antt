@@ -18,7 +18,7 @@ use Rattle.text_forms.specs.Combined.{some, list}
 use Rattle.ir_types.specs.TypeForms.{return_type, global_name, memory_type}
 use Rattle.ir_types.specs.Words.{kept, item_words}
 use Rattle.ir_types.specs.FunctionForms.{parameter, block, declared_tree, defined_tree, dotted_parameters}
-use Rattle.ir_types.specs.ItemForms.{item_behind, comdat, metadata, type_definition, variable_definition}
+use Rattle.ir_types.specs.ItemForms.{item_behind, wordless_item}
 
 -- ---- items as they are skimmed
 
@@ -71,10 +71,6 @@ skimmed_behind items.Target = mapped as_it_is (item_behind [] items.Target)
 skimmed_behind items.Declare = mapped (λ s. function_item (outlined s)) skimmed_declaration
 skimmed_behind items.Define = mapped (λ s. function_item (outlined s)) skimmed_definition
 skimmed_behind items.Attributes = mapped as_it_is (item_behind [] items.Attributes)
-
--- an item that begins with no word, where memory types are of the form m
-abbrev pub wordless_item : Form (List TypeNode) → Form (Item WrittenFunction)
-wordless_item m = either (mapped comdat_line comdat) (either (mapped metadata_line metadata) (either (type_definition m) (variable_definition m)))
 
 -- an item, where memory types are of the form m
 unfoldable pub skimmed_item : Form (List TypeNode) → Form (Item Skimmed)
