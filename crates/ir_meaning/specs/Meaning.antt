@@ -1,5 +1,5 @@
 -- What a module does: its steps. A state in which the module says nothing of the next step stands still.
-use Rattle.std.specs.Prelude.{ℕ, map, replicate, ◌+◌, Bool, true, false, if◌then◌else◌, nat_eq, is_some, List, [], ◌∷◌, length, slice_get, find, zip, take_while, Option, Some, None}
+use Rattle.std.specs.Prelude.{ℕ, map, replicate, ◌+◌, if◌then◌else◌, nat_eq, is_some, List, [], ◌∷◌, length, slice_get, find, zip, take_while, Option, Some, None}
 use Rattle.text_forms.specs.Bind.{◌>>=◌}
 use Rattle.ir_types.specs.declared.name.Name.{Name}
 use Rattle.ir_types.specs.declared.inst.Ty.{Ty}

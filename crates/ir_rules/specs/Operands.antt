@@ -1,5 +1,5 @@
 -- Whether operands and labels are what an instruction takes at their places.
-use Rattle.std.specs.Prelude.{ℕ, ◌^◌, Bool, true, false, ◌&&◌, nat_eq, nat_lt, List, [], ◌∷◌, length, Option, Some, None}
+use Rattle.std.specs.Prelude.{◌^◌, Bool, true, false, ◌&&◌, nat_eq, nat_lt, List, [], ◌∷◌, length}
 use Rattle.std.specs.List.{list_any, list_all}
 use Rattle.ir_types.specs.Types.{fits_lane}
 use Rattle.ir_types.specs.declared.name.Name.{Name}

@@ -11,7 +11,7 @@ use Rattle.ir_types.specs.declared.call.Actual.{Actual}
 use Rattle.ir_types.specs.declared.call.Signature.{Signature}
 use Rattle.ir_types.specs.declared.call.TailKind.{TailKind}
 use Rattle.ir_types.specs.declared.call.TailKind.TheVariants.{Unmarked, Tail, MustTail, NoTail}
-use Rattle.ir_types.specs.Kinds.{Offset, Call}
+use Rattle.ir_types.specs.Kinds.{Offset}
 use Rattle.ir_types.specs.Offsets.{Definitions}
 use Rattle.ir_types.specs.Tree.{OperandTree}
 use Rattle.ir_types.specs.ValueForms.{operand_at}

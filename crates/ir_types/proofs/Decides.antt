@@ -1,7 +1,7 @@
 -- One token ahead decides what the grammar reads; where a comma or a name with `=` leads, what stands behind it.
 use Rattle.std.proofs.Common.{◌≡◌, ℕ, zero, suc, true, false, List, [], ◌∷◌, ◌++◌, codes, refl, sym, subst}
 use Rattle.text_forms.specs.declared.TokenKind.TheVariants.{Word}
-use Rattle.text_forms.specs.Form.{Form, by_word, either, mapped, many}
+use Rattle.text_forms.specs.Form.{Form, by_word, either, many}
 use Rattle.text_forms.specs.Reading.{Terminal, this, all_apart, decides, nullable, first, after}
 use Rattle.text_forms.specs.Nested.{PartsDecide}
 use Rattle.text_forms.specs.Kept.{kept_piece, kept_run, metadata_node, attachment, attachments}
@@ -9,7 +9,7 @@ use Rattle.text_forms.specs.LeftOut.{left_out_words}
 use Rattle.text_forms.proofs.NestedDecides.{memory_decides, memory_takes, memory_after}
 use Rattle.ir_types.specs.Offsets.{Definitions}
 use Rattle.ir_types.specs.TypeNodes.{TypeNode}
-use Rattle.ir_types.specs.Tree.{WrittenFunction, Item, comdat_line, metadata_line}
+use Rattle.ir_types.specs.Tree.{WrittenFunction, Item}
 use Rattle.ir_types.specs.TypeForms.{local_name, global_name, label, width, vector_type, value_type, memory_leaf, array_begin, type_parts, memory_type, return_type, inst_memory, type_words}
 use Rattle.ir_types.specs.FlagForms.{three_flags}
 use Rattle.ir_types.specs.ValueForms.{lane, constant_word, typed_lane, constant_offset, value}
