@@ -1,8 +1,6 @@
 -- Worked examples of the rules: texts, and what is found in them.
-use Rattle.std.proofs.Common.{◌≡◌, ℕ, List, [], ◌∷◌, ◌++◌, length, codes, Option, Some, None, if◌then◌else◌, eqb, refl}
-use Rattle.text_forms.specs.declared.TokenKind.{TokenKind}
-use Rattle.text_forms.specs.Form.{Lexeme}
-use Rattle.text_forms.specs.Lexical.{kind_of, table}
+use Rattle.std.proofs.Common.{◌≡◌, ℕ, List, [], ◌∷◌, length, codes, Option, Some, refl}
+use Rattle.text_forms.specs.Lexical.{table}
 use Rattle.text_forms.specs.Reading.{◌>>=◌, read_whole}
 use Rattle.text_forms.specs.Kept.{kept_piece, kept_run, metadata_node, attachment, attachments}
 use Rattle.text_forms.specs.LeftOut.{left_out_words}
@@ -27,19 +25,12 @@ use Rattle.ir_rules.specs.declared.fault.Subject.TheVariants.{Nothing, Local, Sy
 use Rattle.ir_rules.specs.Breaches.{outside, inside}
 use Rattle.ir_intrinsics.specs.Intrinsics.{families, lifetimes, width_texts, lane_texts}
 use Rattle.ir_rules.specs.WellFormed.{early_breaches}
+use Rattle.worked_examples.proofs.Tokens.{tokens_of}
 
--- ---- a text whose tokens are parted by spaces, as a module
-
-abbrev token : List ℕ → Option TokenKind → List Lexeme
-token w None = []
-token w (Some k) = record { kind = k; text = w } ∷ []
-
-abbrev tokens : List ℕ → List ℕ → List Lexeme
-tokens w [] = token w (kind_of w)
-tokens w (c ∷ cs) = if eqb c 32 then token w (kind_of w) ++ tokens [] cs else tokens (w ++ c ∷ []) cs
+-- ---- a text as a module
 
 abbrev tree : List ℕ → Option ModuleTree
-tree s = read_whole (module_form [] (length (tokens [] s))) (tokens [] s) >>= numbered_module >>= λ items. Some (collected items)
+tree s = read_whole (module_form [] (length (tokens_of s))) (tokens_of s) >>= numbered_module >>= λ items. Some (collected items)
 
 -- what is found in a text, of all rules but the last
 abbrev found : List ℕ → Option (List (Rule × Breach))

@@ -1,10 +1,9 @@
 -- Worked examples of what names, numbers and texts stand for.
 use Rattle.std.specs.List.{filter_map}
-use Rattle.std.proofs.Common.{◌≡◌, ℕ, true, false, length, take, ◌+◌, ◌%◌, ◌^◌, List, [], ◌∷◌, ◌++◌, map, codes, Option, Some, None, if◌then◌else◌, eqb, refl, Bool}
+use Rattle.std.proofs.Common.{◌≡◌, ℕ, true, false, length, take, ◌+◌, ◌%◌, ◌^◌, List, [], ◌∷◌, ◌++◌, map, codes, Option, Some, None, refl, Bool}
 use Rattle.std.specs.Prelude.{is_some, slice_get, ◌-◌}
-use Rattle.text_forms.specs.declared.TokenKind.{TokenKind}
 use Rattle.text_forms.specs.Form.{Lexeme}
-use Rattle.text_forms.specs.Lexical.{kind_of, table}
+use Rattle.text_forms.specs.Lexical.{table}
 use Rattle.text_forms.specs.Kept.{kept_piece, kept_run, metadata_node, attachment, attachments}
 use Rattle.text_forms.specs.LeftOut.{left_out_words}
 use Rattle.text_forms.specs.Reading.{◌>>=◌, read_whole}
@@ -33,6 +32,7 @@ use Rattle.ir_types.specs.ItemForms.{target_line, attribute_group, comdat, metad
 use Rattle.ir_types.specs.Sizes.{Layout, value_size, struct_layout}
 use Rattle.ir_types.specs.Numbered.{numbered_module}
 use Rattle.ir_types.specs.Collected.{as_function, collected}
+use Rattle.worked_examples.proofs.Tokens.{tokens_of}
 
 -- a backslash, and a string between quotation marks
 abbrev slash : ℕ
@@ -115,21 +115,13 @@ record Names : Type 0 where
 names : Names
 names = record { bare = refl; string = refl; same = refl; escaped = refl; empty = refl; digits = refl; padded = refl; greatest = refl; beyond = refl; quoted_digits = refl; label_digits = refl; label_bare = refl; label_string = refl; label_beyond = refl; label_sign = refl }
 
--- ---- texts, in which a space stands between any two tokens
-
-abbrev token : List ℕ → Option TokenKind → List Lexeme
-token w None = []
-token w (Some k) = record { kind = k; text = w } ∷ []
-
-abbrev tokens : List ℕ → List ℕ → List Lexeme
-tokens w [] = token w (kind_of w)
-tokens w (c ∷ cs) = if eqb c 32 then token w (kind_of w) ++ tokens [] cs else tokens (w ++ c ∷ []) cs
+-- ---- what a text reads as
 
 abbrev read_items : List Lexeme → Option (List (Item WrittenFunction))
 read_items ts = read_whole (module_form [] (length ts)) ts
 
 abbrev reading : List ℕ → Option (List (Item WrittenFunction))
-reading s = read_items (tokens [] s)
+reading s = read_items (tokens_of s)
 
 abbrev is_read : List ℕ → Bool
 is_read s = is_some (reading s)
@@ -239,10 +231,10 @@ readings = record { whole = refl; numbers = refl; none = refl; operands = refl; 
 -- ---- instructions
 
 abbrev inst : List ℕ → Option InstTree
-inst s = read_whole (operation []) (tokens [] s)
+inst s = read_whole (operation []) (tokens_of s)
 
 abbrev last_inst : List ℕ → Option InstTree
-last_inst s = read_whole (terminator []) (tokens [] s)
+last_inst s = read_whole (terminator []) (tokens_of s)
 
 abbrev x : OperandTree
 x = local (Text (codes "x"))
@@ -449,7 +441,7 @@ first_args items = slice_get (filter_map as_function items) 0 >>= λ f. slice_ge
 
 -- a function that compares a pointer with null, behind some types
 abbrev compares : (types pointer : List ℕ) → List Lexeme
-compares types pointer = tokens [] (types ++ codes " define void @f ( ) { icmp eq ptr null , " ++ pointer ++ codes " ret void }")
+compares types pointer = tokens_of (types ++ codes " define void @f ( ) { icmp eq ptr null , " ++ pointer ++ codes " ret void }")
 
 -- the operands of the comparison, where the types are those that are defined
 abbrev constant : (types pointer : List ℕ) → Option (List OperandTree)
@@ -519,7 +511,7 @@ constants = record { bare = refl; member = refl; packed = refl; named_twice = re
 
 -- a constant whose type is defined behind it: the items that are read with these definitions have these definitions
 abbrev later_text : List Lexeme
-later_text = tokens [] (codes "define void @f ( ) { icmp eq ptr null , getelementptr ( %s , ptr @v , i64 1 ) ret void } %s = type i64")
+later_text = tokens_of (codes "define void @f ( ) { icmp eq ptr null , getelementptr ( %s , ptr @v , i64 1 ) ret void } %s = type i64")
 
 abbrev later_definitions : Definitions
 later_definitions = (Text (codes "s"), Some (scalar (Int 64) ∷ [])) ∷ []

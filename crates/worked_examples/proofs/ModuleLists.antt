@@ -1,8 +1,7 @@
 -- A worked example of a module's lists: places in them stand for what the text's items name, and what is only used stands behind the others.
-use Rattle.std.proofs.Common.{◌≡◌, ℕ, true, false, length, List, [], ◌∷◌, ◌++◌, map, codes, Option, Some, None, if◌then◌else◌, eqb, refl}
-use Rattle.text_forms.specs.declared.TokenKind.{TokenKind}
+use Rattle.std.proofs.Common.{◌≡◌, ℕ, true, false, length, List, [], ◌∷◌, ◌++◌, map, codes, Option, Some, None, refl}
 use Rattle.text_forms.specs.Form.{Lexeme}
-use Rattle.text_forms.specs.Lexical.{kind_of, table}
+use Rattle.text_forms.specs.Lexical.{table}
 use Rattle.text_forms.specs.Kept.{kept_piece, kept_run, metadata_node, attachment, attachments}
 use Rattle.text_forms.specs.LeftOut.{left_out_words}
 use Rattle.text_forms.specs.Reading.{◌>>=◌, read_whole}
@@ -34,21 +33,14 @@ use Rattle.ir_types.specs.Numbered.{numbered_module}
 use Rattle.ir_types.specs.Collected.{collected}
 use Rattle.ir_types.specs.Used.{all_type_names, all_symbol_names}
 use Rattle.ir_types.specs.Denotes.{tree_of, type_names_of}
+use Rattle.worked_examples.proofs.Tokens.{tokens_of}
 
 -- ---- the text
-
-abbrev token : List ℕ → Option TokenKind → List Lexeme
-token w None = []
-token w (Some k) = record { kind = k; text = w } ∷ []
-
-abbrev tokens : List ℕ → List ℕ → List Lexeme
-tokens w [] = token w (kind_of w)
-tokens w (c ∷ cs) = if eqb c 32 then token w (kind_of w) ++ tokens [] cs else tokens (w ++ c ∷ []) cs
 
 -- %q and %r, @w and @z are used and not defined
 abbrev text : List Lexeme
 text =
-    tokens []
+    tokens_of
     (codes "define void @f ( ptr %p ) { getelementptr { %q , %t } , ptr %p , i64 1 store ptr getelementptr ( %t , ptr @w , i64 2 ) , ptr @v store ptr @z , ptr @w ret void } "
     ++ codes "@v = global %t 0 %t = type i64 %u = type [ 2 x %r ]")
 
