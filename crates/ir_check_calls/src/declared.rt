@@ -6,9 +6,9 @@ ghost use Rattle.ir_rules.specs.Breaches.{first};
 ghost use Rattle.ir_intrinsics.specs.Means.{meant_in};
 ghost use Rattle.ir_check_calls.specs.Heads.{has_signature_of, may_mean_of, means_rightly_of, misdeclared_of};
 
-use crate::types::{same_type, same_types};
+use crate::types::same_types;
 use ir_intrinsics::{Intrinsic, meant_by};
-use ir_rules::{Breach, Subject};
+use ir_rules::{Breach, Subject, same_type};
 use ir_types::{Function, Symbol, SymbolKind, Ty};
 use lists::Copies;
 use std::alloc::AllocError;

@@ -11,7 +11,8 @@ ghost use Rattle.ir_check_fits.specs.Masked.{masked_in};
 
 use crate::masked::{Masked, access_of};
 use crate::numbers::is_written_alignment;
-use crate::operands::{is_bits, same_type};
+use crate::operands::is_bits;
+use ir_rules::same_type;
 use ir_types::{Actual, Callee, Operand, Ty};
 
 // Whether a masked load may load a type, and its alignment is written, where it has one.

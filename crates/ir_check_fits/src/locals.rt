@@ -5,7 +5,7 @@ ghost use Rattle.ir_types.specs.Names.{IsTable};
 ghost use Rattle.ir_rules.specs.Locals.{Given};
 ghost use Rattle.ir_check_fits.specs.Roles.{as_given, same_role, any_passes, has_role, is_there, at_param, at_result, at_block, at_function};
 
-use crate::operands::same_type;
+use ir_rules::same_type;
 use ir_types::{Block, Function, Inst, Param, Ty, ValueId};
 use lists::Few;
 use std::alloc::{AllocError, Global};
