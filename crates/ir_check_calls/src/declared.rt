@@ -104,7 +104,8 @@ pub fn first_misdeclared(
     functions: &[Function],
     symbols: &[Symbol],
 ) -> Result<Option<Breach>, AllocError>
-    ensures { IfOk result (λ found. found ≡ first (filter_map (misdeclared_of functions.now) symbols.now)) }
+    ensures { IfOk result (λ found. found ≡ first
+        (filter_map (misdeclared_of functions.now) symbols.now)) }
 {
     let mut left = symbols;
     'more: while let Some((symbol, behind)) = left.split_first() {

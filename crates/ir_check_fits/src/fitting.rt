@@ -13,7 +13,8 @@ use ir_types::{InstKind, Operand, Ty};
 // Whether operands have the types that these have, one each.
 fn fit<T: Typed>(x: &Around<'_>, typed: &[T], args: &[Operand]) -> bool
     requires { AllByRecursion (IsHere (length x.now.part.names)) args.now }
-    ensures { result ≡ fit (locals_at x.now) (map T.type_of typed.now) (operands_at x.now args.now) }
+    ensures { result ≡ fit (locals_at x.now) (map T.type_of typed.now)
+        (operands_at x.now args.now) }
 {
     let mut typed_left = typed;
     let mut args_left = args;
@@ -33,7 +34,8 @@ fn fit<T: Typed>(x: &Around<'_>, typed: &[T], args: &[Operand]) -> bool
 // Whether the operands are a pointer, and behind it indexes of these widths, one each.
 fn offset_fits(x: &Around<'_>, widths: &[u32], args: &[Operand]) -> bool
     requires { AllByRecursion (IsHere (length x.now.part.names)) args.now }
-    ensures { result ≡ fit (locals_at x.now) (Ptr ∷ map Int widths.now) (operands_at x.now args.now) }
+    ensures { result ≡ fit (locals_at x.now) (Ptr ∷ map Int widths.now)
+        (operands_at x.now args.now) }
 {
     let Some((pointer, indexes)) = args.split_first() else {
         return false;
@@ -44,7 +46,8 @@ fn offset_fits(x: &Around<'_>, widths: &[u32], args: &[Operand]) -> bool
 // Whether operands all have this type.
 fn fit_all(x: &Around<'_>, ty: Ty, args: &[Operand]) -> bool
     requires { AllByRecursion (IsHere (length x.now.part.names)) args.now }
-    ensures { result ≡ fit (locals_at x.now) (replicate (length args.now) ty) (operands_at x.now args.now) }
+    ensures { result ≡ fit (locals_at x.now) (replicate (length args.now) ty)
+        (operands_at x.now args.now) }
 {
     let mut left = args;
     'more: while let Some((arg, behind)) = left.split_first() {
@@ -59,7 +62,8 @@ fn fit_all(x: &Around<'_>, ty: Ty, args: &[Operand]) -> bool
 /// Whether operands have the types that an instruction of a kind with a result of a type takes.
 pub fn operands_fit(x: &Around<'_>, kind: &InstKind, ty: Ty, args: &[Operand]) -> bool
     requires { AllByRecursion (IsHere (length x.now.part.names)) args.now }
-    ensures { result ≡ operands_fit (around_at x.now) (kind_at x.now kind.now) ty (operands_at x.now args.now) }
+    ensures { result ≡ operands_fit (around_at x.now) (kind_at x.now kind.now) ty
+        (operands_at x.now args.now) }
 {
     match kind {
         InstKind::Binary(_, _) => fit(x, &[ty, ty], args),
