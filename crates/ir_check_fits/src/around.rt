@@ -7,8 +7,9 @@ ghost use Rattle.ir_rules.specs.Operands.{gives, is_block};
 ghost use Rattle.ir_check_fits.specs.Roles.{any_passes, has_role};
 
 use crate::locals::{Role, Roles, roles_of};
-use crate::operands::{is_valued, same_type};
+use crate::operands::is_valued;
 use crate::steps::TypeSteps;
+use ir_rules::same_type;
 use ir_types::{Function, Operand, Ty, ValueId};
 use std::alloc::{AllocError, Global};
 use std::marker::Model;

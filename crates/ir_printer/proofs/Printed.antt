@@ -28,6 +28,7 @@ spells_module : (tree : ModuleTree) → IsPrinted (definitions_in (items_of tree
 unfolding module_form
 spells_module tree p = p.says.spells
 
+-- what is printed of a tree reads as it
 pub printed_reads : (tree : ModuleTree) → IsPrintable tree → Reads (text_of (module_pieces tree)) tree
 printed_reads tree h =
     let known = printed_known tree h in

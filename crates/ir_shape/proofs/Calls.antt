@@ -33,6 +33,7 @@ indexes_are : (xs : List (ℕ × OperandTree)) → AllByRecursion IsIndex xs →
 indexes_are [] h = tt
 indexes_are (x ∷ xs) h = (h.0, indexes_are xs h.1)
 
+-- what the form of `getelementptr` reads is an operation's body
 pub offset_sure : (defs : Definitions) → Sure (getelementptr defs) IsOperationBody
 unfolding getelementptr
 offset_sure defs = mapped_sure (pair_sure any_sure (pair_sure inst_memory_sure (pair_sure (after_mark_sure Comma (pointer_sure defs)) (some_sure (marked_sure Comma (index_sure defs)))))) (λ x h.
@@ -80,6 +81,7 @@ call_sure defs tail = mapped_sure (pair_sure run_sure (pair_sure return_type_sur
       after = h.1.1.1.1.1;
     }) (λ b. b))
 
+-- and what is read of a call behind its word
 pub call_behind_sure : (defs : Definitions) (tail : TailKind) → Sure (call_behind defs tail) IsOperationBody
 call_behind_sure defs Unmarked = call_sure defs Unmarked
 call_behind_sure defs Tail = behind_sure (codes "call") (call_sure defs Tail)

@@ -338,10 +338,12 @@ pub record IsEnding (i : InstTree) : Type 0 where
   pub plain : IsPlain i
   pub ends : IsTerminator i.kind
 
+-- what the form of operations reads is an operation
 pub operation_sure : (defs : Definitions) → Sure (operation defs) IsOperation
 unfolding operation
 operation_sure defs = mapped_sure (pair_sure (words_sure defs) (kept_sure attachments_are)) (λ x h. record { plain = attached_body x.0 x.1 h.0.body h.1; goes_on = h.0.goes_on })
 
+-- what the form of terminators reads ends a block
 pub terminator_sure : (defs : Definitions) → Sure (terminator defs) IsEnding
 unfolding terminator
 terminator_sure defs = mapped_sure (pair_sure (either_sure (by_word_sure (by_terminator defs)) (word_sure _ unreachable_tree (terminator_of Unreachable [] [] tt tt refl refl tt tt))) (kept_sure attachments_are)) (λ x h. record { plain = attached_body x.0 x.1 h.0.body h.1; ends = h.0.ends })

@@ -119,6 +119,7 @@ memory_sure : (d : ℕ) → Sure (memory_type d) (IsNested (suc d))
 memory_sure zero = parts_leaf zero
 memory_sure (suc d) = deeper_sure (memory_type d) (suc d) (memory_sure d)
 
+-- what is read as a memory type is one
 pub type_is_sure : (d : ℕ) → Sure (memory_type d) IsMemory
 type_is_sure d = record { known = λ a ts l h. record { depth = suc d; nested = (memory_sure d).known a ts l h } }
 

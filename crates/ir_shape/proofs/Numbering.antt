@@ -147,6 +147,7 @@ item_known u (function_item f) x h e =
 item_known u (attribute_line xs) x h e = subst (λ (y : Item FunctionTree × Unit {0}). IsItemOf IsReadInst y.0) (some_is _ x e) h
 item_known u (metadata_line xs) x h e = subst (λ (y : Item FunctionTree × Unit {0}). IsItemOf IsReadInst y.0) (some_is _ x e) h
 
+-- items that are numbered have the shape that the written ones have
 pub items_known : (w : List (Item WrittenFunction)) (items : List (Item FunctionTree)) → AllByRecursion IsWrittenItem w → numbered_module w ≡ Some items → AllByRecursion (IsItemOf IsReadInst) items
 items_known w items h e =
     let p = bind_some (walk numbered_item tt w) _ items e in
