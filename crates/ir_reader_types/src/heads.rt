@@ -1,17 +1,17 @@
 // The beginning of a memory type, and what is behind one in an array or a struct.
 
-ghost use Rattle.std.specs.Prelude.{List, ◌≡◌, ◌≤◌, ℕ, suc, ◌∷◌, [], length, IfOk};
+ghost use Rattle.std.specs.Prelude.{List, ◌≡◌, ◌∷◌, [], IfOk};
 ghost use Rattle.text_forms.specs.declared.TokenKind.TheVariants.{Number};
 ghost use Rattle.text_forms.specs.Form.{one, made, mapped, pair, optional};
-ghost use Rattle.text_forms.specs.Reading.{read, opens, next_in};
+ghost use Rattle.text_forms.specs.Reading.{read, opens};
 ghost use Rattle.text_forms.specs.Gives.{Gives, left};
-ghost use Rattle.text_forms.specs.Nested.{struct_head, struct_end, struct_begins};
+ghost use Rattle.text_forms.specs.Nested.{struct_head, struct_end};
 ghost use Rattle.text_forms.specs.Machine.{begun, head, next};
 ghost use Rattle.text_forms.specs.View.{Extends};
 ghost use Rattle.ir_types.specs.Types.{IsType};
 ghost use Rattle.ir_types.specs.declared.name.Name.{Name};
 ghost use Rattle.ir_types.specs.TypeNodes.{array, opening, closing, nodes_from, names_used};
-ghost use Rattle.ir_types.specs.TypeForms.{elements_of, array_begin, memory_leaf, type_parts, memory_type};
+ghost use Rattle.ir_types.specs.TypeForms.{elements_of, array_begin, memory_leaf, type_parts};
 ghost use Rattle.ir_reader_types.specs.TypeTable.{names_of, LooksUpSome, LooksUpAll};
 ghost use Rattle.ir_reader_types.specs.Heads.{IsAlone, BeginsAlone, begun_nodes, next_nodes};
 
@@ -104,26 +104,6 @@ fn begins_array(tokens: Cursor<'_>) -> bool
     ensures { result ≡ opens array_begin (left tokens.entry) }
 {
     tokens.is_next(TokenKind::LeftBracket)
-}
-
-/// Whether a struct is next: `{`, or `<` and `{`.
-fn begins_struct(tokens: Cursor<'_>) -> bool
-    ensures { result ≡ next_in struct_begins (left tokens.entry) }
-{
-    match tokens.split_first() {
-        Some((TokenKind::LeftBrace, _, _)) => true,
-        Some((TokenKind::Less, _, rest)) => rest.is_next(TokenKind::LeftBrace),
-        _ => false,
-    }
-}
-
-/// Whether a memory type is next.
-#[tactic(auto, using(crate::proofs::Openings::opens_deeper, crate::proofs::Openings::opens_enough))]
-pub fn begins_memory_type(tokens: Cursor<'_>) -> bool
-    ensures nested { (d : ℕ) → result ≡ opens (memory_type (suc d)) (left tokens.entry) }
-    ensures enough { (d : ℕ) → length (left tokens.entry) ≤ d → result ≡ opens (memory_type d) (left tokens.entry) }
-{
-    begins_leaf(tokens) || begins_array(tokens) || begins_struct(tokens)
 }
 
 /// `{`, or `<{` where it is packed.
