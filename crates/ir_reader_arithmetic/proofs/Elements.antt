@@ -19,10 +19,12 @@ pub extract_reads : (defs : Definitions) (v : Ty × OperandTree) (i : ℕ × Ope
 unfolding extractelement
 extract_reads defs v i ts us ws vector index = rw vector (rw index refl)
 
+-- no index stands behind the vector of `extractelement`
 pub extract_fails : (defs : Definitions) (v : Ty × OperandTree) (ts us : List Lexeme) → read (typed_value defs) ts ≡ Some (v, us) → read (index_behind defs) us ≡ None → read (extractelement defs) ts ≡ None
 unfolding extractelement
 extract_fails defs v ts us vector index = rw vector (rw index refl)
 
+-- `insertelement`, of what its parts are read as
 pub insert_reads : (defs : Definitions) (v e : Ty × OperandTree) (i : ℕ × OperandTree) (ts us vs ws : List Lexeme) → read (typed_value defs) ts ≡ Some (v, us) → read (comma_typed defs) us ≡ Some (e, vs) → read (index_behind defs) vs ≡ Some (i, ws)
     → read (insertelement defs) ts ≡ Some (insert_tree (v, (e, i)), ws)
 unfolding insertelement

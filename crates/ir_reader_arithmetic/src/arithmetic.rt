@@ -1,10 +1,8 @@
 // Operators of integers, comparisons, `select` and `freeze`, without the words before them.
 
-ghost use Rattle.std.specs.Prelude.{◌≡◌, List, IfOk};
-ghost use Rattle.text_forms.specs.Reading.{read};
-ghost use Rattle.text_forms.specs.Gives.{Gives, left};
+ghost use Rattle.std.specs.Prelude.{◌≡◌, List};
 ghost use Rattle.ir_types.specs.InstForms.{overflowing, possibly_exact, plain_binary, or_operation, compared, compare, bits_for, select, freeze};
-ghost use Rattle.ir_reader_values.specs.Seen.{operand_seen, inst_seen, definitions, Widens, Stays, InstUses};
+ghost use Rattle.ir_reader_values.specs.Seen.{operand_seen, inst_seen, definitions, Widens, Stays, InstAdds, ReadsAs, ReadsOver};
 
 use crate::words::predicate_of;
 use ir_making::{applied, binary, one_operand, three_operands, two_operands};
@@ -29,9 +27,9 @@ pub fn overflowing<'t>(
     scope: &mut Scope,
 ) -> Result<(Inst, Cursor<'t>), SyntaxFault>
     ensures grows { Widens scope.old scope.new }
-    ensures reads { Gives (λ x. (inst_seen scope.new x.0, left x.1)) result (read (overflowing (definitions scope.old) operator) (left tokens.entry)) }
+    ensures reads { ReadsAs (inst_seen scope.new) result (overflowing (definitions scope.old) operator) tokens.entry }
     ensures stays { Stays inst_seen scope.new result }
-    ensures uses { IfOk result (λ x. InstUses scope.old (inst_seen scope.new x.0) scope.new) }
+    ensures uses { InstAdds scope.old result scope.new }
 {
     let ((nuw, nsw), rest) = two_flags(tokens, b"nuw", b"nsw");
     let ((ty, (first, second)), rest) = typed_pair(alloc, rest, scope)?;
@@ -53,9 +51,9 @@ pub fn possibly_exact<'t>(
     scope: &mut Scope,
 ) -> Result<(Inst, Cursor<'t>), SyntaxFault>
     ensures grows { Widens scope.old scope.new }
-    ensures reads { Gives (λ x. (inst_seen scope.new x.0, left x.1)) result (read (possibly_exact (definitions scope.old) operator) (left tokens.entry)) }
+    ensures reads { ReadsAs (inst_seen scope.new) result (possibly_exact (definitions scope.old) operator) tokens.entry }
     ensures stays { Stays inst_seen scope.new result }
-    ensures uses { IfOk result (λ x. InstUses scope.old (inst_seen scope.new x.0) scope.new) }
+    ensures uses { InstAdds scope.old result scope.new }
 {
     let (exact, rest) = one_flag(tokens, b"exact");
     let ((ty, (first, second)), rest) = typed_pair(alloc, rest, scope)?;
@@ -73,9 +71,9 @@ pub fn plain_binary<'t>(
     scope: &mut Scope,
 ) -> Result<(Inst, Cursor<'t>), SyntaxFault>
     ensures grows { Widens scope.old scope.new }
-    ensures reads { Gives (λ x. (inst_seen scope.new x.0, left x.1)) result (read (plain_binary (definitions scope.old) operator) (left tokens.entry)) }
+    ensures reads { ReadsAs (inst_seen scope.new) result (plain_binary (definitions scope.old) operator) tokens.entry }
     ensures stays { Stays inst_seen scope.new result }
-    ensures uses { IfOk result (λ x. InstUses scope.old (inst_seen scope.new x.0) scope.new) }
+    ensures uses { InstAdds scope.old result scope.new }
 {
     let ((ty, (first, second)), rest) = typed_pair(alloc, tokens, scope)?;
     let inst = binary(alloc, operator, NO_FLAGS, ty, first, second)?;
@@ -90,9 +88,9 @@ pub fn or_operation<'t>(
     scope: &mut Scope,
 ) -> Result<(Inst, Cursor<'t>), SyntaxFault>
     ensures grows { Widens scope.old scope.new }
-    ensures reads { Gives (λ x. (inst_seen scope.new x.0, left x.1)) result (read (or_operation (definitions scope.old)) (left tokens.entry)) }
+    ensures reads { ReadsOver inst_seen or_operation tokens.entry scope.old result scope.new }
     ensures stays { Stays inst_seen scope.new result }
-    ensures uses { IfOk result (λ x. InstUses scope.old (inst_seen scope.new x.0) scope.new) }
+    ensures uses { InstAdds scope.old result scope.new }
 {
     let (disjoint, rest) = one_flag(tokens, b"disjoint");
     let ((ty, (first, second)), rest) = typed_pair(alloc, rest, scope)?;
@@ -123,9 +121,9 @@ fn compared<'t>(
     scope: &mut Scope,
 ) -> Result<(Inst, Cursor<'t>), SyntaxFault>
     ensures grows { Widens scope.old scope.new }
-    ensures reads { Gives (λ x. (inst_seen scope.new x.0, left x.1)) result (read (compared (definitions scope.old) predicate) (left tokens.entry)) }
+    ensures reads { ReadsAs (inst_seen scope.new) result (compared (definitions scope.old) predicate) tokens.entry }
     ensures stays { Stays inst_seen scope.new result }
-    ensures uses { IfOk result (λ x. InstUses scope.old (inst_seen scope.new x.0) scope.new) }
+    ensures uses { InstAdds scope.old result scope.new }
 {
     let ((ty, (first, second)), rest) = typed_pair(alloc, tokens, scope)?;
     let args = two_operands(alloc, first, second)?;
@@ -141,9 +139,9 @@ pub fn comparison<'t>(
     scope: &mut Scope,
 ) -> Result<(Inst, Cursor<'t>), SyntaxFault>
     ensures grows { Widens scope.old scope.new }
-    ensures reads { Gives (λ x. (inst_seen scope.new x.0, left x.1)) result (read (compare (definitions scope.old)) (left tokens.entry)) }
+    ensures reads { ReadsOver inst_seen compare tokens.entry scope.old result scope.new }
     ensures stays { Stays inst_seen scope.new result }
-    ensures uses { IfOk result (λ x. InstUses scope.old (inst_seen scope.new x.0) scope.new) }
+    ensures uses { InstAdds scope.old result scope.new }
 {
     let (word, rest) = tokens.one(TokenKind::Word)?;
     match predicate_of(word) {
@@ -160,9 +158,9 @@ pub fn selection<'t>(
     scope: &mut Scope,
 ) -> Result<(Inst, Cursor<'t>), SyntaxFault>
     ensures grows { Widens scope.old scope.new }
-    ensures reads { Gives (λ x. (inst_seen scope.new x.0, left x.1)) result (read (select (definitions scope.old)) (left tokens.entry)) }
+    ensures reads { ReadsOver inst_seen select tokens.entry scope.old result scope.new }
     ensures stays { Stays inst_seen scope.new result }
-    ensures uses { IfOk result (λ x. InstUses scope.old (inst_seen scope.new x.0) scope.new) }
+    ensures uses { InstAdds scope.old result scope.new }
 {
     let (values, rest) = three_values(alloc, tokens, scope)?;
     let ((condition_type, condition), ((ty, then), (last_type, otherwise))) = values;
@@ -179,9 +177,9 @@ pub fn freeze<'t>(
     scope: &mut Scope,
 ) -> Result<(Inst, Cursor<'t>), SyntaxFault>
     ensures grows { Widens scope.old scope.new }
-    ensures reads { Gives (λ x. (inst_seen scope.new x.0, left x.1)) result (read (freeze (definitions scope.old)) (left tokens.entry)) }
+    ensures reads { ReadsOver inst_seen freeze tokens.entry scope.old result scope.new }
     ensures stays { Stays inst_seen scope.new result }
-    ensures uses { IfOk result (λ x. InstUses scope.old (inst_seen scope.new x.0) scope.new) }
+    ensures uses { InstAdds scope.old result scope.new }
 {
     let ((ty, operand), rest) = typed_value(alloc, tokens, scope)?;
     let args = one_operand(alloc, operand)?;

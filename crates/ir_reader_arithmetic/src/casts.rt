@@ -1,11 +1,11 @@
 // Casts, without the words before them.
 
-ghost use Rattle.std.specs.Prelude.{◌≡◌, List, IfOk};
+ghost use Rattle.std.specs.Prelude.{◌≡◌, List};
 ghost use Rattle.text_forms.specs.Reading.{read};
 ghost use Rattle.text_forms.specs.Gives.{Gives, left};
 ghost use Rattle.ir_types.specs.InstParts.{to_type};
 ghost use Rattle.ir_types.specs.InstForms.{trunc, zext, sext, ptrtoint};
-ghost use Rattle.ir_reader_values.specs.Seen.{operand_seen, inst_seen, definitions, Widens, Stays, InstUses};
+ghost use Rattle.ir_reader_values.specs.Seen.{operand_seen, inst_seen, Widens, Stays, InstAdds, ReadsOver};
 
 use ir_making::{applied, one_operand};
 use ir_reader_types::value_type;
@@ -31,9 +31,9 @@ pub fn trunc<'t>(
     scope: &mut Scope,
 ) -> Result<(Inst, Cursor<'t>), SyntaxFault>
     ensures grows { Widens scope.old scope.new }
-    ensures reads { Gives (λ x. (inst_seen scope.new x.0, left x.1)) result (read (trunc (definitions scope.old)) (left tokens.entry)) }
+    ensures reads { ReadsOver inst_seen trunc tokens.entry scope.old result scope.new }
     ensures stays { Stays inst_seen scope.new result }
-    ensures uses { IfOk result (λ x. InstUses scope.old (inst_seen scope.new x.0) scope.new) }
+    ensures uses { InstAdds scope.old result scope.new }
 {
     let ((nuw, nsw), rest) = two_flags(tokens, b"nuw", b"nsw");
     let ((from, operand), rest) = typed_value(alloc, rest, scope)?;
@@ -51,9 +51,9 @@ pub fn zext<'t>(
     scope: &mut Scope,
 ) -> Result<(Inst, Cursor<'t>), SyntaxFault>
     ensures grows { Widens scope.old scope.new }
-    ensures reads { Gives (λ x. (inst_seen scope.new x.0, left x.1)) result (read (zext (definitions scope.old)) (left tokens.entry)) }
+    ensures reads { ReadsOver inst_seen zext tokens.entry scope.old result scope.new }
     ensures stays { Stays inst_seen scope.new result }
-    ensures uses { IfOk result (λ x. InstUses scope.old (inst_seen scope.new x.0) scope.new) }
+    ensures uses { InstAdds scope.old result scope.new }
 {
     let (nneg, rest) = one_flag(tokens, b"nneg");
     let ((from, operand), rest) = typed_value(alloc, rest, scope)?;
@@ -70,9 +70,9 @@ pub fn sext<'t>(
     scope: &mut Scope,
 ) -> Result<(Inst, Cursor<'t>), SyntaxFault>
     ensures grows { Widens scope.old scope.new }
-    ensures reads { Gives (λ x. (inst_seen scope.new x.0, left x.1)) result (read (sext (definitions scope.old)) (left tokens.entry)) }
+    ensures reads { ReadsOver inst_seen sext tokens.entry scope.old result scope.new }
     ensures stays { Stays inst_seen scope.new result }
-    ensures uses { IfOk result (λ x. InstUses scope.old (inst_seen scope.new x.0) scope.new) }
+    ensures uses { InstAdds scope.old result scope.new }
 {
     let ((from, operand), rest) = typed_value(alloc, tokens, scope)?;
     let (ty, rest) = to_type(rest)?;
@@ -88,9 +88,9 @@ pub fn ptrtoint<'t>(
     scope: &mut Scope,
 ) -> Result<(Inst, Cursor<'t>), SyntaxFault>
     ensures grows { Widens scope.old scope.new }
-    ensures reads { Gives (λ x. (inst_seen scope.new x.0, left x.1)) result (read (ptrtoint (definitions scope.old)) (left tokens.entry)) }
+    ensures reads { ReadsOver inst_seen ptrtoint tokens.entry scope.old result scope.new }
     ensures stays { Stays inst_seen scope.new result }
-    ensures uses { IfOk result (λ x. InstUses scope.old (inst_seen scope.new x.0) scope.new) }
+    ensures uses { InstAdds scope.old result scope.new }
 {
     let (pointer, rest) = pointer_value(alloc, tokens, scope)?;
     let (ty, rest) = to_type(rest)?;

@@ -28,6 +28,7 @@ use Rattle.ir_reader_memory.proofs.Offsets.{parted}
 abbrev actual_of : Ty → KeptTexts → OperandTree → Actual × OperandTree
 actual_of t k a = (record { ty = t; kept = k }, a)
 
+-- an argument is read part after part
 pub argument_is : (defs : Definitions) (ts : List Lexeme) → read (argument defs) ts ≡ argument_read defs ts
 unfolding argument
 argument_is defs ts =
@@ -91,6 +92,7 @@ module _ (tail : TailKind) (b : KeptTexts) (t : Ty) (s : Option Signature) (n : 
           kept_behind x.0 (read kept x.1)
           ∙ sym (ap (λ (o : Option (List Actual × List OperandTree)). parted_before x.1 o >>= λ p. read kept p.1 >>= λ a. Some (call_of p.0 a.0, a.1)) (parted x.0))
 
+-- a call is read part after part
 pub call_is : (defs : Definitions) (tail : TailKind) (ts : List Lexeme) → read (call defs tail) ts ≡ call_read defs tail ts
 unfolding call
 call_is defs tail ts =

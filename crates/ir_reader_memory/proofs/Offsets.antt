@@ -55,6 +55,7 @@ assoc : {A B C : Type 0} (o : Option A) (g : A → Option B) (h : B → Option C
 assoc None g h = refl
 assoc (Some a) g h = refl
 
+-- `getelementptr` is read part after part
 pub getelementptr_is : (defs : Definitions) (ts : List Lexeme) → read (getelementptr defs) ts ≡ getelementptr_read defs ts
 unfolding getelementptr
 getelementptr_is defs ts =

@@ -1,6 +1,6 @@
 // Loads and stores, without the words before them.
 
-ghost use Rattle.std.specs.Prelude.{◌≡◌, List, IfOk};
+ghost use Rattle.std.specs.Prelude.{◌≡◌, List};
 ghost use Rattle.text_forms.specs.declared.TokenKind.TheVariants.{Comma, Word};
 ghost use Rattle.text_forms.specs.Reading.{read, opens};
 ghost use Rattle.text_forms.specs.Gives.{Gives, left};
@@ -9,7 +9,7 @@ ghost use Rattle.ir_types.specs.Types.{IsType};
 ghost use Rattle.ir_types.specs.InstParts.{alignment_of, alignment, align_or};
 ghost use Rattle.ir_types.specs.InstForms.{load, store};
 ghost use Rattle.ir_reader_memory.specs.Alignments.{written_alignment};
-ghost use Rattle.ir_reader_values.specs.Seen.{inst_seen, definitions, Widens, Stays, InstUses};
+ghost use Rattle.ir_reader_values.specs.Seen.{inst_seen, Widens, Stays, InstAdds, ReadsOver};
 
 use ir_making::{applied, one_operand, two_operands};
 use ir_reader_types::value_type;
@@ -96,9 +96,9 @@ pub fn load<'t>(
     scope: &mut Scope,
 ) -> Result<(Inst, Cursor<'t>), SyntaxFault>
     ensures grows { Widens scope.old scope.new }
-    ensures reads { Gives (λ x. (inst_seen scope.new x.0, left x.1)) result (read (load (definitions scope.old)) (left tokens.entry)) }
+    ensures reads { ReadsOver inst_seen load tokens.entry scope.old result scope.new }
     ensures stays { Stays inst_seen scope.new result }
-    ensures uses { IfOk result (λ x. InstUses scope.old (inst_seen scope.new x.0) scope.new) }
+    ensures uses { InstAdds scope.old result scope.new }
 {
     let (ty, rest) = value_type(tokens)?;
     let (pointer, rest) = comma_pointer(alloc, rest, scope)?;
@@ -116,9 +116,9 @@ pub fn store<'t>(
     scope: &mut Scope,
 ) -> Result<(Inst, Cursor<'t>), SyntaxFault>
     ensures grows { Widens scope.old scope.new }
-    ensures reads { Gives (λ x. (inst_seen scope.new x.0, left x.1)) result (read (store (definitions scope.old)) (left tokens.entry)) }
+    ensures reads { ReadsOver inst_seen store tokens.entry scope.old result scope.new }
     ensures stays { Stays inst_seen scope.new result }
-    ensures uses { IfOk result (λ x. InstUses scope.old (inst_seen scope.new x.0) scope.new) }
+    ensures uses { InstAdds scope.old result scope.new }
 {
     let ((ty, value), rest) = typed_value(alloc, tokens, scope)?;
     let (pointer, rest) = comma_pointer(alloc, rest, scope)?;
