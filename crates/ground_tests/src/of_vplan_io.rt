@@ -4,8 +4,7 @@ use std::alloc::Global;
 use std::fs;
 use std::test::Fail;
 use vplan_io::{
-    Files, Folder, LONGEST, LoadFault, Shelf, Sink, Stream, SureShelf, SureTray, Tray, put_text,
-    put_three,
+    Files, Folder, LoadFault, Shelf, Sink, Stream, SureShelf, SureTray, Tray, put_text, put_three,
 };
 
 /// Files with these names and bytes.
@@ -57,35 +56,12 @@ fn first_of_two_counts(rt: HostRuntime) -> Result<(), Fail> {
 }
 
 #[test]
-fn longest_and_too_long(rt: HostRuntime) -> Result<(), Fail> {
-    let alloc = rt.alloc();
-    let mut files = Vec::new(alloc);
-    for (name, len) in [("longest", LONGEST), ("longer", 16_777_217)] {
-        files.push((String::from_str(alloc, name)?, vec![in alloc; 7u8; len]?))?;
-    }
-    let mut shelf = Shelf::new(files, Vec::new(alloc));
-    assert!(rt; matches!(&shelf.load(alloc, "longest"), Ok(bytes) if bytes.len() == 16_777_216));
-    assert!(rt; matches!(&shelf.load(alloc, "longer"), Err(LoadFault::TooLong)));
-    Ok(())
-}
-
-#[test]
 fn third_put_fails(rt: HostRuntime) -> Result<(), Fail> {
     let mut tray = Tray::with_room(rt.alloc(), 10, vec![in rt.alloc(); 3]?)?;
     for (bytes, taken) in [("ab", true), ("cd", true), ("x", false), ("ef", true)] {
         assert_eq!(rt; tray.put(bytes.as_bytes()).is_ok(), taken);
     }
     assert_eq!(rt; tray.bytes(), b"abcdef".as_slice());
-    Ok(())
-}
-
-#[test]
-fn tray_without_room(rt: HostRuntime) -> Result<(), Fail> {
-    let mut tray = Tray::with_room(rt.alloc(), 3, Vec::new(rt.alloc()))?;
-    for (bytes, taken) in [("abcd", false), ("abc", true), ("d", false), ("", true)] {
-        assert_eq!(rt; tray.put(bytes.as_bytes()).is_ok(), taken, "{bytes}");
-    }
-    assert_eq!(rt; tray.bytes(), b"abc".as_slice());
     Ok(())
 }
 

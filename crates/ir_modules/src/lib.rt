@@ -11,8 +11,6 @@ ghost use Rattle.ir_printer.specs.Print.{module_pieces};
 ghost use Rattle.ir_modules.specs.Examples.{example, named_twice, part_behind, without_extent, stray_type_name, stray_symbol, used_with_text, other_place, name_lacking, without_end, greatest_as_word};
 
 mod examples;
-#[cfg(test)]
-mod tests;
 
 pub use examples::made;
 

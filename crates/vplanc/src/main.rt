@@ -5,8 +5,6 @@ mod answer;
 mod message;
 mod refusal;
 mod run;
-#[cfg(test)]
-mod tests;
 mod words;
 
 use crate::answer::Status;

@@ -1,7 +1,7 @@
 // A module that is made by code goes the way of one that is read.
 
-use crate::made;
 use ir_check::check;
+use ir_modules::made;
 use ir_printer::print_module;
 use ir_reader::read_module;
 use std::test::Fail;
