@@ -39,6 +39,7 @@ labels_behind a ts = by (read (after_mark Comma target) ts)
 abbrev i1 : Lexeme
 i1 = record { kind = Word; text = codes "i1" }
 
+-- a branch whose first token is `i1` is read part after part
 pub conditional_is : (defs : Definitions) (ts : List Lexeme) → read (branch defs) (i1 ∷ ts) ≡ conditional_read defs ts
 unfolding branch target
 conditional_is defs ts =

@@ -58,6 +58,7 @@ entries_made defs t es = by (entries_at defs t es) ∙ ap (λ (o : Option (List 
     by None = refl
     by (Some args) = refl
 
+-- a phi is read part after part
 pub phi_is : (defs : Definitions) (ts : List Lexeme) → read (phi defs) ts ≡ phi_read defs ts
 unfolding phi
 phi_is defs ts =
@@ -80,6 +81,7 @@ entry_parts defs t ts = chained (operand_at defs t) with_label value (after_mark
 abbrev before_bracket : Option ((OperandTree × Name) × List Lexeme) → Option ((OperandTree × Name) × List Lexeme)
 before_bracket r = r >>= λ x. read (mark RightBracket) x.1 >>= λ e. Some (x.0, e.1)
 
+-- an entry of a phi is read and completed part after part
 pub entry_is : (defs : Definitions) (t : Ty) (ts : List Lexeme) → completed (entry_at defs t) (read entry_of_phi ts) ≡ entry_read defs t ts
 unfolding entry_of_phi
 entry_is defs t ts =
@@ -193,6 +195,7 @@ head_of v o = o >>= λ l. Some ((v, l.0), l.1)
 abbrev behind_head : (ℕ × OperandTree) × Name → List Lexeme → Option (InstTree × List Lexeme)
 behind_head h ts = read (mark LeftBracket) ts >>= λ o. cases_read h.0.0 (h.1 ∷ []) o.1 >>= λ c. read (mark RightBracket) c.1 >>= λ e. Some (switch_of h.0 c.0, e.1)
 
+-- a switch is read part after part
 pub switch_is : (defs : Definitions) (ts : List Lexeme) → read (switch defs) ts ≡ switch_read defs ts
 unfolding switch
 switch_is defs ts =

@@ -22,6 +22,7 @@ outside_one s (Lanes xs) = refl
 outside_one s (Global i o) = refl
 outside_one s (OutOfRange i) = refl
 
+-- operands are seen out of range exactly where they are held so
 pub outside_seen : (s : Scope) (xs : List Operand) → list_any is_out_of_range (map (operand_seen s) xs) ≡ list_any is_outside xs
 outside_seen s [] = refl
 outside_seen s (a ∷ xs) = rw (outside_one s a, outside_seen s xs) refl
@@ -37,6 +38,7 @@ abbrev inst_or : Inst → Option (Inst × List Lexeme) → Inst
 inst_or i None = i
 inst_or i (Some x) = x.0
 
+-- an instruction that stays what it is does so with attachments
 pub attached_steady : (s : Scope) (i j : Inst) (ts us : List Lexeme) → attached_to i ts ≡ Some (j, us) → IsSteady inst_seen s i → IsSteady inst_seen s j
 attached_steady s i j ts us e stays = by (read inst_attachments ts) e
   where
