@@ -2,9 +2,8 @@
 
 use crate::shared::{at, name};
 use ir_reader_types::{
-    SymbolNames, TypeNames, begins_type, block_label, global, local,
-    memory_type, name_before, name_behind, number_of_32_bits, number_of_64_bits, return_type,
-    value_type,
+    SymbolNames, TypeNames, begins_type, block_label, global, local, memory_type, name_before,
+    name_behind, number_of_32_bits, number_of_64_bits, return_type, value_type,
 };
 use ir_types::{MemTy, Name, NamedType, Ty, TypeId, TypeName};
 use std::test::Fail;
