@@ -41,6 +41,7 @@ early_verdict (y ∷ xs) x e f = absurd (cc)
 last_verdict : (m : ModuleTree) (b : Breach) → KeepsRules m → IsFirstUnavailable m b → ⊥
 last_verdict m b keeps is = keeps.available is.used (is_among IsUnavailableUse (module_uses m) is.used is.first) (it_holds IsUnavailableUse (module_uses m) is.used is.first)
 
+-- what keeps the rules has no cause of a broken one
 pub verdict : (m : ModuleTree) (r : Rule) (b : Breach) → KeepsRules m → Cause m (Broken r b) → ⊥
 verdict m r b keeps (inl early) = early_verdict (early_breaches m) (r, b) keeps.early early
 verdict m r b keeps (inr last) = last_verdict m b keeps last.1.first
@@ -57,6 +58,7 @@ breach_or : Breach → Option (Rule × Breach) → Breach
 breach_or b None = b
 breach_or b (Some x) = x.1
 
+-- a module has one cause at most
 pub cause_is_one : (m : ModuleTree) (r s : Rule) (b c : Breach) → Cause m (Broken r b) → Cause m (Broken s c) → (r ≡ s) × (b ≡ c)
 unfolding rule_or breach_or
 cause_is_one m r s b c (inl x) (inl y) = (ap (rule_or r) (sym x ∙ y), ap (breach_or b) (sym x ∙ y))

@@ -1,3 +1,2 @@
 pub mod Narrowed
 pub mod Causes
-pub mod Examples

@@ -12,8 +12,10 @@ nothing_first : {A : Type 0} (xs ys : List A) → xs ++ ys ≡ [] → xs ≡ []
 nothing_first [] ys e = refl
 nothing_first (x ∷ xs) ys e = absurd (cc)
 
+-- what keeps the rules has no number out of range
 pub narrow : (m : ModuleTree) → KeepsRules m → IsNarrow m
 narrow m keeps = types.narrow m (nothing_first (type_breaches m) (edge_breaches m) keeps.early)
 
+-- and so of a well-formed module
 pub narrow_module : (m : Module) → IsWellFormed m → IsNarrow (tree_of m)
 narrow_module m w = narrow (tree_of m) w.keeps

@@ -20,16 +20,20 @@ pub fn well_formed_is_narrow()
 
 /// What breaks no rule is refused for none.
 pub fn one_verdict()
-    ensures { (m : ModuleTree) (rule : Rule) (breach : Breach) → KeepsRules m → Cause m (Broken rule breach) → ⊥ }
+    ensures { (m : ModuleTree) (rule : Rule) (breach : Breach)
+        → KeepsRules m → Cause m (Broken rule breach) → ⊥ }
 {}
 
 /// There is one first breach of the rules.
 pub fn one_cause()
-    ensures { (m : ModuleTree) (rule other : Rule) (breach another : Breach) → Cause m (Broken rule breach) → Cause m (Broken other another) → (rule ≡ other) × (breach ≡ another) }
+    ensures { (m : ModuleTree) (rule other : Rule) (breach another : Breach)
+        → Cause m (Broken rule breach) → Cause m (Broken other another)
+        → (rule ≡ other) × (breach ≡ another) }
 {}
 
 /// A module that says the same as a well-formed one is well-formed too.
 #[tactic(auto, using(crate::proofs::Causes::same_is_well_formed))]
 pub fn same_module_is_well_formed()
-    ensures { (m n : Module) → IsWellFormed m → tree_of m ≡ tree_of n → IsModule n → IsWellFormed n }
+    ensures { (m n : Module)
+        → IsWellFormed m → tree_of m ≡ tree_of n → IsModule n → IsWellFormed n }
 {}

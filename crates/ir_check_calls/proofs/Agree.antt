@@ -37,6 +37,7 @@ meaning_same : (t : Tables) (f : Function) (o : Option Signed) → ◌≡◌ {A 
 meaning_same t f None = declared_same t f.names f.body
 meaning_same t f (Some s) = signature_same t f s
 
+-- what a function may mean is the same of its tree
 pub may_mean_same : (t : Tables) (f : Function) (meant : Meant) → may_mean (function_in t f) meant ≡ may_mean_of f meant
 may_mean_same t f meant = meaning_same t f meant.signature
 
@@ -55,6 +56,7 @@ arguments_same t f actuals =
     ap (λ ts. same_types ts (param_types (function_in t f))) (counted_same f.varargs f.params f.names actuals)
     ∙ ap (λ ts. same_types (map (λ (a : Actual). a.ty) (if f.varargs then take (length f.params) actuals else actuals)) ts) (types_same f.names f.params)
 
+-- and whether it is called rightly
 pub called_same : (t : Tables) (callee : Callee) (ty : Ty) (f : Function) → is_called_rightly callee ty (function_in t f) ≡ (same_name callee.name f.name && types_agree callee ty f)
 called_same t callee ty f =
     ap (λ b. same_name callee.name f.name && (same_type ty f.ret && (b && arguments_agree (actual_types callee) (function_in t f)))) (written_same t f callee.signature)

@@ -30,6 +30,7 @@ use Rattle.ir_check_calls.proofs.Agree.{called_same}
 
 -- ---- equal names
 
+-- whether two names are the same is decided
 pub same_name-Decides : (x y : Name) → Decides (same_name x y) (x ≡ y)
 same_name-Decides (Text a) (Text b) = (λ e. ap Text ((bytes_eq-Decides a b).0 e), λ e. (bytes_eq-Decides a b).1 (cc))
 same_name-Decides (Text a) (Number n) = (λ e. absurd (true≢false (sym e)), λ e. (cc))
@@ -101,6 +102,7 @@ agrees_later : (callee : Callee) (ty : Ty) (f : Function) (fs : List Function) (
 agrees_later callee ty f fs None = refl
 agrees_later callee ty f fs (Some i) = refl
 
+-- a test or false is the test
 pub or_false : (b : Bool) → (b || false) ≡ b
 or_false true = refl
 or_false false = refl
@@ -109,6 +111,7 @@ or_false false = refl
 abbrev has_types : Callee → Ty → FunctionTree → Bool
 has_types callee ty f = same_type ty f.ret && (signature_agrees callee.signature f && arguments_agree (actual_types callee) f)
 
+-- where names are apart, a call is right of the one function that has its name
 pub called_once : (t : Tables) (callee : Callee) (ty : Ty) (fs : List Function) → Apart (function_names fs) → list_any (is_called_rightly callee ty) (map (function_in t) fs) ≡ is_called_so (function_names fs) fs callee ty
 called_once t callee ty [] once = refl
 called_once t callee ty (f ∷ fs) once = elim (test (same_name callee.name f.name)) [
@@ -159,31 +162,38 @@ apart_from : (before names : List Name) → Fresh before names → Apart names
 apart_from before [] fresh = tt
 apart_from before (n ∷ ns) fresh = (not_later n (before ++ n ∷ []) ns (has_last n before) fresh.1, apart_from (before ++ n ∷ []) ns fresh.1)
 
+-- what is mapped to nothing is nothing
 pub none_mapped : {A B : Type 0} (h : A → B) (xs : List A) → map h xs ≡ [] → xs ≡ []
 none_mapped h [] e = refl
 none_mapped h (x ∷ xs) e = absurd cc
 
+-- where two lists are nothing, so is the second
 pub none_behind : {A : Type 0} (xs ys : List A) → xs ++ ys ≡ [] → ys ≡ []
 none_behind [] ys e = e
 none_behind (x ∷ xs) ys e = absurd cc
 
+-- and the first
 pub none_before : {A : Type 0} (xs ys : List A) → xs ++ ys ≡ [] → xs ≡ []
 none_before [] ys e = refl
 none_before (x ∷ xs) ys e = absurd cc
 
+-- names of which none is repeated are apart
 pub not_repeated : (names : List Name) → repeated names ≡ [] → Apart names
 not_repeated names none = apart_from [] names (fresh_from [] names (none_mapped (λ x. x.1) (filter (λ x. has_name x.1 x.0) (behind_those [] names)) none))
 
+-- and so are those behind some of them
 pub apart_behind : (xs ys : List Name) → Apart (xs ++ ys) → Apart ys
 apart_behind [] ys once = once
 apart_behind (x ∷ xs) ys once = apart_behind xs ys once.1
 
 -- ---- the functions' symbols
 
+-- the symbols of functions have the names of the functions
 pub names_of_symbols : (fs : List FunctionTree) → map (λ (s : SymbolTree). s.name) (map symbol_of_function fs) ≡ map (λ (f : FunctionTree). f.name) fs
 names_of_symbols [] = refl
 names_of_symbols (f ∷ fs) = ap (λ ns. f.name ∷ ns) (names_of_symbols fs)
 
+-- and these are the names in the module
 pub names_in : (t : Tables) (fs : List Function) → map (λ (f : FunctionTree). f.name) (map (function_in t) fs) ≡ function_names fs
 names_in t [] = refl
 names_in t (f ∷ fs) = ap (λ ns. f.name ∷ ns) (names_in t fs)

@@ -52,6 +52,7 @@ nothing_missing : (name : Name) (o : Option Meant) → ◌≡◌ {A = Option Bre
 nothing_missing name None = refl
 nothing_missing name (Some meant) = refl
 
+-- a symbol is declared wrongly in the module as in its tree
 pub misdeclared_same : (t : Tables) (m : Module) → Apart (function_names m.functions) → (s : Symbol) → IsNamedRightly m.functions s → first_of_kind (map (function_in t) m.functions) (symbol_in m s) ≡ misdeclared_of m.functions s
 misdeclared_same t m once s = by s.kind where
   by : (k : SymbolKind) → IsNamedRightly m.functions (record s { kind = k }) → first_of_kind (map (function_in t) m.functions) (symbol_in m (record s { kind = k })) ≡ misdeclared_of m.functions (record s { kind = k })

@@ -101,6 +101,7 @@ functions_first m once =
 
 -- ---- no two functions have one name
 
+-- in a module without duplicates the names of functions are apart
 pub once_each : (m : Module) → IsModule m → duplicate_names (tree_of m) ≡ [] → Apart (function_names m.functions)
 once_each m is distinct =
     let h = is.shape in
@@ -121,8 +122,10 @@ whole m is once =
     first_of_both (concat (map (misdeclared (tree_of m).functions) (tree_of m).symbols)) calls
     ∙ ap (λ o. or_first o (first calls)) (symbols_first (tables_of m) m once m.symbols (functions_at m is))
 
+-- the first wrong declaration is the first breach
 pub symbol_first : (m : Module) (b : Breach) → IsModule m → Apart (function_names m.functions) → Some b ≡ first (filter_map (misdeclared_of m.functions) m.symbols) → Some b ≡ first (unknown_callees (tree_of m))
 symbol_first m b is once e = ap (λ o. or_first o (first (in_functions (miscalls (tree_of m)) (tree_of m)))) e ∙ sym (whole m is once)
 
+-- and where there is none, the first wrong call
 pub call_first : (m : Module) (o : Option Breach) → IsModule m → Apart (function_names m.functions) → None ≡ first (filter_map (misdeclared_of m.functions) m.symbols) → o ≡ first (filter_map (miscalled_in m (function_names m.functions)) m.functions) → o ≡ first (unknown_callees (tree_of m))
 call_first m o is once none found = found ∙ sym (functions_first m once) ∙ ap (λ a. or_first a (first (in_functions (miscalls (tree_of m)) (tree_of m)))) none ∙ sym (whole m is once)

@@ -5,9 +5,9 @@ ghost use Rattle.ir_types.specs.Names.{same_name};
 ghost use Rattle.ir_types.specs.Denotes.{tables_of};
 ghost use Rattle.ir_check_calls.specs.Heads.{Apart, function_names, signature_agrees_with, arguments_agree_with, types_agree, is_called_so, miscalled_so};
 
-use crate::types::{same_type, same_types};
+use crate::types::same_types;
 use indexmap::IndexSet;
-use ir_rules::Subject;
+use ir_rules::{Subject, same_type};
 use ir_types::{Actual, Callee, Function, Inst, InstKind, Module, Name, Signature, Ty};
 use ir_walk::InstRule;
 use lists::Copies;

@@ -23,7 +23,8 @@ fn first_miscalled(
     places: &IndexSet<Name>,
     functions: &[Function],
 ) -> Result<Option<Breach>, AllocError>
-    ensures { IfOk result (λ found. found ≡ first (filter_map (miscalled_in m.now places.now.keys) functions.now)) }
+    ensures { IfOk result (λ found. found ≡ first
+        (filter_map (miscalled_in m.now places.now.keys) functions.now)) }
 {
     let mut left = functions;
     'more: while let Some((function, behind)) = left.split_first() {

@@ -1,14 +1,14 @@
 // Symbols whose names have a meaning.
 
 ghost use Rattle.std.specs.Prelude.{◌≡◌, filter_map, IfOk};
-ghost use Rattle.ir_types.specs.Grammar as grammar;
+ghost use Rattle.ir_types.specs.InstForms as grammar;
 ghost use Rattle.ir_rules.specs.Breaches.{first};
 ghost use Rattle.ir_intrinsics.specs.Means.{meant_in};
 ghost use Rattle.ir_check_calls.specs.Heads.{has_signature_of, may_mean_of, means_rightly_of, misdeclared_of};
 
-use crate::types::{same_type, same_types};
+use crate::types::same_types;
 use ir_intrinsics::{Intrinsic, meant_by};
-use ir_rules::{Breach, Subject};
+use ir_rules::{Breach, Subject, same_type};
 use ir_types::{Function, Symbol, SymbolKind, Ty};
 use lists::Copies;
 use std::alloc::AllocError;
@@ -104,7 +104,8 @@ pub fn first_misdeclared(
     functions: &[Function],
     symbols: &[Symbol],
 ) -> Result<Option<Breach>, AllocError>
-    ensures { IfOk result (λ found. found ≡ first (filter_map (misdeclared_of functions.now) symbols.now)) }
+    ensures { IfOk result (λ found. found ≡ first
+        (filter_map (misdeclared_of functions.now) symbols.now)) }
 {
     let mut left = symbols;
     'more: while let Some((symbol, behind)) = left.split_first() {

@@ -21,10 +21,12 @@ by_store (minimum_maximum op) ty types args e = absurd cc
 by_store (reduction op) ty types args e = absurd cc
 by_store lifetime ty types args e = absurd cc
 
+-- a call that is meant as a masked load is right as one
 pub load_right : (m : Option Meant) (ty : Ty) (types : List Ty) (args : List OperandTree) → masked_in m ≡ Some Load → is_access_right masked_load ty types args ≡ is_meant_right m ty types args
 load_right (Some m) ty types args e = by_load m.intrinsic ty types args e
 load_right None ty types args e = absurd cc
 
+-- and one that is meant as a masked store
 pub store_right : (m : Option Meant) (ty : Ty) (types : List Ty) (args : List OperandTree) → masked_in m ≡ Some Store → is_access_right masked_store ty types args ≡ is_meant_right m ty types args
 store_right (Some m) ty types args e = by_store m.intrinsic ty types args e
 store_right None ty types args e = absurd cc

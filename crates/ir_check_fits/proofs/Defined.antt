@@ -27,10 +27,12 @@ use Rattle.ir_rules.specs.Steps.{nodes_defined, type_definitions}
 
 -- ---- names
 
+-- a name is the same as itself
 pub same_itself : (n : Name) → same_name n n ≡ true
 same_itself (Text a) = (bytes_eq-Decides a a).1 refl
 same_itself (Number m) = (Decides-eqb m m).1 refl
 
+-- and as no other
 pub other_name : (n m : Name) → n ≢ m → same_name n m ≡ false
 other_name n m apart = by (same_name n m) refl
   where

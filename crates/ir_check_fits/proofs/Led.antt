@@ -209,8 +209,10 @@ module _ (types : List MemTy) (names : List TypeName) (extents : List Extent) (s
 pub module_prepared : (m : Module) → IsModule m → (steps : StepLists) → AreSteps m.types m.type_names m.extents steps → ArePrepared m.types m.type_names m.extents steps
 module_prepared m is steps are = record { types_are = is.denotes.types; extents_are = is.denotes.extents; steps_are = are }
 
+-- the type at a place has a size in the extents as by its nodes
 pub size_agrees : (m : Module) (steps : StepLists) → AreModuleSteps m steps → (id : TypeId) → is_sized_at m.extents id ≡ has_size (type_definitions (tree_of m)) (nodes_in m.types m.type_names id)
 size_agrees m steps are id = ap is_some (small_agrees m.types m.type_names m.extents (type_definitions (tree_of m)) are.prepared.types_are are.prepared.extents_are are.definitions id)
 
+-- and indexes lead through it as by its nodes
 pub steps_agree : (m : Module) (steps : StepLists) → AreModuleSteps m steps → (id : TypeId) (i : ℕ × OperandTree) (more : List (ℕ × OperandTree)) → (is_sized_at m.extents id && leads_at m.types steps.ends m.extents id more) ≡ is_stepped (type_definitions (tree_of m)) (nodes_in m.types m.type_names id) (i ∷ more)
 steps_agree m steps are id i more = stepped_agree m.types m.type_names m.extents steps (type_definitions (tree_of m)) are.prepared are.definitions id i more

@@ -91,6 +91,7 @@ module _ (t : Tables) (ns : List Name) (table : IsTable ns) (i : ℕ) (p : Given
       ∙ or_three _ _ _ _ _ (here x.name block h.0.name) (results n x.insts h.0.insts)
       ∙ ap (λ (b : Bool). is_there i p x.name block || list_any (at_result i p) x.insts || b) (blocks (n + length insts) xs h.1)
 
+-- what the name at a place is given to is what its place is
 pub place_given : (s : Site) → IsTable s.part.names → IsFunctionPlaced (tables_of s.whole) s.part → (i : ℕ) (p : Given → Bool) → i < length s.part.names → at_function i p s.part ≡ is_given s i p
 place_given s table placed i p lt =
     let t = tables_of s.whole in

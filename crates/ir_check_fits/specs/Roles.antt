@@ -1,5 +1,5 @@
 -- What the places of a function's names are given to.
-use Rattle.std.specs.Prelude.{ℕ, Bool, true, false, ◌&&◌, ◌||◌, nat_eq, List, [], slice_index_or, Some, None}
+use Rattle.std.specs.Prelude.{◌≡◌, ◌<◌, ℕ, Bool, true, false, ◌&&◌, ◌||◌, nat_eq, List, [], length, slice_index_or, Some, None}
 use Rattle.std.specs.List.{list_any}
 use Rattle.ir_types.specs.declared.name.ValueId.{ValueId}
 use Rattle.ir_types.specs.declared.inst.Inst.{Inst}
@@ -49,3 +49,7 @@ at_block i p b = is_there i p b.name block || list_any (at_result i p) b.insts
 -- or one of a function's
 abbrev pub at_function : ℕ → (Given → Bool) → Function → Bool
 at_function i p f = list_any (at_param i p) f.params || list_any (at_block i p) f.body
+
+-- each place has the roles that it had, and those that more says
+abbrev pub AddsRoles : (old new : List (List Role)) → (ℕ → (Given → Bool) → Bool) → Type 0
+AddsRoles old new more = (i : ℕ) (p : Given → Bool) → i < length old → has_role new i p ≡ (has_role old i p || more i p)

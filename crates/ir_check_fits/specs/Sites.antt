@@ -1,5 +1,5 @@
 -- A function of a module, and what is said in its tree.
-use Rattle.std.specs.Prelude.{◌≡◌, ◌<◌, ℕ, Bool, ◌&&◌, List, length, IfSome}
+use Rattle.std.specs.Prelude.{◌≡◌, ◌<◌, ℕ, Bool, ◌&&◌, List, map, length, IfSome}
 use Rattle.std.specs.List.{list_any, AllByRecursion}
 use Rattle.ir_types.specs.declared.name.ValueId.{ValueId}
 use Rattle.ir_types.specs.declared.inst.Operand.{Operand}
@@ -22,9 +22,12 @@ pub record Site : Type 0 where
   pub whole : Module
   pub part : Function
 
--- an operand, what an instruction does, and an instruction there
+-- an operand and operands there, what an instruction does, and an instruction
 abbrev pub operand_at : Site → Operand → OperandTree
 operand_at s a = operand_in (tables_of s.whole) s.part.names a
+
+abbrev pub operands_at : Site → List Operand → List OperandTree
+operands_at s args = map (operand_at s) args
 
 abbrev pub kind_at : Site → InstKind → Kind
 kind_at s k = kind_in (tables_of s.whole) k

@@ -2,12 +2,14 @@
 ghost use Rattle.std.specs.Prelude.{◌≡◌, ◌<◌, ◌^◌, nat_lt, length};
 ghost use Rattle.std.specs.List.{list_all};
 ghost use Rattle.ir_rules.specs.Locals.{Given};
-ghost use Rattle.ir_rules.specs.Operands.{gives, is_block, lane_fits};
+ghost use Rattle.ir_types.specs.Types.{fits_lane};
+ghost use Rattle.ir_rules.specs.Operands.{gives, is_block};
 ghost use Rattle.ir_check_fits.specs.Roles.{any_passes, has_role};
 
 use crate::locals::{Role, Roles, roles_of};
-use crate::operands::{is_valued, same_type};
+use crate::operands::is_valued;
 use crate::steps::TypeSteps;
+use ir_rules::same_type;
 use ir_types::{Function, Operand, Ty, ValueId};
 use std::alloc::{AllocError, Global};
 use std::marker::Model;
@@ -38,7 +40,7 @@ fn number_fits(width: u32, number: u64) -> bool
 
 // Whether lanes have so many bits each.
 fn lanes_fit(width: u32, lanes: &[Option<u64>]) -> bool
-    ensures { result ≡ list_all (lane_fits width) lanes.now }
+    ensures { result ≡ list_all (fits_lane width) lanes.now }
 {
     lanes.iter().all(|lane| match *lane {
         Some(number) => number_fits(width, number),

@@ -11,12 +11,14 @@ ghost use Rattle.ir_check_fits.specs.Masked.{masked_in};
 
 use crate::masked::{Masked, access_of};
 use crate::numbers::is_written_alignment;
-use crate::operands::{is_bits, same_type};
+use crate::operands::is_bits;
+use ir_rules::same_type;
 use ir_types::{Actual, Callee, Operand, Ty};
 
 // Whether a masked load may load a type, and its alignment is written, where it has one.
 fn load_fits(ty: Ty, actuals: &[Actual], args: &[Operand]) -> bool
-    ensures { (t : Tables) (names : List Name) → result ≡ is_access_right masked_load ty (map (λ (a : Actual). a.ty) actuals.now) (map (operand_in t names) args.now) }
+    ensures { (t : Tables) (names : List Name) → result ≡ is_access_right masked_load ty
+        (map (λ (a : Actual). a.ty) actuals.now) (map (operand_in t names) args.now) }
 {
     let Some((_, behind)) = actuals.split_first() else {
         return true;
@@ -37,7 +39,8 @@ fn load_fits(ty: Ty, actuals: &[Actual], args: &[Operand]) -> bool
 
 // Whether a masked store may store what it does, and its alignment is written, where it has one.
 fn store_fits(actuals: &[Actual], args: &[Operand]) -> bool
-    ensures { (t : Tables) (names : List Name) (ty : Ty) → result ≡ is_access_right masked_store ty (map (λ (a : Actual). a.ty) actuals.now) (map (operand_in t names) args.now) }
+    ensures { (t : Tables) (names : List Name) (ty : Ty) → result ≡ is_access_right masked_store ty
+        (map (λ (a : Actual). a.ty) actuals.now) (map (operand_in t names) args.now) }
 {
     let Some((stored, actuals_behind)) = actuals.split_first() else {
         return true;
@@ -50,7 +53,9 @@ fn store_fits(actuals: &[Actual], args: &[Operand]) -> bool
 
 // Whether a masked access is right, where this is one.
 fn access_fits(access: Option<Masked>, ty: Ty, actuals: &[Actual], args: &[Operand]) -> bool
-    ensures { (t : Tables) (names : List Name) (meant : Option Meant) → access ≡ masked_in meant → result ≡ is_meant_right meant ty (map (λ (a : Actual). a.ty) actuals.now) (map (operand_in t names) args.now) }
+    ensures { (t : Tables) (names : List Name) (meant : Option Meant) → access ≡ masked_in meant
+        → result ≡ is_meant_right meant ty (map (λ (a : Actual). a.ty) actuals.now)
+        (map (operand_in t names) args.now) }
 {
     let Some(access) = access else {
         return true;
@@ -63,7 +68,8 @@ fn access_fits(access: Option<Masked>, ty: Ty, actuals: &[Actual], args: &[Opera
 
 /// Whether a call that gives a type is right for what the name of its function means.
 pub fn is_meant_right(callee: &Callee, ty: Ty, args: &[Operand]) -> bool
-    ensures { (t : Tables) (names : List Name) → result ≡ is_meant_right (meant_by callee.now.name) ty (actual_types callee.now) (map (operand_in t names) args.now) }
+    ensures { (t : Tables) (names : List Name) → result ≡ is_meant_right (meant_by callee.now.name)
+        ty (actual_types callee.now) (map (operand_in t names) args.now) }
 {
     access_fits(access_of(&callee.name), ty, callee.actuals.as_slice(), args)
 }

@@ -22,7 +22,9 @@ fn in_function(
     function: &Function,
 ) -> Result<Option<Breach>, AllocError>
     requires { IsFunctionPlaced (tables_of types.now) function.now }
-    ensures { IfOk result (λ b. b ≡ first (map (inside function.now.name) (mismatches (tree_of types.now) (function_in (tables_of types.now) function.now)))) }
+    ensures { IfOk result (λ b. b ≡ first
+        (map (inside function.now.name)
+        (mismatches (tree_of types.now) (function_in (tables_of types.now) function.now)))) }
 {
     let around = Around::new(alloc, types, function)?;
     first_broken(alloc, &around, function)
@@ -39,7 +41,9 @@ pub fn in_functions(
     functions: &[Function],
 ) -> Result<Option<Breach>, AllocError>
     requires { AllByRecursion (IsFunctionPlaced (tables_of types.now)) functions.now }
-    ensures { IfOk result (λ b. b ≡ first (concat (map (λ (f : FunctionTree). map (inside f.name) (mismatches (tree_of types.now) f)) (map (function_in (tables_of types.now)) functions.now)))) }
+    ensures { IfOk result (λ b. b ≡ first
+        (concat (map (λ (f : FunctionTree). map (inside f.name) (mismatches (tree_of types.now) f))
+        (map (function_in (tables_of types.now)) functions.now)))) }
 {
     let mut left = functions;
     'more: while let Some((function, rest)) = left.split_first() {

@@ -4,7 +4,7 @@ ghost use Rattle.std.specs.List.{AllByRecursion, list_all};
 ghost use Rattle.ir_types.specs.Denotes.{name_in};
 ghost use Rattle.ir_rules.specs.Operands.{is_valued, is_label};
 ghost use Rattle.ir_rules.specs.Mismatch.{operands_fit, kind_fits, inst_fits};
-ghost use Rattle.ir_check_fits.specs.Sites.{locals_at, around_at, operand_at, kind_at, inst_at, IsNamed, IsInstHere};
+ghost use Rattle.ir_check_fits.specs.Sites.{locals_at, around_at, operands_at, kind_at, inst_at, IsNamed, IsInstHere};
 
 use crate::around::Around;
 use crate::fitting::operands_fit;
@@ -15,7 +15,8 @@ use ir_types::{Inst, ValueId};
 // Whether labels are blocks'.
 fn labels_fit(x: &Around<'_>, labels: &[ValueId]) -> bool
     requires { AllByRecursion (IsNamed (length x.now.part.names)) labels.now }
-    ensures { result ≡ list_all (is_label (locals_at x.now)) (map (name_in x.now.part.names) labels.now) }
+    ensures { result ≡ list_all (is_label (locals_at x.now))
+        (map (name_in x.now.part.names) labels.now) }
 {
     let mut left = labels;
     'more: while let Some((label, behind)) = left.split_first() {
@@ -37,7 +38,12 @@ fn head_fits(inst: &Inst) -> bool
 // Whether its labels, its operands and its types fit.
 fn body_fits(x: &Around<'_>, inst: &Inst) -> bool
     requires { IsInstHere (length x.now.part.names) inst.now }
-    ensures { result ≡ (list_all (is_label (locals_at x.now)) (map (name_in x.now.part.names) inst.now.labels) && (operands_fit (around_at x.now) (kind_at x.now inst.now.kind) inst.now.ty (map (operand_at x.now) inst.now.args) && kind_fits (around_at x.now) (kind_at x.now inst.now.kind) inst.now.ty (map (operand_at x.now) inst.now.args))) }
+    ensures { result ≡ (list_all (is_label (locals_at x.now))
+        (map (name_in x.now.part.names) inst.now.labels)
+        && (operands_fit (around_at x.now) (kind_at x.now inst.now.kind) inst.now.ty
+        (operands_at x.now inst.now.args)
+        && kind_fits (around_at x.now) (kind_at x.now inst.now.kind) inst.now.ty
+        (operands_at x.now inst.now.args))) }
 {
     let args = inst.args.as_slice();
     labels_fit(x, inst.labels.as_slice())

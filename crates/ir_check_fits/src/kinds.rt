@@ -3,20 +3,21 @@ ghost use Rattle.std.specs.Prelude.{◌≡◌, map};
 ghost use Rattle.ir_types.specs.Denotes.{nodes_in, tree_of};
 ghost use Rattle.ir_rules.specs.Steps.{type_definitions};
 ghost use Rattle.ir_rules.specs.Mismatch.{leads_on, kind_fits};
-ghost use Rattle.ir_check_fits.specs.Sites.{around_at, operand_at, kind_at};
+ghost use Rattle.ir_check_fits.specs.Sites.{around_at, operands_at, kind_at};
 
 use crate::around::Around;
 use crate::calls::is_meant_right;
 use crate::numbers::{is_alignment, is_mask_constant};
 use crate::operands::{
     is_bits, is_condition_for, is_element_of, is_integral, is_mask_type, is_vector, is_wider,
-    same_type,
 };
+use ir_rules::same_type;
 use ir_types::{InstKind, Operand, Ty, TypeId};
 
 // Whether indexes lead on from a pointer through the type at a place.
 fn leads_on(x: &Around<'_>, id: TypeId, widths: &[u32], args: &[Operand]) -> bool
-    ensures { result ≡ leads_on (type_definitions (tree_of x.now.whole)) (nodes_in x.now.whole id) widths.now (map (operand_at x.now) args.now) }
+    ensures { result ≡ leads_on (type_definitions (tree_of x.now.whole)) (nodes_in x.now.whole id)
+        widths.now (operands_at x.now args.now) }
 {
     match args.split_first() {
         Some((_, indexes)) => x.types().is_stepped(id, widths, indexes),
@@ -26,7 +27,8 @@ fn leads_on(x: &Around<'_>, id: TypeId, widths: &[u32], args: &[Operand]) -> boo
 
 /// Whether types, alignments and what is stepped through, called or returned fit an instruction of a kind with a result of a type.
 pub fn kind_fits(x: &Around<'_>, kind: &InstKind, ty: Ty, args: &[Operand]) -> bool
-    ensures { result ≡ kind_fits (around_at x.now) (kind_at x.now kind.now) ty (map (operand_at x.now) args.now) }
+    ensures { result ≡ kind_fits (around_at x.now) (kind_at x.now kind.now) ty
+        (operands_at x.now args.now) }
 {
     match kind {
         InstKind::Binary(_, _) => is_integral(ty),

@@ -3,9 +3,9 @@ ghost use Rattle.std.specs.Prelude.{◌≡◌, ◌<◌, ◌||◌, ℕ, Bool, fal
 ghost use Rattle.std.specs.List.{list_any};
 ghost use Rattle.ir_types.specs.Names.{IsTable};
 ghost use Rattle.ir_rules.specs.Locals.{Given};
-ghost use Rattle.ir_check_fits.specs.Roles.{as_given, same_role, any_passes, has_role, is_there, at_param, at_result, at_block, at_function};
+ghost use Rattle.ir_check_fits.specs.Roles.{as_given, same_role, any_passes, has_role, AddsRoles, is_there, at_param, at_result, at_block, at_function};
 
-use crate::operands::same_type;
+use ir_rules::same_type;
 use ir_types::{Block, Function, Inst, Param, Ty, ValueId};
 use lists::Few;
 use std::alloc::{AllocError, Global};
@@ -26,7 +26,8 @@ pub type Roles = Few<Role, 1>;
 // For each of so many names no role.
 fn no_roles(alloc: Global, count: usize) -> Result<Vec<Roles>, AllocError>
     ensures length { IfOk result (λ lists. length lists.items ≡ count) }
-    ensures empty { IfOk result (λ lists. (i : ℕ) (p : Given → Bool) → has_role lists.items i p ≡ false) }
+    ensures empty { IfOk result (λ lists. (i : ℕ) (p : Given → Bool)
+        → has_role lists.items i p ≡ false) }
 {
     let mut lists = Vec::new(alloc);
     for _ in 0..count {
@@ -48,7 +49,8 @@ fn is_same(one: Role, other: Role) -> bool
 
 // Adds a role where it isn't there.
 fn add(roles: &mut Roles, role: Role) -> Result<(), AllocError>
-    ensures { OnOk result ((p : Given → Bool) → any_passes p roles.new ≡ (any_passes p roles.old || p (as_given role))) }
+    ensures { OnOk result ((p : Given → Bool)
+        → any_passes p roles.new ≡ (any_passes p roles.old || p (as_given role))) }
 {
     if roles.as_slice().iter().any(|known| is_same(*known, role)) {
         return Ok(());
@@ -58,7 +60,7 @@ fn add(roles: &mut Roles, role: Role) -> Result<(), AllocError>
 
 // Gives a role to the name at a place.
 fn give(lists: &mut [Roles], id: ValueId, role: Role) -> Result<(), AllocError>
-    ensures { OnOk result ((i : ℕ) (p : Given → Bool) → i < length lists.old → has_role lists.new i p ≡ (has_role lists.old i p || is_there i p id (as_given role))) }
+    ensures { OnOk result (AddsRoles lists.old lists.new (λ i p. is_there i p id (as_given role))) }
 {
     let place = id.0 as usize;
     if place < lists.len() {
@@ -69,7 +71,8 @@ fn give(lists: &mut [Roles], id: ValueId, role: Role) -> Result<(), AllocError>
 
 // Gives their types to the results of instructions.
 fn give_results(lists: &mut [Roles], insts: &[Inst]) -> Result<(), AllocError>
-    ensures { OnOk result ((i : ℕ) (p : Given → Bool) → i < length lists.old → has_role lists.new i p ≡ (has_role lists.old i p || list_any (at_result i p) insts.now)) }
+    ensures { OnOk result (AddsRoles lists.old lists.new
+        (λ i p. list_any (at_result i p) insts.now)) }
 {
     for inst in insts {
         if let Some(id) = inst.result {
@@ -81,7 +84,8 @@ fn give_results(lists: &mut [Roles], insts: &[Inst]) -> Result<(), AllocError>
 
 // Gives their roles to the names of blocks and of what is in them.
 fn give_blocks(lists: &mut [Roles], blocks: &[Block]) -> Result<(), AllocError>
-    ensures { OnOk result ((i : ℕ) (p : Given → Bool) → i < length lists.old → has_role lists.new i p ≡ (has_role lists.old i p || list_any (at_block i p) blocks.now)) }
+    ensures { OnOk result (AddsRoles lists.old lists.new
+        (λ i p. list_any (at_block i p) blocks.now)) }
 {
     for block in blocks {
         give(lists, block.name, Role::Block)?;
@@ -92,7 +96,8 @@ fn give_blocks(lists: &mut [Roles], blocks: &[Block]) -> Result<(), AllocError>
 
 // Gives their types to parameters.
 fn give_params(lists: &mut [Roles], params: &[Param]) -> Result<(), AllocError>
-    ensures { OnOk result ((i : ℕ) (p : Given → Bool) → i < length lists.old → has_role lists.new i p ≡ (has_role lists.old i p || list_any (at_param i p) params.now)) }
+    ensures { OnOk result (AddsRoles lists.old lists.new
+        (λ i p. list_any (at_param i p) params.now)) }
 {
     for param in params {
         give(lists, param.name, Role::Value(param.ty))?;
@@ -106,7 +111,8 @@ fn give_params(lists: &mut [Roles], params: &[Param]) -> Result<(), AllocError>
 ///
 /// Where there is no memory.
 pub fn roles_of(alloc: Global, function: &Function) -> Result<Vec<Roles>, AllocError>
-    ensures roles { IfOk result (λ lists. (i : ℕ) (p : Given → Bool) → i < length function.now.names → has_role lists.items i p ≡ at_function i p function.now) }
+    ensures roles { IfOk result (λ lists. (i : ℕ) (p : Given → Bool) → i < length function.now.names
+        → has_role lists.items i p ≡ at_function i p function.now) }
     ensures table { IsTable function.now.names }
 {
     let mut lists = no_roles(alloc, function.names.len())?;

@@ -22,7 +22,8 @@ pub fn is_alignment(number: u64) -> bool
 
 /// Whether an operand is a written alignment.
 pub fn is_written_alignment(operand: &Operand) -> bool
-    ensures { (t : Tables) (names : List Name) → result ≡ is_written_alignment (operand_in t names operand.now) }
+    ensures { (t : Tables) (names : List Name)
+        → result ≡ is_written_alignment (operand_in t names operand.now) }
 {
     match operand {
         Operand::Int(number) => is_alignment(*number),
@@ -32,14 +33,16 @@ pub fn is_written_alignment(operand: &Operand) -> bool
 
 // Whether an operand is no local.
 fn is_constant(operand: &Operand) -> bool
-    ensures { (t : Tables) (names : List Name) → result ≡ is_constant (operand_in t names operand.now) }
+    ensures { (t : Tables) (names : List Name)
+        → result ≡ is_constant (operand_in t names operand.now) }
 {
     !matches!(operand, Operand::Local(_))
 }
 
 // Whether operands are no locals.
 fn are_constant(operands: &[Operand]) -> bool
-    ensures { (t : Tables) (names : List Name) → result ≡ list_all is_constant (map (operand_in t names) operands.now) }
+    ensures { (t : Tables) (names : List Name)
+        → result ≡ list_all is_constant (map (operand_in t names) operands.now) }
 {
     let mut left = operands;
     'more: while let Some((operand, behind)) = left.split_first() {
@@ -53,7 +56,8 @@ fn are_constant(operands: &[Operand]) -> bool
 
 /// Whether the operands behind the first two are no locals.
 pub fn is_mask_constant(operands: &[Operand]) -> bool
-    ensures { (t : Tables) (names : List Name) → result ≡ list_all is_constant (drop 2 (map (operand_in t names) operands.now)) }
+    ensures { (t : Tables) (names : List Name)
+        → result ≡ list_all is_constant (drop 2 (map (operand_in t names) operands.now)) }
 {
     let Some((_, behind)) = operands.split_first() else {
         return true;

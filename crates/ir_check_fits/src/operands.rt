@@ -5,20 +5,6 @@ ghost use Rattle.ir_rules.specs.Mismatch.{is_mask_type, is_element_of};
 
 use ir_types::Ty;
 
-/// Whether two types are one.
-pub fn same_type(one: Ty, other: Ty) -> bool
-    ensures { result ≡ rules.same_type one other }
-{
-    match (one, other) {
-        (Ty::Int(width), Ty::Int(other_width)) => width == other_width,
-        (Ty::Ptr, Ty::Ptr) | (Ty::Void, Ty::Void) => true,
-        (Ty::Vector(lanes, width), Ty::Vector(other_lanes, other_width)) => {
-            lanes == other_lanes && width == other_width
-        }
-        _ => false,
-    }
-}
-
 /// Whether a type is an integer, or a vector of integers.
 pub fn is_integral(ty: Ty) -> bool
     ensures { result ≡ rules.is_integral ty }

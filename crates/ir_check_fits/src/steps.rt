@@ -34,7 +34,8 @@ fn end_behind(types: &[MemTy], steps: &Steps, id: TypeId) -> Option<TypeId>
 
 // The member that an index chooses: a number of 32 bits that isn't negative.
 fn chosen(width: u32, index: &Operand) -> Option<usize>
-    ensures { (t : Tables) (names : List Name) → result ≡ chosen (width, operand_in t names index.now) }
+    ensures { (t : Tables) (names : List Name)
+        → result ≡ chosen (width, operand_in t names index.now) }
 {
     match index {
         Operand::Int(number) if width == 32 && *number < 1 << 31 => Some(*number as usize),
@@ -51,7 +52,8 @@ fn part_at(
     width: u32,
     index: &Operand,
 ) -> Option<TypeId>
-    ensures { (t : Tables) (names : List Name) → result ≡ part_at types.now steps.now.ends extents.now id (width, operand_in t names index.now) }
+    ensures { (t : Tables) (names : List Name) → result ≡ part_at types.now steps.now.ends
+        extents.now id (width, operand_in t names index.now) }
 {
     let last = end_behind(types, steps, id)?;
     match types.get(last.0 as usize)? {
@@ -73,7 +75,8 @@ fn leads_at(
     widths: &[u32],
     indexes: &[Operand],
 ) -> bool
-    ensures { (t : Tables) (names : List Name) → result ≡ leads_at types.now steps.now.ends extents.now id (zip widths.now (map (operand_in t names) indexes.now)) }
+    ensures { (t : Tables) (names : List Name) → result ≡ leads_at types.now steps.now.ends
+        extents.now id (zip widths.now (map (operand_in t names) indexes.now)) }
 {
     let mut place = id;
     let mut widths_left = widths;
@@ -144,7 +147,9 @@ impl<'m> TypeSteps<'m> {
 
     /// Whether indexes, of which the first steps over whole types, lead through the type at a place.
     pub fn is_stepped(&self, id: TypeId, widths: &[u32], indexes: &[Operand]) -> bool
-        ensures { (t : Tables) (names : List Name) → result ≡ is_stepped (type_definitions (tree_of self.now)) (nodes_in self.now id) (zip widths.now (map (operand_in t names) indexes.now)) }
+        ensures { (t : Tables) (names : List Name) → result ≡ is_stepped
+            (type_definitions (tree_of self.now)) (nodes_in self.now id)
+            (zip widths.now (map (operand_in t names) indexes.now)) }
     {
         let Some((_, widths_behind)) = widths.split_first() else {
             return false;

@@ -19,7 +19,8 @@ fn is_sizeless(types: &TypeSteps<'_>, symbol: &Symbol) -> bool
 
 /// Whether one of some symbols is a variable whose type has no size.
 pub fn any_sizeless(types: &TypeSteps<'_>, symbols: &[Symbol]) -> bool
-    ensures { first (breaches_of types.now symbols.now) ≡ (if result then Some (outside Nothing) else None) }
+    ensures { first (breaches_of types.now symbols.now)
+        ≡ (if result then Some (outside Nothing) else None) }
 {
     let mut left = symbols;
     'more: while let Some((symbol, rest)) = left.split_first() {

@@ -60,6 +60,7 @@ module _ (t : Tables) (names : List Name) where
       let rest : AllZip (Says names) (of_blocks (n + length b.insts) blocks) (rules.of_blocks (n + length insts) (map (block_in t names) blocks)) = rw long (blocks_say (n + length b.insts) blocks) in
       ((refl, refl), zip_both (Says names) (of_results n b.insts) (of_blocks (n + length b.insts) blocks) (rules.of_results n insts) (rules.of_blocks (n + length insts) (map (block_in t names) blocks)) (results_say n b.insts) rest)
 
+-- the definitions of a function are those of its tree, one by one
 pub function_says : (t : Tables) (f : Function) → AllZip (Says f.names) (of_function f) (definitions_of (function_in t f))
 function_says t f = zip_both (Says f.names) (of_params f.params) (of_blocks 0 f.body) (rules.of_params (map (param_in f.names) f.params)) (rules.of_blocks 0 (map (block_in t f.names) f.body)) (params_say t f.names f.params) (blocks_say t f.names 0 f.body)
 
@@ -82,14 +83,17 @@ module _ (t : Tables) (names : List Name) where
   blocks_named n [] h = tt
   blocks_named n (b ∷ blocks) h = (h.0.name, each_append (IsNamed names) (of_results n b.insts) (of_blocks (n + length b.insts) blocks) (results_named n b.insts h.0.insts) (blocks_named (n + length b.insts) blocks h.1))
 
+-- and each has its name in the table
 pub function_named : (t : Tables) (f : Function) → IsFunctionPlaced t f → AllByRecursion (IsNamed f.names) (of_function f)
 function_named t f h = each_append (IsNamed f.names) (of_params f.params) (of_blocks 0 f.body) (params_named t f.names f.params h.params) (blocks_named t f.names 0 f.body h.blocks)
 
 -- ---- breaches
 
+-- a local in the table is named by it
 pub local_named : (names : List Name) (id : ValueId) → id.0 < length names → local_subject names id ≡ Local (name_in names id)
 local_named names id lt = rw (got_at names id.0 lt, local_subject) refl
 
+-- a breach at a definition is that of the tree's
 pub breach_says : (f : Function) (d : Definition) (e : rules.Definition) → IsNamed f.names d → Says f.names d e → breach_at f d ≡ inside f.name (Local e.name, e.place)
 breach_says f d e lt s =
     let subject : local_subject f.names d.name ≡ Local e.name = local_named f.names d.name lt ∙ ap Local (sym s.0) in

@@ -95,6 +95,7 @@ pub record IsSound (t : Tables) (f : Function) : Type 0 where
   pub table : IsTable f.names
   pub placed : IsFunctionPlaced t f
 
+-- functions that are in place, with tables, are sound
 pub all_sound : (t : Tables) (fs : List Function) → AllByRecursion (λ f. IsTable f.names) fs → AllByRecursion (IsFunctionPlaced t) fs → AllByRecursion (IsSound t) fs
 all_sound t [] h k = tt
 all_sound t (f ∷ fs) h k = (record { table = h.0; placed = k.0 }, all_sound t fs h.1 k.1)
@@ -154,6 +155,7 @@ functions_right m r =
 said_of : (S : Name → Subject) (o : Option Name) (names : List Name) → o ≡ first names → option_map (λ n. outside (S n)) o ≡ first (map (λ n. outside (S n)) names)
 said_of S o names e = ap (option_map (λ n. outside (S n))) e ∙ sym (first_map (λ n. outside (S n)) names)
 
+-- the first name that is repeated in a module is the first in its tree
 pub in_module : (m : Module) → IsModule m → first_repeated m ≡ first (duplicate_names (tree_of m))
 in_module m r =
     let types = map (λ n. outside (subjects.TypeName n)) (repeated (names_there m m.type_names)) in

@@ -45,9 +45,11 @@ use Rattle.ir_check_names.proofs.Marked.{has_itself, got_at, marks_of}
 abbrev pub first_unmet : Known → List Subject → Option Subject
 first_unmet k subjects = first (unknown_of k subjects)
 
+-- the first unknown of two lists behind one another
 pub unmet_both : (k : Known) (xs ys : List Subject) → first_unmet k (xs ++ ys) ≡ or_else (first_unmet k xs) (first_unmet k ys)
 unmet_both k xs ys = ap first (filter-append (λ s. not (is_known k s)) xs ys) ∙ first_both (unknown_of k xs) (unknown_of k ys)
 
+-- and of a single one
 pub unmet_one : (k : Known) (s : Subject) (b : Bool) → is_known k s ≡ b → cond b None (Some s) ≡ first_unmet k (s ∷ [])
 unmet_one k s true e = rw e refl
 unmet_one k s false e = rw e refl

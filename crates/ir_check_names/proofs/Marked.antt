@@ -61,6 +61,7 @@ as_long old n new (inr s) = by (has_name n old) refl (nat_eq (length new) (lengt
 
 -- ---- names at their places
 
+-- in the list, a place gets the name there
 pub got_at : (names : List Name) (i : ℕ) → i < length names → slice_get names i ≡ Some (name_at names i)
 got_at [] i lt = absurd (omega arith)
 got_at (n ∷ names) zero lt = refl
@@ -95,11 +96,13 @@ places_apart names i j t within there ne e = by (cases_lt j i)
 abbrev pub marks_of : List Name → List Name → List Bool
 marks_of names known = map (λ n. has_name n known) names
 
+-- the mark at a place says whether the name there is known
 pub mark_at : (names known : List Name) (i : ℕ) → i < length names → get_or (marks_of names known) i false ≡ has_name (name_at names i) known
 mark_at [] known i lt = absurd (omega arith)
 mark_at (n ∷ names) known zero lt = refl
 mark_at (n ∷ names) known (suc i) lt = mark_at names known i (omega arith)
 
+-- where none is known, none is marked
 pub none_marked : (names : List Name) → replicate (length names) false ≡ marks_of names []
 none_marked [] = refl
 none_marked (n ∷ names) = ap (λ bs. false ∷ bs) (none_marked names)

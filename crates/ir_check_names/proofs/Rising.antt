@@ -115,6 +115,7 @@ in_function t f h = misnumbered_right f [] None (of_function f) (definitions_of 
 
 -- ---- in a module
 
+-- the first wrong number in a module is the first in its tree
 pub in_module : (m : Module) → IsModule m → first_of misnumbered_in m.functions ≡ first (misnumbered_names (tree_of m))
 in_module m r =
     let t = tables_of m in

@@ -51,6 +51,7 @@ marked_right names before (d ∷ ds) (e ∷ es) table named says =
     let later : set (marks_of names before) d.name.0 true ≡ marks_of names (before ++ e.name ∷ []) = marked_more names before d.name.0 table named.0 ∙ ap (λ n. marks_of names (before ++ n ∷ [])) (sym says.0.0) in
     ap (λ marks. all_marked marks ds) later ∙ marked_right names (before ++ e.name ∷ []) ds es table named.1 says.1 ∙ ap (marks_of names) (append_assoc before (e.name ∷ []) (names_of es))
 
+-- the locals of a function that are marked are those that are defined in its tree
 pub locals_marked : (t : Tables) (f : Function) → IsTable f.names → IsFunctionPlaced t f → local_marks f ≡ marks_of f.names (names_of (definitions_of (function_in t f)))
 locals_marked t f table placed = ap (λ marks. all_marked marks (of_function f)) (none_marked f.names) ∙ marked_right f.names [] (of_function f) (definitions_of (function_in t f)) table (function_named t f placed) (function_says t f)
 

@@ -15,7 +15,8 @@ pub(crate) struct Definition {
 
 // The name at a place, where there is one.
 pub(crate) fn name_at(names: &Names, id: ValueId) -> Option<&Name>
-    ensures { MatchOption result (length names.now ≤ id.0) (λ n. slice_get names.now id.0 ≡ Some n.now) }
+    ensures { MatchOption result (length names.now ≤ id.0)
+        (λ n. slice_get names.now id.0 ≡ Some n.now) }
 {
     if (id.0 as usize) < names.len() {
         Some(names.get(id))
@@ -50,7 +51,8 @@ fn push_results(
     first: u32,
     insts: &[Inst],
 ) -> Result<(), AllocError>
-    ensures { OnOk result (definitions.new.items ≡ definitions.old.items ++ of_results first insts.now) }
+    ensures { OnOk result (definitions.new.items ≡ definitions.old.items
+        ++ of_results first insts.now) }
 {
     let mut place = first;
     for inst in insts {
@@ -63,7 +65,8 @@ fn push_results(
 }
 
 fn push_blocks(definitions: &mut Vec<Definition>, blocks: &[Block]) -> Result<(), AllocError>
-    ensures { OnOk result (definitions.new.items ≡ definitions.old.items ++ of_blocks 0 blocks.now) }
+    ensures { OnOk result (definitions.new.items ≡ definitions.old.items
+        ++ of_blocks 0 blocks.now) }
 {
     let mut place = 0;
     for block in blocks {

@@ -66,7 +66,8 @@ fn repeated_local(
     names: &Names,
     definitions: &[Definition],
 ) -> Result<Option<Definition>, AllocError>
-    ensures { IfOk result (λ found. found ≡ repeated_from names.now (replicate (length names.now) false) definitions.now) }
+    ensures { IfOk result (λ found. found ≡ repeated_from names.now
+        (replicate (length names.now) false) definitions.now) }
 {
     let mut given = vec![in alloc; false; names.len()]?;
     for definition in definitions {

@@ -60,7 +60,8 @@ fn unknown_operand(known: &Known<'_>, operand: &Operand) -> Option<Used>
 }
 
 fn unknown_operands(known: &Known<'_>, operands: &[Operand]) -> Option<Used>
-    ensures { result ≡ first_of (unknown_operand known.now.locals.now known.now.symbols.now) operands.now }
+    ensures { result ≡ first_of (unknown_operand known.now.locals.now known.now.symbols.now)
+        operands.now }
 {
     for operand in operands {
         if let Some(used) = unknown_operand(known, operand) {
@@ -93,7 +94,8 @@ fn either(first: Option<Used>, second: Option<Used>) -> Option<Used>
 
 // Of the entries of a phi: each operand before its label.
 fn unknown_entries(known: &Known<'_>, operands: &[Operand], labels: &[ValueId]) -> Option<Used>
-    ensures { result ≡ unknown_entries known.now.locals.now known.now.symbols.now operands.now labels.now }
+    ensures { result ≡ unknown_entries known.now.locals.now known.now.symbols.now operands.now
+        labels.now }
 {
     let mut operands_left = operands;
     let mut labels_left = labels;
@@ -128,7 +130,8 @@ fn unknown_kind(known: &Known<'_>, kind: &InstKind) -> Option<Used>
 }
 
 fn unknown_inst(known: &Known<'_>, inst: &Inst) -> Option<Used>
-    ensures { result ≡ unknown_inst known.now.locals.now known.now.symbols.now known.now.missing.now inst.now }
+    ensures { result ≡ unknown_inst known.now.locals.now known.now.symbols.now known.now.missing.now
+        inst.now }
 {
     let operands = inst.args.as_slice();
     let labels = inst.labels.as_slice();
@@ -150,7 +153,8 @@ fn unknown_insts(
     first: u32,
     insts: &[Inst],
 ) -> Result<Option<(Used, u32)>, AllocError>
-    ensures { IfOk result (λ found. found ≡ unknown_insts known.now.locals.now known.now.symbols.now known.now.missing.now first insts.now) }
+    ensures { IfOk result (λ found. found ≡ unknown_insts known.now.locals.now known.now.symbols.now
+        known.now.missing.now first insts.now) }
 {
     let mut place = first;
     for inst in insts {
@@ -171,7 +175,8 @@ pub(crate) fn unknown_blocks(
     known: &Known<'_>,
     blocks: &[Block],
 ) -> Result<Option<(Used, u32)>, AllocError>
-    ensures { IfOk result (λ found. found ≡ unknown_blocks known.now.locals.now known.now.symbols.now known.now.missing.now 0 blocks.now) }
+    ensures { IfOk result (λ found. found ≡ unknown_blocks known.now.locals.now
+        known.now.symbols.now known.now.missing.now 0 blocks.now) }
 {
     let mut place = 0;
     for block in blocks {

@@ -37,7 +37,8 @@ pub(crate) fn defined_marks(
     count: usize,
     definitions: &[Definition],
 ) -> Result<Vec<bool>, AllocError>
-    ensures { IfOk result (λ marks. marks.items ≡ all_marked (replicate count false) definitions.now) }
+    ensures { IfOk result (λ marks. marks.items ≡ all_marked (replicate count false)
+        definitions.now) }
 {
     let mut marks = vec![in alloc; false; count]?;
     for definition in definitions {
@@ -52,7 +53,8 @@ pub(crate) fn defined_marks(
 ///
 /// Where there is no memory.
 pub(crate) fn symbol_marks(alloc: Global, symbols: &[Symbol]) -> Result<Vec<bool>, AllocError>
-    ensures { IfOk result (λ marks. marks.items ≡ map (λ (s : Symbol). is_symbol_known s.kind) symbols.now) }
+    ensures { IfOk result (λ marks. marks.items ≡ map (λ (s : Symbol). is_symbol_known s.kind)
+        symbols.now) }
 {
     let mut marks = Vec::new(alloc);
     for symbol in symbols {

@@ -53,7 +53,8 @@ fn used_subject(m: &Module, names: &Names, used: Used) -> Result<Subject, AllocE
 
 // In the definitions of types.
 fn missing_in_definitions(missing: &[Option<u32>], names: &[TypeName]) -> Option<u32>
-    ensures { result ≡ first_of (λ (n : TypeName). missing_in_definition missing.now n.ty) names.now }
+    ensures { result ≡ first_of (λ (n : TypeName). missing_in_definition missing.now n.ty)
+        names.now }
 {
     for entry in names {
         if let NamedType::Defined(id) = entry.ty
@@ -111,7 +112,8 @@ fn unknown_in_functions(
     symbols: &[bool],
     missing: &[Option<u32>],
 ) -> Result<Option<Breach>, AllocError>
-    ensures { IfOk result (λ found. found ≡ first_of (unknown_in m.now symbols.now missing.now) m.now.functions) }
+    ensures { IfOk result (λ found. found ≡ first_of (unknown_in m.now symbols.now missing.now)
+        m.now.functions) }
 {
     for function in m.functions.as_slice() {
         if let Some(breach) = unknown_in(alloc, m, symbols, missing, function)? {

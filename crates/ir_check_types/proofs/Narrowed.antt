@@ -76,8 +76,10 @@ no_mismatches m types =
     let behind_unknown : _ = nothing_second (of_rule UnknownName (unknown_names m)) _ behind_names in
     nothing_mapped (λ b. (TypeMismatch, b)) (type_mismatches m) (nothing_first (of_rule TypeMismatch (type_mismatches m)) _ behind_unknown)
 
+-- what keeps the rules on types has no number out of range
 pub narrow : (m : ModuleTree) → type_breaches m ≡ [] → IsNarrow m
 narrow m kept = narrow_functions m m.functions (nothing_second (concat (map (λ (s : SymbolTree). sizeless m s.kind) m.symbols)) _ (no_mismatches m kept))
 
+-- and so of a module
 pub narrow_module : (m : Module) → type_breaches (tree_of m) ≡ [] → IsNarrow (tree_of m)
 narrow_module m kept = narrow (tree_of m) kept

@@ -23,7 +23,8 @@ use std::alloc::Global;
 /// The breach that is found.
 pub fn kept(rule: Rule, found: Option<Breach>) -> Result<(), CheckFault>
     ensures ok { OnOk result (found ≡ None) }
-    ensures err { IfErr result (λ fault. (breach : Breach) × (found ≡ Some breach) × (fault ≡ Broken rule breach)) }
+    ensures err { IfErr result (λ fault. (breach : Breach) × (found ≡ Some breach)
+        × (fault ≡ Broken rule breach)) }
 {
     match found {
         Some(breach) => Err(CheckFault::Broken(rule, breach)),

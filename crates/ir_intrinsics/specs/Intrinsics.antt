@@ -9,7 +9,7 @@ use Rattle.ir_types.specs.declared.inst.Ty.{Ty}
 use Rattle.ir_types.specs.declared.inst.Ty.TheVariants.{Int, Ptr, Vector, Void}
 use Rattle.ir_types.specs.declared.inst.BinOp.{BinOp}
 use Rattle.ir_types.specs.declared.inst.BinOp.TheVariants.{Add, Mul, And, Or, Xor, SMin, SMax, UMin, UMax}
-use Rattle.ir_types.specs.Grammar.{bits_for, element_of}
+use Rattle.ir_types.specs.InstForms.{bits_for, element_of}
 
 -- the first of a list
 abbrev pub first : {A : Type 0} → List A → Option A

@@ -4,7 +4,7 @@ use Rattle.text_forms.specs.Bind.{◌>>=◌}
 use Rattle.text_forms.specs.Form.{is_one_of}
 use Rattle.ir_types.specs.declared.inst.Ty.{Ty}
 use Rattle.ir_types.specs.declared.inst.Ty.TheVariants.{Int, Ptr, Vector, Void}
-use Rattle.ir_types.specs.Grammar.{bits_for, element_of}
+use Rattle.ir_types.specs.InstForms.{bits_for, element_of}
 use Rattle.ir_types.specs.declared.inst.BinOp.TheVariants.{Add, Mul, And, Or, Xor, SMin, SMax, UMin, UMax}
 use Rattle.ir_intrinsics.specs.Intrinsics.{first, Intrinsic as Kind, minimum_maximum, reduction, masked_load, masked_store, lifetime, Meant, meant, any_lifetime, behind_front, width_before, in_family}
 use Rattle.ir_intrinsics.specs.declared.meant.Intrinsic.{Intrinsic}

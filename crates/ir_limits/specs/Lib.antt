@@ -1,3 +1,4 @@
 pub mod Mentioned
 pub mod Limits
 pub mod Longs
+pub mod Placed

@@ -26,8 +26,7 @@ first_of f (x ∷ xs) = or_else (f x) (first_of f xs)
 
 -- the bytes of the first name that has too many
 abbrev pub first_long : List Name → Option ℕ
-first_long [] = None
-first_long (n ∷ ns) = or_else (long_name n) (first_long ns)
+first_long names = first_of long_name names
 
 -- the blocks of some functions
 abbrev pub blocks_of : List FunctionTree → ℕ

@@ -1,11 +1,9 @@
 // Counts of what functions have, and the first limit that is passed.
 
-ghost use Rattle.std.specs.Prelude.{◌≡◌, map, sum_by, length, IfOk, IfSome};
-ghost use Rattle.ir_types.specs.Denotes.{Tables, function_in};
+ghost use Rattle.std.specs.Prelude.{◌≡◌, sum_by, length, IfOk, IfSome};
 ghost use Rattle.ir_types.specs.declared.module.Block.{Block};
 ghost use Rattle.ir_types.specs.declared.module.Function.{Function};
-ghost use Rattle.ir_limits.specs.Limits.{above, name_count, passed_by};
-ghost use Rattle.text_lex.specs.declared.fault.Count.TheVariants.{Functions, Blocks, Instructions};
+ghost use Rattle.ir_limits.specs.Placed.{instructions_among, above_limits, IsPassedBy};
 
 use ir_types::{Block, Function};
 use std::alloc::AllocError;
@@ -42,7 +40,7 @@ fn instructions_in(blocks: &[Block]) -> Option<u64>
 
 // The instructions of functions.
 fn instruction_count(functions: &[Function]) -> Option<u64>
-    ensures { IfSome result (λ n. n ≡ sum_by (λ (f : Function). sum_by (λ (b : Block). length b.insts) f.body) functions.now) }
+    ensures { IfSome result (λ n. n ≡ instructions_among functions.now) }
 {
     let mut count: u64 = 0;
     for function in functions {
@@ -58,7 +56,7 @@ fn first_passed(
     instructions: u64,
     long: Option<u64>,
 ) -> Option<(Count, u64)>
-    ensures { result ≡ above Functions 4096 functions (above Blocks 65536 blocks (above Instructions 1000000 instructions (name_count long))) }
+    ensures { result ≡ above_limits functions blocks instructions long }
 {
     if functions > FUNCTION_LIMIT {
         return Some((Count::Functions, functions));
@@ -78,7 +76,7 @@ fn first_passed(
 ///
 /// Where a count is 2^64 or more: no memory holds so much.
 pub fn passed(functions: &[Function], long: Option<u64>) -> Result<Option<(Count, u64)>, AllocError>
-    ensures { IfOk result (λ p. (t : Tables) → p ≡ passed_by (map (function_in t) functions.now) long) }
+    ensures { IfOk result (IsPassedBy functions.now long) }
 {
     let blocks = block_count(functions).ok_or(AllocError)?;
     let instructions = instruction_count(functions).ok_or(AllocError)?;

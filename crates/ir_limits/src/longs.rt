@@ -6,6 +6,7 @@ ghost use Rattle.ir_types.specs.Names.{name_at};
 ghost use Rattle.ir_types.specs.TypeNodes.{type_nodes};
 ghost use Rattle.ir_limits.specs.Limits.{long_name, first_of};
 ghost use Rattle.ir_limits.specs.Longs.{long_in, longs_of, long_at, long_from};
+ghost use Rattle.ir_limits.specs.Placed.{names_alone, tables_over};
 
 use crate::names::long_name;
 use ir_types::{MemTy, Name, TypeId, TypeName};
@@ -89,7 +90,7 @@ pub fn long_names(
     names: &[TypeName],
     types: &[MemTy],
 ) -> Result<Vec<Option<u64>>, AllocError>
-    ensures { IfOk result (λ longs. longs.items ≡ longs_of (map (λ (n : TypeName). n.name) names.now) types.now) }
+    ensures { IfOk result (λ longs. longs.items ≡ longs_of (names_alone names.now) types.now) }
 {
     let mut longs = Vec::new(alloc);
     for ty in types {
@@ -111,7 +112,7 @@ impl<'m> LongNames<'m> {
         names: &'m [TypeName],
         types: &'m [MemTy],
     ) -> Result<LongNames<'m>, AllocError>
-        ensures { IfOk result (λ t. t ≡ record { symbols = symbols.now; type_names = map (λ (n : TypeName). n.name) names.now; types = types.now }) }
+        ensures { IfOk result (λ t. t ≡ tables_over symbols.now names.now types.now) }
     {
         let longs = long_names(alloc, names, types)?;
         Ok(LongNames {

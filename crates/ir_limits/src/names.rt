@@ -1,11 +1,10 @@
 // The first name of a function that has too many bytes.
 
-ghost use Rattle.std.specs.Prelude.{◌≡◌, ◌++◌, List, map, None};
-ghost use Rattle.text_forms.specs.Nested.{concat};
-ghost use Rattle.ir_types.specs.Denotes.{name_in, operand_in, kind_in, inst_in, block_in, param_in, function_in};
-ghost use Rattle.ir_types.specs.Tree.{ParamTree};
-ghost use Rattle.ir_limits.specs.Mentioned.{in_operand, in_operands, in_entries, before_operands, of_result, in_inst, in_block, in_function};
+ghost use Rattle.std.specs.Prelude.{◌≡◌, map, None};
+ghost use Rattle.ir_types.specs.Denotes.{name_in, operand_in, kind_in, inst_in, block_in, function_in};
+ghost use Rattle.ir_limits.specs.Mentioned.{in_operand, before_operands, of_result, in_inst, in_block, in_function};
 ghost use Rattle.ir_limits.specs.Limits.{long_name, or_else, first_long};
+ghost use Rattle.ir_limits.specs.Placed.{in_operands_at, in_entries_at, in_insts_at, in_blocks_at, params_at};
 ghost use Rattle.std.specs.Option.{option_map};
 
 use crate::longs::LongNames;
@@ -57,7 +56,7 @@ fn long_operand(tables: &LongNames<'_>, names: &Names, operand: &Operand) -> Opt
 }
 
 fn long_operands(tables: &LongNames<'_>, names: &Names, operands: &[Operand]) -> Option<u64>
-    ensures { result ≡ first_long (in_operands (map (operand_in tables.now names.now) operands.now)) }
+    ensures { result ≡ first_long (in_operands_at tables.now names.now operands.now) }
 {
     for operand in operands {
         if let Some(count) = long_operand(tables, names, operand) {
@@ -95,7 +94,7 @@ fn long_entries(
     operands: &[Operand],
     labels: &[ValueId],
 ) -> Option<u64>
-    ensures { result ≡ first_long (in_entries (map (operand_in tables.now names.now) operands.now) (map (name_in names.now) labels.now)) }
+    ensures { result ≡ first_long (in_entries_at tables.now names.now operands.now labels.now) }
 {
     let mut labels_left = labels;
     let mut operands_left = operands;
@@ -143,7 +142,7 @@ fn long_inst(tables: &LongNames<'_>, names: &Names, inst: &Inst) -> Option<u64>
 }
 
 fn long_insts(tables: &LongNames<'_>, names: &Names, insts: &[Inst]) -> Option<u64>
-    ensures { result ≡ first_long (concat (map in_inst (map (inst_in tables.now names.now) insts.now))) }
+    ensures { result ≡ first_long (in_insts_at tables.now names.now insts.now) }
 {
     for inst in insts {
         if let Some(count) = long_inst(tables, names, inst) {
@@ -163,7 +162,7 @@ fn long_block(tables: &LongNames<'_>, names: &Names, block: &Block) -> Option<u6
 }
 
 fn long_blocks(tables: &LongNames<'_>, names: &Names, blocks: &[Block]) -> Option<u64>
-    ensures { result ≡ first_long (concat (map in_block (map (block_in tables.now names.now) blocks.now))) }
+    ensures { result ≡ first_long (in_blocks_at tables.now names.now blocks.now) }
 {
     for block in blocks {
         if let Some(count) = long_block(tables, names, block) {
@@ -174,7 +173,7 @@ fn long_blocks(tables: &LongNames<'_>, names: &Names, blocks: &[Block]) -> Optio
 }
 
 fn long_params(names: &Names, params: &[Param]) -> Option<u64>
-    ensures { result ≡ first_long (map (λ (p : ParamTree). p.name) (map (param_in names.now) params.now)) }
+    ensures { result ≡ first_long (params_at names.now params.now) }
 {
     for param in params {
         if let Some(count) = long_at(names, param.name) {

@@ -10,7 +10,9 @@ use Rattle.ir_types.specs.declared.call.Actual.{Actual}
 use Rattle.ir_types.specs.declared.call.TailKind.TheVariants.{Unmarked}
 use Rattle.ir_types.specs.Kinds.{Kind, Binary, Compare, Phi, Call, Jump, Branch, Return}
 use Rattle.ir_types.specs.Tree.{OperandTree, local, InstTree, BlockTree, ParamTree, FunctionTree, ModuleTree}
-use Rattle.ir_types.specs.Grammar.{no_flags, bare_inst, named_by}
+use Rattle.ir_types.specs.FlagForms.{no_flags}
+use Rattle.ir_types.specs.InstForms.{bare_inst}
+use Rattle.ir_types.specs.FunctionForms.{named_by}
 use Rattle.ir_types.specs.Collected.{symbol_of_function}
 
 abbrev pub i1 : Ty

@@ -1,14 +1,14 @@
 -- What a module does: its steps. A state in which the module says nothing of the next step stands still.
-use Rattle.std.specs.Prelude.{ℕ, map, replicate, ◌+◌, Bool, true, false, if◌then◌else◌, nat_eq, is_some, List, [], ◌∷◌, length, slice_get, find, zip, take_while, Option, Some, None}
+use Rattle.std.specs.Prelude.{ℕ, map, replicate, ◌+◌, if◌then◌else◌, nat_eq, is_some, List, [], ◌∷◌, length, slice_get, find, zip, take_while, Option, Some, None}
 use Rattle.text_forms.specs.Bind.{◌>>=◌}
 use Rattle.ir_types.specs.declared.name.Name.{Name}
 use Rattle.ir_types.specs.declared.inst.Ty.{Ty}
 use Rattle.ir_types.specs.declared.inst.Ty.TheVariants.{Int as IntTy, Vector}
 use Rattle.ir_types.specs.declared.call.Callee.{Callee}
 use Rattle.ir_types.specs.Names.{same_name}
-use Rattle.ir_types.specs.Kinds.{Kind, Binary, Compare, Phi, Call, Jump, Branch, Return, ReturnVoid, operand_types, actual_types}
+use Rattle.ir_types.specs.Kinds.{Kind, is_phi_kind, Binary, Compare, Call, Jump, Branch, Return, ReturnVoid, operand_types, actual_types}
 use Rattle.ir_types.specs.Tree.{OperandTree, local, number, null, poison, lanes, global, out_of_range, InstTree, BlockTree, ParamTree, FunctionTree, ModuleTree}
-use Rattle.ir_types.specs.Grammar.{width_of}
+use Rattle.ir_types.specs.ValueForms.{width_of}
 use Rattle.ir_intrinsics.specs.Intrinsics.{meant_by}
 use Rattle.ir_meaning.specs.declared.value.Pointer.{Pointer}
 use Rattle.ir_meaning.specs.declared.value.Value.{Value}
@@ -151,13 +151,9 @@ effect_in m memory env i = effect_with m memory i (values_of memory env (operand
 
 -- ---- into a block
 
-abbrev pub is_phi : Kind → Bool
-is_phi Phi = true
-is_phi kind = false
-
 -- the phis at the head of a block
 abbrev pub phis_of : BlockTree → List InstTree
-phis_of b = take_while (λ (i : InstTree). is_phi i.kind) b.insts
+phis_of b = take_while (λ (i : InstTree). is_phi_kind i.kind) b.insts
 
 -- the operand of a phi for the block that was left: that of the first entry with its label
 abbrev pub entry_for : (left : Name) → List OperandTree → List Name → Option OperandTree

@@ -3,6 +3,7 @@ use Rattle.std.specs.Prelude.{ℕ, ◌+◌, ◌-◌, ◌%◌, ◌^◌, Bool, tru
 use Rattle.std.specs.List.{list_all}
 use Rattle.ir_types.specs.declared.inst.Ty.{Ty}
 use Rattle.ir_types.specs.declared.inst.Ty.TheVariants.{Int as IntTy, Ptr as PtrTy, Vector}
+use Rattle.ir_types.specs.Types.{fits_lane}
 use Rattle.ir_types.specs.declared.inst.BinOp.{BinOp}
 use Rattle.ir_types.specs.declared.inst.BinOp.TheVariants.{Add, Sub, Mul, Shl, UDiv, SDiv, URem, SRem, LShr, AShr, And, Or, Xor, SMin, SMax, UMin, UMax}
 use Rattle.ir_types.specs.declared.inst.Flags.{Flags}
@@ -14,11 +15,6 @@ use Rattle.ir_meaning.specs.declared.value.Value.{Value}
 use Rattle.ir_meaning.specs.declared.value.Value.TheVariants.{Int, Ptr, Poison, Lanes}
 
 -- ---- types of values
-
--- whether a lane of w bits is a number below 2^w, or poison
-abbrev pub fits_lane : ℕ → Option ℕ → Bool
-fits_lane w None = true
-fits_lane w (Some x) = nat_lt x (2 ^ w)
 
 -- whether a value is of a type: a number below 2^w for the width w, an address below 2^64, so many lanes of that width; or poison, but for
 -- vectors, whose lanes are poison one by one

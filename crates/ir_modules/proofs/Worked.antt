@@ -13,7 +13,9 @@ use Rattle.ir_types.specs.declared.name.Name.TheVariants.{Text, Number}
 use Rattle.ir_types.specs.declared.inst.BinOp.TheVariants.{Add, SMax}
 use Rattle.ir_types.specs.declared.module.Module.{Module}
 use Rattle.ir_types.specs.declared.inst.Ty.TheVariants.{Int}
-use Rattle.ir_types.specs.Grammar.{type_words, value_words, item_words, instruction_words, operation_words, terminator_words, excluded_words, kept, inst_attachments}
+use Rattle.ir_types.specs.TypeForms.{type_words}
+use Rattle.ir_types.specs.Words.{value_words, item_words, instruction_words, operation_words, terminator_words, excluded_words, kept}
+use Rattle.ir_types.specs.InstForms.{inst_attachments}
 use Rattle.ir_types.specs.Denotes.{inst_in, function_in, tables_of, tree_of, Denotes}
 use Rattle.ir_types.specs.Tree.{KeptTexts, FunctionTree, function_item}
 use Rattle.ir_shape.specs.Shape.{IsType, IsKept, IsReadInst, IsFunctionOf, HasShape}

@@ -17,7 +17,7 @@ use Rattle.ir_types.specs.declared.module.Function.{Function}
 use Rattle.ir_types.specs.declared.module.Symbol.{Symbol}
 use Rattle.ir_types.specs.declared.module.SymbolKind.TheVariants.{Function as FunctionSymbol, Missing}
 use Rattle.ir_types.specs.declared.module.Module.{Module}
-use Rattle.ir_types.specs.Grammar.{no_flags}
+use Rattle.ir_types.specs.FlagForms.{no_flags}
 use Rattle.ir_making.specs.Making.{bare}
 
 -- ---- a module

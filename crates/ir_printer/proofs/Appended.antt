@@ -27,16 +27,19 @@ pub more_appended : {T E : Type 0} (out w more out2 : List ℕ) {out1 : List ℕ
 more_appended out w more out2 (Ok u) e f = f ∙ rw e (append_assoc out w more)
 more_appended out w more out2 (Err x) e f = tt
 
+-- the text of an instruction
 pub inst_text : (i : InstTree) → text_of (inst_pieces i)
     ≡ text_of (result_pieces i.result) ++ (text_of (opening_pieces i.kind) ++ (text_of (operands_pieces i.kind i.ty i.args i.labels) ++ (text_of (ending_pieces i.kind i.ty i.labels) ++ (text_of (kept_behind [] i.kept) ++ 10 ∷ []))))
 unfolding inst_pieces
 inst_text i = simp (text_of-append, append_assoc)
 
+-- and of what is called with its arguments
 pub call_text : (c : Callee) (t : Ty) (args : List OperandTree) → text_of (call_pieces c t args)
     ≡ 32 ∷ (text_of (kept_then_blank c.before) ++ (text_of (type_pieces t) ++ (text_of (signature_pieces c.signature) ++ (32 ∷ ((global_token c.name).text ++ (40 ∷ (text_of (with_commas (arguments_of c.actuals args)) ++ 41 ∷ [])))))))
 unfolding call_pieces
 call_text c t args = simp text_of-append
 
+-- and of a type's definition
 pub definition_text : (n : Name) (ps : List Piece) → text_of (definition_pieces n ps) ≡ ((local_token n).text ++ codes " = type ") ++ (text_of ps ++ 10 ∷ [])
 definition_text n ps = simp (text_of-append, append_assoc)
 
@@ -45,11 +48,13 @@ same_word : {A B : Type 0} (f : A → B) (xs : List A) → function_word (map f 
 same_word f [] = refl
 same_word f (x ∷ xs) = refl
 
+-- and of what stands before a function's blocks
 pub head_text : (t : Tables) (f : Function) → text_of (head_pieces (function_in t f))
     ≡ function_word f.body ++ (32 ∷ (text_of (kept_then_blank f.before) ++ (text_of (type_pieces f.ret) ++ (32 ∷ ((global_token f.name).text ++ (40 ∷ (text_of (params_pieces (map (param_in f.names) f.params) f.varargs) ++ (41 ∷ text_of (blank_then_kept f.after)))))))))
 unfolding head_pieces
 head_text t f = rw (← same_word (block_in t f.names) f.body) (simp (text_of-append, append_assoc))
 
+-- and of its blocks in braces
 pub body_text : (t : Tables) (ns : List Name) (bs : List Block) → eqb (length bs) 0 ≡ false → text_of (body_pieces (map (block_in t ns) bs)) ≡ codes " {\n" ++ (text_of (separated (line_feed ∷ []) (map block_pieces (map (block_in t ns) bs))) ++ codes "}\n")
 body_text t ns [] e = absurd cc
 body_text t ns (b ∷ bs) e = simp (text_of-append, append_assoc)
@@ -87,10 +92,12 @@ all_printed f xs i out whole le so_far = sym (append-nil out) ∙ sym (ap (λ (y
 
 -- ---- of what there may be
 
+-- what is printed of one that there may be stands before that of the others
 pub for_cons : {A C : Type 0} (r : A → List C) (o : Option A) (xs : List A) → flat_map r (cons_option o xs) ≡ for_one r o ++ flat_map r xs
 for_cons r None xs = refl
 for_cons r (Some a) xs = refl
 
+-- what is printed of those that are kept is that of each that there may be
 pub for_each : {A B C : Type 0} (r : B → List C) (f : A → Option B) (xs : List A) → flat_map r (filter_map f xs) ≡ flat_map (λ x. for_one r (f x)) xs
 for_each r f [] = refl
 for_each r f (x ∷ xs) = for_cons r (f x) (filter_map f xs) ∙ ap (λ (is : List _). for_one r (f x) ++ is) (for_each r f xs)

@@ -13,7 +13,10 @@ use Rattle.ir_types.specs.declared.inst.Ty.TheVariants.{Int, Ptr, Vector, Void}
 use Rattle.ir_types.specs.Offsets.{Definitions}
 use Rattle.text_lex.specs.KeptText.{kept_behind}
 use Rattle.ir_types.specs.Tree.{OperandTree, local, number, null, poison, lanes, global, out_of_range, InstTree}
-use Rattle.ir_types.specs.Grammar.{bare_inst, is_out_of_range, with_kept, attached, label, operation_words, operation_behind, operation, terminator, named_by, line, block}
+use Rattle.ir_types.specs.TypeForms.{label}
+use Rattle.ir_types.specs.Words.{operation_words}
+use Rattle.ir_types.specs.InstForms.{bare_inst, is_out_of_range, with_kept, attached, operation_behind, operation, terminator}
+use Rattle.ir_types.specs.FunctionForms.{named_by, line, block}
 use Rattle.ir_shape.specs.Shape.{IsName, IsOperand, IsTyped, IsBody, IsInst, IsResult, IsTerminator, EndsOnce, IsBlock}
 use Rattle.ir_printer_types.specs.Pieces.{line_feed, indent, label_token, each_behind}
 use Rattle.ir_printer_types.proofs.Laid.{nothing_behind, token_laid}

@@ -14,7 +14,11 @@ use Rattle.ir_types.specs.Kinds.{Offset, Call}
 use Rattle.ir_types.specs.Offsets.{Definitions}
 use Rattle.ir_types.specs.TypeNodes.{TypeNode}
 use Rattle.ir_types.specs.Tree.{OperandTree}
-use Rattle.ir_types.specs.Grammar.{some, marked, list, value_type, dotted_list, inst_memory, bare_inst, getelementptr, index_value, argument, signature, call, kept}
+use Rattle.text_forms.specs.Combined.{some, marked, list}
+use Rattle.ir_types.specs.TypeForms.{value_type, inst_memory}
+use Rattle.ir_types.specs.Words.{kept}
+use Rattle.ir_types.specs.InstParts.{dotted_list, index_value}
+use Rattle.ir_types.specs.InstForms.{bare_inst, getelementptr, argument, signature, call}
 use Rattle.ir_shape.specs.Shape.{IsKept, IsReturnType, IsType, IsTyped, IsSignature, IsCallee}
 use Rattle.ir_printer_types.specs.Pieces.{comma, blank, left_paren, right_paren, global_token, each_behind, with_commas, type_pieces}
 use Rattle.ir_printer_types.proofs.Laid.{loose, nothing_behind, mark_laid}

@@ -7,7 +7,7 @@ use Rattle.text_forms.specs.Form.{Form}
 use Rattle.text_forms.specs.Gives.{mark}
 use Rattle.text_forms.specs.Lexical.{kind_of, table}
 use Rattle.text_lex.specs.Layout.{Piece, closed}
-use Rattle.ir_types.specs.Grammar.{dotted_list}
+use Rattle.ir_types.specs.InstParts.{dotted_list}
 use Rattle.ir_printer_types.specs.Pieces.{with_commas}
 use Rattle.ir_printer_types.proofs.Writes.{Writes, both, left_writes, right_writes, mapped_writes, one_writes, none_writes, there_writes, marked_comma, EachWrites, commas_write}
 use Rattle.ir_printer.specs.Print.{dots, dots_pieces}

@@ -235,10 +235,12 @@ printed_are_groups items h =
 
 -- ---- of a module
 
+-- the items that are printed have the shape of items
 pub printed_known : (tree : ModuleTree) → IsPrintable tree → AllByRecursion IsItem (printed_items tree)
 printed_known tree m =
     subst (λ (t : ModuleTree). AllByRecursion IsItem (printed_items t)) m.says (rw (printed_are_groups m.items m.known) (grouped_known IsItem all_groups m.items m.known))
 
+-- and are collected to the tree
 pub printed_collected : (tree : ModuleTree) → IsPrintable tree → collected (printed_items tree) ≡ tree
 printed_collected tree m =
     subst (λ (t : ModuleTree). collected (printed_items t) ≡ t) m.says (rw (printed_are_groups m.items m.known) (collected_grouped m.items))
@@ -247,6 +249,7 @@ each_function : (fs : List FunctionTree) → AllByRecursion IsItem (flat_map fun
 each_function [] h = tt
 each_function (f ∷ fs) h = (h.0, each_function fs h.1)
 
+-- a tree that can be printed has functions that can
 pub functions_known : (tree : ModuleTree) → IsPrintable tree → AllByRecursion IsFunction tree.functions
 unfolding printed_items
 functions_known tree m =

@@ -16,7 +16,7 @@ use Rattle.text_forms.proofs.Begins.{test}
 use Rattle.text_forms.proofs.Tokens.{is_text}
 use Rattle.text_lex.specs.KeptText.{token_of, IsToken}
 use Rattle.ir_types.specs.Tree.{KeptTexts}
-use Rattle.ir_types.specs.Grammar.{equal_string, target_line, attribute_group, comdat, metadata}
+use Rattle.ir_types.specs.ItemForms.{equal_string, target_line, attribute_group, comdat, metadata}
 use Rattle.ir_shape.specs.Shape.{IsKept, head_form, attributes_form}
 use Rattle.ir_printer_types.specs.Pieces.{token}
 use Rattle.ir_printer.specs.Print.{begins_comdat, is_comdat}
@@ -89,6 +89,7 @@ begins_word w f xs h =
 pub head_parts : (xs : KeptTexts) → IsKept head_form xs → BeginsWith (codes "source_filename") equal_string xs ⊎ BeginsWith (codes "target") target_line xs
 head_parts xs h = elim h.spelled [ inl s ↦ inl (begins_word _ _ xs s) | inr s ↦ inr (begins_word _ _ xs s) ]
 
+-- a line of the head that is no comdat's isn't taken for one
 pub head_no_comdat : (xs : KeptTexts) → IsKept head_form xs → is_comdat xs ≡ false
 head_no_comdat xs h = elim (head_parts xs h) [
   | inl b ↦ subst (λ (ys : KeptTexts). is_comdat ys ≡ false) b.parts refl
@@ -110,6 +111,7 @@ first_kind k f (x ∷ xs) t h =
     let is : kind_of x ≡ Some t.0.0 = t.0.1 in
     (x, xs, refl, is ∙ ap Some (sym (kind_again x t.0.0 is) ∙ kind))
 
+-- and a comdat's is
 pub comdat_is : (xs : KeptTexts) → IsKept comdat xs → is_comdat xs ≡ true
 unfolding comdat
 comdat_is xs h =
@@ -123,9 +125,11 @@ abbrev pub begins_group : KeptTexts → Bool
 begins_group [] = false
 begins_group (w ∷ ws) = same_text (codes "attributes") w
 
+-- the line of an attribute group begins with its word
 pub group_parts : (xs : KeptTexts) → IsKept attributes_form xs → BeginsWith (codes "attributes") attribute_group xs
 group_parts xs h = begins_word _ _ xs h.spelled
 
+-- and is taken for one
 pub group_is : (xs : KeptTexts) → IsKept attributes_form xs → begins_group xs ≡ true
 group_is xs h = subst (λ (ys : KeptTexts). begins_group ys ≡ true) (group_parts xs h).parts refl
 
@@ -136,6 +140,7 @@ metadata_no_group w e = elim (test (same_text (codes "attributes") w)) [
   | inl y ↦ absurd (let f : kind_of (codes "attributes") ≡ Some Metadata = subst (λ (v : List ℕ). kind_of v ≡ Some Metadata) (sym (is_text (codes "attributes") w y)) e in cc)
 ]
 
+-- and that of metadata isn't
 pub metadata_is : (xs : KeptTexts) → IsKept metadata xs → begins_group xs ≡ false
 unfolding metadata
 metadata_is xs h =

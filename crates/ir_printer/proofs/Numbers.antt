@@ -22,6 +22,7 @@ digits_at w (d ∷ ds) h = rw (no_sign d ds h) refl
 
 -- ---- powers of two
 
+-- a power of two is two halves
 pub two_halves : (w : ℕ) → 0 < w → 2 ^ w ≡ 2 ^ (w - 1) + 2 ^ (w - 1)
 two_halves zero h = absurd (omega arith)
 two_halves (suc w) h = let e : suc w - 1 ≡ w = omega arith in rw e (two-pow-succ w)
@@ -38,6 +39,7 @@ negative_again m v p lt =
     let back : m - (m - v) ≡ v = omega arith in
     rw (mod-eq_of_lt n, back) (mod-eq_of_lt lt)
 
+-- a signed number is read as the number that it stands for
 pub signed_again : (w v : ℕ) → 0 < w → w ≤ 64 → v < 2 ^ w → number_at w (signed_text w v) ≡ v
 unfolding signed_text
 signed_again w v p h lt = elim (test (nat_lt v (2 ^ (w - 1)))) [
@@ -51,6 +53,7 @@ signed_again w v p h lt = elim (test (nat_lt v (2 ^ (w - 1)))) [
 
 -- ---- and they are in range
 
+-- what is less is tested so
 pub is_less : (m n : ℕ) → m < n → nat_lt m n ≡ true
 is_less m n lt = by (nat_lt m n) refl
   where
@@ -69,6 +72,7 @@ digits_fit : (w : ℕ) (ds : List ℕ) → is_digits ds ≡ true → fits_width 
 digits_fit w [] h = absurd cc
 digits_fit w (d ∷ ds) h = rw (no_sign d ds h) refl
 
+-- it fits its width
 pub signed_fits : (w v : ℕ) → 0 < w → w ≤ 64 → v < 2 ^ w → fits_width w (signed_text w v) ≡ true
 unfolding signed_text
 signed_fits w v p h lt = elim (test (nat_lt v (2 ^ (w - 1)))) [
@@ -83,6 +87,7 @@ signed_fits w v p h lt = elim (test (nat_lt v (2 ^ (w - 1)))) [
 
 -- ---- their tokens
 
+-- and is one token
 pub signed_kind : (w v : ℕ) → w ≤ 64 → v < 2 ^ w → kind_of (signed_text w v) ≡ Some Number
 unfolding signed_text
 signed_kind w v h lt = elim (test (nat_lt v (2 ^ (w - 1)))) [

@@ -15,7 +15,8 @@ use Rattle.ir_types.specs.declared.inst.Ty.{Ty}
 use Rattle.ir_types.specs.Offsets.{Definitions}
 use Rattle.ir_types.specs.Written.{number_of, at_most_64_bits}
 use Rattle.ir_types.specs.Tree.{OperandTree}
-use Rattle.ir_types.specs.Grammar.{typed_pair, to_type, target, alignment_of, alignment, one_flag, two_flags, three_flags, flag_then}
+use Rattle.ir_types.specs.FlagForms.{one_flag, two_flags, three_flags, flag_then}
+use Rattle.ir_types.specs.InstParts.{typed_pair, to_type, target, alignment_of, alignment}
 use Rattle.ir_shape.specs.Shape.{IsName, IsType, IsBelow}
 use Rattle.ir_printer_types.proofs.Numbers.{no_sign}
 use Rattle.ir_printer_types.proofs.Writes.{Writes, both, spaced, ended, mapped_writes, made_writes, exactly_writes, one_writes, behind_writes, left_writes, right_writes, none_writes, there_writes, after_comma, marked_comma}

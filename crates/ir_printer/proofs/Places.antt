@@ -18,9 +18,11 @@ pub record IsAt {A : Type 0} (xs : List A) (i : ℕ) (x : A) : Type 0 where
 pub at_index : {A : Type 0} (xs : List A) (i : ℕ) (d : A) → i < length xs → IsAt xs i (get_or xs i d)
 at_index xs i d lt = record { within = lt; is = get_or_default xs i d (get_or xs i d) lt }
 
+-- what is mapped stands at the same place
 pub at_map : {A B : Type 0} (f : A → B) (xs : List A) (i : ℕ) (x : A) → IsAt xs i x → IsAt (map f xs) i (f x)
 at_map f xs i x h = let lt = h.within in record { within = rw (length-map xs f) lt; is = ap f h.is ∙ sym (get_or-map f xs i x (f x) lt) }
 
+-- and a pair of two lists
 pub at_zip : {A B : Type 0} (xs : List A) (ys : List B) (i : ℕ) (x : A) (y : B) → IsAt xs i x → IsAt ys i y → IsAt (zip xs ys) i (x, y)
 at_zip xs ys i x y h g = record { within = omega (arith, h.within, g.within, length-zip xs ys); is = rw (get_or-zip xs ys i (x, y) h.within g.within, ← h.is, ← g.is) refl }
 
@@ -30,6 +32,7 @@ known_at P [] i x p h = absurd (omega (arith, p.within))
 known_at P (y ∷ xs) zero x p h = subst P (sym p.is) h.0
 known_at P (y ∷ xs) (suc i) x p h = known_at P xs i x (record { within = omega (arith, p.within); is = p.is }) h.1
 
+-- what holds of each pair holds of the one at a place
 pub known_pair : {A B : Type 0} (R : A → B → Type 0) (xs : List A) (ys : List B) (i : ℕ) (x : A) (y : B) → IsAt xs i x → IsAt ys i y → AllZip R xs ys → R x y
 known_pair R [] ys i x y p q h = absurd (omega (arith, p.within))
 known_pair R (a ∷ xs) [] i x y p q h = absurd h
@@ -49,6 +52,7 @@ one_comma (q ∷ ps) p = simp (text_of-append, append_assoc) (ap (λ (t : List �
 up_to_next : (ps : List (List Piece)) (i : ℕ) (p : List Piece) → IsAt ps i p → take (i + 1) ps ≡ take i ps ++ p ∷ []
 up_to_next ps i p h = take_more ps i p h.within ∙ ap (λ (q : List Piece). take i ps ++ q ∷ []) (sym h.is)
 
+-- the next part is printed behind a comma
 pub next_part : (ps : List (List Piece)) (i : ℕ) (p : List Piece) (start out out1 out2 : List ℕ) → IsAt ps i p → out1 ≡ out ++ text_of (comma_before i) → out2 ≡ out1 ++ text_of p
     → out ≡ start ++ text_of (with_commas (take i ps)) → out2 ≡ start ++ text_of (with_commas (take (i + 1) ps))
 next_part ps i p start out out1 out2 h e1 e2 so_far =
@@ -57,6 +61,7 @@ next_part ps i p start out out1 out2 h e1 e2 so_far =
     ap (λ (qs : List (List Piece)). text_of (with_commas qs)) (up_to_next ps i p h) ∙ one_comma (take i ps) p ∙ ap (λ (n : ℕ). text_of (with_commas (take i ps)) ++ (text_of (comma_before n) ++ text_of p)) many in
     rw (e2, e1, so_far, step) (simp append_assoc)
 
+-- and behind pieces of its own
 pub next_behind : (s : List Piece) (ps : List (List Piece)) (i : ℕ) (p : List Piece) (start out out1 out2 : List ℕ) → IsAt ps i p → out1 ≡ out ++ text_of s → out2 ≡ out1 ++ text_of p
     → out ≡ start ++ text_of (each_behind s (take i ps)) → out2 ≡ start ++ text_of (each_behind s (take (i + 1) ps))
 next_behind s ps i p start out out1 out2 h e1 e2 so_far =

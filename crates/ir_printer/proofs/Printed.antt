@@ -9,7 +9,7 @@ use Rattle.ir_types.specs.Denotes.{type_names_of, function_in, tables_of, tree_o
 use Rattle.ir_types.specs.Types.{AreTypes}
 use Rattle.ir_types.specs.Offsets.{definitions_in}
 use Rattle.ir_types.specs.Tree.{ModuleTree, WrittenFunction, Item}
-use Rattle.ir_types.specs.Grammar.{SpellsModule, module_form}
+use Rattle.ir_types.specs.ItemForms.{SpellsModule, module_form}
 use Rattle.ir_types.specs.Reads.{Reads}
 use Rattle.ir_shape.specs.Shape.{IsFunction, IsPrintable}
 use Rattle.ir_shape.specs.Modules.{IsModule}
@@ -28,6 +28,7 @@ spells_module : (tree : ModuleTree) → IsPrinted (definitions_in (items_of tree
 unfolding module_form
 spells_module tree p = p.says.spells
 
+-- what is printed of a tree reads as it
 pub printed_reads : (tree : ModuleTree) → IsPrintable tree → Reads (text_of (module_pieces tree)) tree
 printed_reads tree h =
     let known = printed_known tree h in

@@ -10,7 +10,8 @@ use Rattle.text_lex.proofs.Layouts.{tokens_of-append}
 use Rattle.text_lex.proofs.Lexed.{each_split}
 use Rattle.ir_types.specs.declared.name.Name.{Name}
 use Rattle.ir_types.specs.Offsets.{Definitions}
-use Rattle.ir_types.specs.Grammar.{memory_type, item}
+use Rattle.ir_types.specs.TypeForms.{memory_type}
+use Rattle.ir_types.specs.ItemForms.{item}
 use Rattle.ir_types.specs.Tree.{KeptTexts, FunctionTree, NamedTree, defined, opaque, SymbolKindTree, variable, function, SymbolTree, VariableTree, ModuleTree, Item, variable_item, function_item, head_line, comdat_line, attribute_line, metadata_line}
 use Rattle.ir_shape.specs.Shape.{IsFunction, IsVariable, IsItem}
 use Rattle.ir_printer_types.specs.MemoryPieces.{node_pieces}

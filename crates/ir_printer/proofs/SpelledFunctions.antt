@@ -13,7 +13,10 @@ use Rattle.ir_types.specs.declared.opcode.ItemWord.TheVariants as items
 use Rattle.ir_types.specs.TypeNodes.{TypeNode}
 use Rattle.ir_types.specs.Tree.{BlockTree, ParamTree, FunctionTree, function_item}
 use Rattle.ir_types.specs.Offsets.{Definitions}
-use Rattle.ir_types.specs.Grammar.{list, parameter, dotted_parameters, declared_function, defined_function, item_words, item}
+use Rattle.text_forms.specs.Combined.{list}
+use Rattle.ir_types.specs.Words.{item_words}
+use Rattle.ir_types.specs.FunctionForms.{parameter, dotted_parameters, declared_function, defined_function}
+use Rattle.ir_types.specs.ItemForms.{item}
 use Rattle.ir_shape.specs.Shape.{IsKept, before_form, after_form, IsBlock, IsParam, IsFunction}
 use Rattle.ir_printer_types.specs.Pieces as pieces_of
 use Rattle.ir_printer_types.specs.Pieces.{token, global_token, local_token, type_pieces, with_commas}

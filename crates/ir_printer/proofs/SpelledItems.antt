@@ -13,7 +13,8 @@ use Rattle.ir_types.specs.declared.opcode.ItemWord.TheVariants as items
 use Rattle.ir_types.specs.Offsets.{Definitions}
 use Rattle.ir_types.specs.TypeNodes.{TypeNode}
 use Rattle.ir_types.specs.Tree.{KeptTexts, VariableTree, head_line, comdat_line, type_item, variable_item, attribute_line, metadata_line}
-use Rattle.ir_types.specs.Grammar.{kept, comdat, metadata, type_definition, variable_word, variable_definition, behind_type, item_words, item}
+use Rattle.ir_types.specs.Words.{kept, item_words}
+use Rattle.ir_types.specs.ItemForms.{comdat, metadata, type_definition, variable_word, variable_definition, behind_type, item}
 use Rattle.ir_shape.specs.Shape.{IsName, IsKept, head_form, attributes_form}
 use Rattle.ir_printer_types.specs.Texts.{name_text}
 use Rattle.ir_printer_types.specs.MemoryPieces.{node_pieces}

@@ -15,7 +15,9 @@ use Rattle.ir_types.specs.declared.inst.Ty.TheVariants.{Int}
 use Rattle.ir_types.specs.Offsets.{Definitions, scaled, offset_of}
 use Rattle.ir_types.specs.TypeNodes.{TypeNode, scalar}
 use Rattle.ir_types.specs.Tree.{global, out_of_range}
-use Rattle.ir_types.specs.Grammar.{memory_leaf, inst_memory, three_flags, stepped, comma_index, constant_offset, index_fits, operand_at}
+use Rattle.ir_types.specs.TypeForms.{memory_leaf, inst_memory}
+use Rattle.ir_types.specs.FlagForms.{three_flags}
+use Rattle.ir_types.specs.ValueForms.{stepped, comma_index, constant_offset, index_fits, operand_at}
 use Rattle.ir_shape.specs.Shape.{IsName, IsBelow}
 use Rattle.ir_printer_types.specs.Texts.{signed_text}
 use Rattle.ir_printer_types.specs.Pieces.{token, word, comma, blank, left_paren, right_paren, global_token, width_word, type_pieces}

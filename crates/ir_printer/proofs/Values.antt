@@ -11,7 +11,8 @@ use Rattle.ir_types.specs.declared.inst.Ty.{Ty}
 use Rattle.ir_types.specs.declared.inst.Ty.TheVariants.{Int, Ptr, Vector}
 use Rattle.ir_types.specs.Offsets.{Definitions}
 use Rattle.ir_types.specs.Tree.{OperandTree, local, number, null, poison, lanes, global, out_of_range}
-use Rattle.ir_types.specs.Grammar.{WrittenLane, lane_digits, lane_true, lane_false, lane_poison, lane, typed_lane, WrittenValue, named, digits, yes, no, null_word, poison_word, lane_list, symbol, stepped, constant_word, value, width_of, lane_at, lane_fits, is_int, operand_at, typed_value, pointer_value, index_value}
+use Rattle.ir_types.specs.ValueForms.{WrittenLane, lane_digits, lane_true, lane_false, lane_poison, lane, typed_lane, WrittenValue, named, digits, yes, no, null_word, poison_word, lane_list, symbol, stepped, constant_word, value, width_of, lane_at, lane_fits, is_int, operand_at}
+use Rattle.ir_types.specs.InstParts.{typed_value, pointer_value, index_value}
 use Rattle.ir_shape.specs.Shape.{IsName, IsOneOf, widths, IsType, IsBelow, IsLane, IsOperand, IsTyped}
 use Rattle.ir_printer_types.specs.Texts.{signed_text}
 use Rattle.ir_printer_types.specs.Pieces.{word, greater, type_pieces}
@@ -137,6 +138,7 @@ word_written : (defs : Definitions) (t : Ty) (a : OperandTree) (v : WrittenValue
 unfolding value
 word_written defs t a v s i e p w = record { typed = i; as_value = v; is = e; writes = rw p (right_writes (right_writes (left_writes w))) }
 
+-- an operand of a type is written by its pieces
 pub operand_written : (defs : Definitions) (t : Ty) (a : OperandTree) → IsTyped t a → IsWritten defs t a
 unfolding value constant_word
 operand_written defs t (local n) h = record { typed = h.0; as_value = named n; is = refl; writes = left_writes (mapped_writes n _ refl (local_writes n h.1)) }
@@ -150,35 +152,42 @@ operand_written defs t (out_of_range n) h = absurd h.1
 
 -- ---- operands with their types
 
+-- and so with its type before it
 pub typed_writes : {defs : Definitions} {t : Ty} {a : OperandTree} → IsWritten defs t a → Writes closed (typed_value defs) (t, a) (typed_operand t a)
 unfolding typed_value
 typed_writes {t = t} {a = a} x = made_writes (t, x.as_value) (t, a) (rw (x.is) refl) (both (type_writes t x.typed) (spaced x.writes))
 
+-- and a pointer
 pub pointer_writes : {defs : Definitions} {a : OperandTree} → IsWritten defs Ptr a → Writes closed (pointer_value defs) a (typed_operand Ptr a)
 unfolding pointer_value type_pieces
 pointer_writes {a = a} x = made_writes x.as_value a x.is (behind_writes (codes "ptr") value_kinds.4 (spaced x.writes))
 
+-- and an index
 pub index_writes : {defs : Definitions} {w : ℕ} {a : OperandTree} → IsWritten defs (Int w) a → Writes closed (index_value defs) (w, a) (typed_operand (Int w) a)
 unfolding index_value type_pieces
 index_writes {w = w} {a = a} x = made_writes (w, x.as_value) (w, a) (rw (x.is) refl) (both (width_writes w x.typed) (spaced x.writes))
 
 -- ---- so many operands of these types
 
+-- what holds of no operand holds where there are none
 pub by_none : (P : List OperandTree → Type 0) {args : List OperandTree} → AllZip IsTyped [] args → P [] → P args
 by_none P {args = []} h p = p
 by_none P {args = a ∷ args} h p = absurd h
 
+-- and of one that is written, where there is one
 pub by_one : (defs : Definitions) (P : List OperandTree → Type 0) {t : Ty} {args : List OperandTree} → AllZip IsTyped (t ∷ []) args → ((a : OperandTree) → IsWritten defs t a → P (a ∷ [])) → P args
 by_one defs P {args = []} h p = absurd h
 by_one defs P {t = t} {args = a ∷ []} h p = p a (operand_written defs t a h.0)
 by_one defs P {args = a ∷ b ∷ args} h p = absurd h.1
 
+-- and of two
 pub by_two : (defs : Definitions) (P : List OperandTree → Type 0) {t u : Ty} {args : List OperandTree} → AllZip IsTyped (t ∷ u ∷ []) args → ((a b : OperandTree) → IsWritten defs t a → IsWritten defs u b → P (a ∷ b ∷ [])) → P args
 by_two defs P {args = []} h p = absurd h
 by_two defs P {args = a ∷ []} h p = absurd h.1
 by_two defs P {t = t} {u = u} {args = a ∷ b ∷ []} h p = p a b (operand_written defs t a h.0) (operand_written defs u b h.1.0)
 by_two defs P {args = a ∷ b ∷ c ∷ args} h p = absurd h.1.1
 
+-- and of three
 pub by_three : (defs : Definitions) (P : List OperandTree → Type 0) {t u v : Ty} {args : List OperandTree} → AllZip IsTyped (t ∷ u ∷ v ∷ []) args → ((a b c : OperandTree) → IsWritten defs t a → IsWritten defs u b → IsWritten defs v c → P (a ∷ b ∷ c ∷ [])) → P args
 by_three defs P {args = []} h p = absurd h
 by_three defs P {args = a ∷ []} h p = absurd h.1

@@ -19,7 +19,8 @@ use Rattle.ir_types.specs.declared.call.Signature.{Signature}
 use Rattle.ir_types.specs.declared.call.TailKind.{TailKind}
 use Rattle.ir_types.specs.declared.call.TailKind.TheVariants.{Unmarked, Tail, MustTail, NoTail}
 use Rattle.ir_types.specs.Kinds.{Kind, Binary, Compare, Select, Freeze, Trunc, Zext, Sext, PtrToInt, Phi, Offset, Load, Store, Call, Extract, Insert, Shuffle, Jump, Branch, Switch, ReturnVoid, Return, Unreachable, operand_types}
-use Rattle.ir_types.specs.Grammar.{width_of, element_of}
+use Rattle.ir_types.specs.ValueForms.{width_of}
+use Rattle.ir_types.specs.InstForms.{element_of}
 use Rattle.ir_types.specs.Tree.{KeptTexts, OperandTree, local, number, null, poison, lanes, global, out_of_range, InstTree, BlockTree, ParamTree, FunctionTree, NamedTree, defined, opaque, TypeNameTree, SymbolKindTree, variable, function, SymbolTree, ModuleTree, VariableTree}
 use Rattle.ir_printer_types.specs.Texts.{signed_text}
 use Rattle.ir_printer_types.specs.MemoryPieces.{node_pieces}

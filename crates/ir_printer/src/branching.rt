@@ -1,11 +1,12 @@
 // Labels: those of branches, of the entries of a phi and of the cases of a switch.
 
-ghost use Rattle.std.specs.Prelude.{◌≡◌, ◌<◌, ◌++◌, ◌∷◌, [], suc, map, length, OnOk};
+ghost use Rattle.std.specs.Prelude.{◌≡◌, ◌<◌, ◌∷◌, [], suc, length};
 ghost use Rattle.std.specs.List.{AllByRecursion};
-ghost use Rattle.text_lex.specs.Layout.{text_of};
-ghost use Rattle.ir_types.specs.Denotes.{name_in, tables_of, operand_in};
+ghost use Rattle.ir_types.specs.Denotes.{name_in};
 ghost use Rattle.ir_shape.specs.Shape.{IsOneOf, widths, IsName, IsBelow, IsTyped};
+ghost use Rattle.ir_printer_types.specs.Appends.{Prints};
 ghost use Rattle.ir_printer_types.specs.Pieces.{with_commas, each_behind};
+ghost use Rattle.ir_printer.specs.Trees.{operand_of, operands_of, labels_of};
 ghost use Rattle.ir_printer.specs.Print.{target_pieces, targets_pieces, entry_pieces, entries_of, before_case, case_pieces, cases_of, switch_pieces};
 
 use crate::value::{put_comma, put_operand, put_signed};
@@ -15,8 +16,7 @@ use std::alloc::AllocError;
 
 fn put_target(out: &mut Vec<u8>, names: &Names, label: ValueId) -> Result<(), AllocError>
     requires { IsName (name_in names.now label) }
-    ensures { OnOk result (out.new.items ≡ out.old.items
-        ++ text_of (target_pieces (name_in names.now label))) }
+    ensures { Prints out.old out.new result (target_pieces (name_in names.now label)) }
 {
     out.extend_from_slice(b"label ")?;
     put_local(out, names, label)
@@ -28,9 +28,8 @@ pub(crate) fn put_targets(
     names: &Names,
     labels: &[ValueId],
 ) -> Result<(), AllocError>
-    requires { AllByRecursion IsName (map (name_in names.now) labels.now) }
-    ensures { OnOk result (out.new.items ≡ out.old.items
-        ++ text_of (targets_pieces (map (name_in names.now) labels.now))) }
+    requires { AllByRecursion IsName (labels_of names.now labels.now) }
+    ensures { Prints out.old out.new result (targets_pieces (labels_of names.now labels.now)) }
 {
     for (place, label) in labels.iter().enumerate() {
         put_comma(out, place)?;
@@ -48,10 +47,10 @@ fn put_entry(
     operand: &Operand,
     label: ValueId,
 ) -> Result<(), AllocError>
-    requires operand { IsTyped ty (operand_in (tables_of m.now) names.now operand.now) }
+    requires operand { IsTyped ty (operand_of m.now names.now operand.now) }
     requires label { IsName (name_in names.now label) }
-    ensures { OnOk result (out.new.items ≡ out.old.items
-        ++ text_of (entry_pieces ty (operand_in (tables_of m.now) names.now operand.now) (name_in names.now label))) }
+    ensures { Prints out.old out.new result
+        (entry_pieces ty (operand_of m.now names.now operand.now) (name_in names.now label)) }
 {
     out.extend_from_slice(b"[ ")?;
     put_operand(out, m, names, ty, operand)?;
@@ -69,12 +68,12 @@ pub(crate) fn put_entries(
     operands: &[Operand],
     labels: &[ValueId],
 ) -> Result<(), AllocError>
-    requires operands { AllByRecursion (IsTyped ty) (map (operand_in (tables_of m.now) names.now) operands.now) }
-    requires labels { AllByRecursion IsName (map (name_in names.now) labels.now) }
+    requires operands { AllByRecursion (IsTyped ty) (operands_of m.now names.now operands.now) }
+    requires labels { AllByRecursion IsName (labels_of names.now labels.now) }
     requires pairs { length operands.now ≡ length labels.now }
-    ensures { OnOk result (out.new.items ≡ out.old.items
-        ++ text_of (with_commas (entries_of ty
-        (map (operand_in (tables_of m.now) names.now) operands.now) (map (name_in names.now) labels.now)))) }
+    ensures { Prints out.old out.new result
+        (with_commas (entries_of ty (operands_of m.now names.now operands.now)
+        (labels_of names.now labels.now))) }
 {
     for (place, operand) in operands.iter().enumerate() {
         put_comma(out, place)?;
@@ -94,8 +93,7 @@ fn put_case(
     requires width { IsOneOf widths width }
     requires number { IsBelow width number }
     requires label { IsName (name_in names.now label) }
-    ensures { OnOk result (out.new.items ≡ out.old.items
-        ++ text_of (case_pieces width number (name_in names.now label))) }
+    ensures { Prints out.old out.new result (case_pieces width number (name_in names.now label)) }
 {
     put_width(out, width)?;
     out.push(b' ')?;
@@ -114,11 +112,11 @@ fn put_cases(
 ) -> Result<(), AllocError>
     requires width { IsOneOf widths width }
     requires numbers { AllByRecursion (IsBelow width) numbers.now }
-    requires labels { AllByRecursion IsName (map (name_in names.now) labels.now) }
+    requires labels { AllByRecursion IsName (labels_of names.now labels.now) }
     requires pairs { length labels.now ≡ length numbers.now }
-    ensures { OnOk result (out.new.items ≡ out.old.items
-        ++ text_of (each_behind (before_case ∷ [])
-        (cases_of width numbers.now (map (name_in names.now) labels.now)))) }
+    ensures { Prints out.old out.new result
+        (each_behind (before_case ∷ []) (cases_of width numbers.now
+        (labels_of names.now labels.now))) }
 {
     for (place, number) in numbers.iter().enumerate() {
         out.extend_from_slice(b"\n    ")?;
@@ -138,10 +136,10 @@ pub(crate) fn put_switch(
 ) -> Result<(), AllocError>
     requires width { IsOneOf widths width }
     requires numbers { AllByRecursion (IsBelow width) numbers.now }
-    requires labels { AllByRecursion IsName (map (name_in names.now) labels.now) }
+    requires labels { AllByRecursion IsName (labels_of names.now labels.now) }
     requires pairs { length labels.now ≡ suc (length numbers.now) }
-    ensures { OnOk result (out.new.items ≡ out.old.items
-        ++ text_of (switch_pieces width numbers.now (map (name_in names.now) labels.now))) }
+    ensures { Prints out.old out.new result
+        (switch_pieces width numbers.now (labels_of names.now labels.now)) }
 {
     let [default, labels @ ..] = labels else {
         return Ok(());

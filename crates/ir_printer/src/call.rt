@@ -1,12 +1,12 @@
 // Calls, and the steps of `getelementptr`.
 
-ghost use Rattle.std.specs.Prelude.{◌≡◌, ◌++◌, ◌∷◌, [], map, length, OnOk};
+ghost use Rattle.std.specs.Prelude.{◌∷◌, [], map};
 ghost use Rattle.std.specs.List.{AllZip};
-ghost use Rattle.text_lex.specs.Layout.{text_of};
 ghost use Rattle.ir_types.specs.declared.inst.Ty.TheVariants.{Int, Ptr};
-ghost use Rattle.ir_types.specs.Denotes.{tables_of, operand_in};
 ghost use Rattle.ir_shape.specs.Shape.{IsTyped};
+ghost use Rattle.ir_printer_types.specs.Appends.{Prints};
 ghost use Rattle.ir_printer_types.specs.Pieces.{comma, blank, each_behind, with_commas, type_pieces};
+ghost use Rattle.ir_printer.specs.Trees.{operand_of, operands_of};
 ghost use Rattle.ir_printer.specs.Print.{dots_pieces, written_types, signature_pieces, argument_pieces, arguments_of, call_pieces, each_typed, listed_pieces};
 
 use crate::kept::{put_blank_then_kept, put_kept_then_blank};
@@ -18,15 +18,14 @@ use std::alloc::AllocError;
 
 /// Appends the dots for further arguments, behind so many parameters.
 pub(crate) fn put_dots(out: &mut Vec<u8>, params: usize) -> Result<(), AllocError>
-    ensures { OnOk result (out.new.items ≡ out.old.items ++ text_of (dots_pieces params)) }
+    ensures { Prints out.old out.new result (dots_pieces params) }
 {
     put_comma(out, params)?;
     out.extend_from_slice(b"...")
 }
 
 fn put_types(out: &mut Vec<u8>, types: &[Ty]) -> Result<(), AllocError>
-    ensures { OnOk result (out.new.items ≡ out.old.items
-        ++ text_of (with_commas (map type_pieces types.now))) }
+    ensures { Prints out.old out.new result (with_commas (map type_pieces types.now)) }
 {
     for (place, ty) in types.iter().enumerate() {
         put_comma(out, place)?;
@@ -37,8 +36,7 @@ fn put_types(out: &mut Vec<u8>, types: &[Ty]) -> Result<(), AllocError>
 
 // Appends the types of a function's parameters.
 fn put_written_types(out: &mut Vec<u8>, signature: &Signature) -> Result<(), AllocError>
-    ensures { OnOk result (out.new.items ≡ out.old.items
-        ++ text_of (written_types signature.now)) }
+    ensures { Prints out.old out.new result (written_types signature.now) }
 {
     put_types(out, signature.params.as_slice())?;
     if signature.varargs {
@@ -50,8 +48,7 @@ fn put_written_types(out: &mut Vec<u8>, signature: &Signature) -> Result<(), All
 // Appends a space and these in parentheses, where they are written.
 #[tactic(auto, using(ir_printer_types::proofs::Appended::text_of_both, std::proofs::lemmas::Grind::common_steps))]
 fn put_signature(out: &mut Vec<u8>, signature: &Option<Signature>) -> Result<(), AllocError>
-    ensures { OnOk result (out.new.items ≡ out.old.items
-        ++ text_of (signature_pieces signature.now)) }
+    ensures { Prints out.old out.new result (signature_pieces signature.now) }
 {
     let Some(signature) = signature else {
         return Ok(());
@@ -70,10 +67,9 @@ fn put_argument(
     actual: &Actual,
     operand: &Operand,
 ) -> Result<(), AllocError>
-    requires { IsTyped actual.now.ty (operand_in (tables_of m.now) names.now operand.now) }
-    ensures { OnOk result (out.new.items ≡ out.old.items
-        ++ text_of (argument_pieces actual.now
-        (operand_in (tables_of m.now) names.now operand.now))) }
+    requires { IsTyped actual.now.ty (operand_of m.now names.now operand.now) }
+    ensures { Prints out.old out.new result
+        (argument_pieces actual.now (operand_of m.now names.now operand.now)) }
 {
     put_type(out, actual.ty)?;
     put_blank_then_kept(out, &actual.kept)?;
@@ -89,10 +85,9 @@ fn put_arguments(
     operands: &[Operand],
 ) -> Result<(), AllocError>
     requires { AllZip IsTyped (map (λ a. a.ty) actuals.now)
-        (map (operand_in (tables_of m.now) names.now) operands.now) }
-    ensures { OnOk result (out.new.items ≡ out.old.items
-        ++ text_of (with_commas (arguments_of actuals.now
-        (map (operand_in (tables_of m.now) names.now) operands.now)))) }
+        (operands_of m.now names.now operands.now) }
+    ensures { Prints out.old out.new result
+        (with_commas (arguments_of actuals.now (operands_of m.now names.now operands.now))) }
 {
     for (place, operand) in operands.iter().enumerate() {
         put_comma(out, place)?;
@@ -111,10 +106,9 @@ pub(crate) fn put_call(
     operands: &[Operand],
 ) -> Result<(), AllocError>
     requires { AllZip IsTyped (map (λ a. a.ty) callee.now.actuals)
-        (map (operand_in (tables_of m.now) names.now) operands.now) }
-    ensures { OnOk result (out.new.items ≡ out.old.items
-        ++ text_of (call_pieces callee.now ty
-        (map (operand_in (tables_of m.now) names.now) operands.now))) }
+        (operands_of m.now names.now operands.now) }
+    ensures { Prints out.old out.new result
+        (call_pieces callee.now ty (operands_of m.now names.now operands.now)) }
 {
     out.push(b' ')?;
     put_kept_then_blank(out, &callee.before)?;
@@ -136,10 +130,10 @@ fn put_indexes(
     operands: &[Operand],
 ) -> Result<(), AllocError>
     requires { AllZip IsTyped (map Int widths.now)
-        (map (operand_in (tables_of m.now) names.now) operands.now) }
-    ensures { OnOk result (out.new.items ≡ out.old.items
-        ++ text_of (each_behind (comma ∷ blank ∷ []) (each_typed (map Int widths.now)
-        (map (operand_in (tables_of m.now) names.now) operands.now)))) }
+        (operands_of m.now names.now operands.now) }
+    ensures { Prints out.old out.new result
+        (each_behind (comma ∷ blank ∷ []) (each_typed (map Int widths.now)
+        (operands_of m.now names.now operands.now))) }
 {
     for (place, operand) in operands.iter().enumerate() {
         out.extend_from_slice(b", ")?;
@@ -158,10 +152,9 @@ pub(crate) fn put_steps(
     operands: &[Operand],
 ) -> Result<(), AllocError>
     requires { AllZip IsTyped (Ptr ∷ map Int widths.now)
-        (map (operand_in (tables_of m.now) names.now) operands.now) }
-    ensures { OnOk result (out.new.items ≡ out.old.items
-        ++ text_of (listed_pieces (Ptr ∷ map Int widths.now)
-        (map (operand_in (tables_of m.now) names.now) operands.now))) }
+        (operands_of m.now names.now operands.now) }
+    ensures { Prints out.old out.new result
+        (listed_pieces (Ptr ∷ map Int widths.now) (operands_of m.now names.now operands.now)) }
 {
     let [pointer, indexes @ ..] = operands else {
         return Ok(());

@@ -1,12 +1,13 @@
 // Blocks and functions.
 
-ghost use Rattle.std.specs.Prelude.{◌≡◌, ◌++◌, ◌∷◌, [], map, codes, OnOk, if◌then◌else◌};
+ghost use Rattle.std.specs.Prelude.{◌≡◌, ◌∷◌, [], map, if◌then◌else◌};
 ghost use Rattle.std.specs.List.{AllByRecursion};
-ghost use Rattle.text_lex.specs.Layout.{text_of};
 ghost use Rattle.ir_types.specs.Types.{AreTypes};
-ghost use Rattle.ir_types.specs.Denotes.{Tables, type_names_of, tables_of, inst_in, block_in, param_in, function_in};
+ghost use Rattle.ir_types.specs.Denotes.{Tables, type_names_of, param_in, function_in};
 ghost use Rattle.ir_shape.specs.Shape.{IsInst, IsBlock, IsParam, IsFunction};
+ghost use Rattle.ir_printer_types.specs.Appends.{Prints};
 ghost use Rattle.ir_printer_types.specs.Pieces.{line_feed, indent, each_behind, separated, with_commas};
+ghost use Rattle.ir_printer.specs.Trees.{insts_of, block_of, blocks_of, params_of, function_of, functions_of};
 ghost use Rattle.ir_printer.specs.Print.{inst_pieces, block_pieces, param_pieces, params_pieces, function_word, head_pieces, body_pieces, function_pieces, parting, functions_behind};
 
 use crate::call::put_dots;
@@ -25,10 +26,9 @@ fn put_insts(
     insts: &[Inst],
 ) -> Result<(), AllocError>
     requires types { AreTypes (type_names_of m.now) 0 m.now.types }
-    requires known { AllByRecursion IsInst (map (inst_in (tables_of m.now) names.now) insts.now) }
-    ensures { OnOk result (out.new.items ≡ out.old.items
-        ++ text_of (each_behind (indent ∷ [])
-        (map inst_pieces (map (inst_in (tables_of m.now) names.now) insts.now)))) }
+    requires known { AllByRecursion IsInst (insts_of m.now names.now insts.now) }
+    ensures { Prints out.old out.new result
+        (each_behind (indent ∷ []) (map inst_pieces (insts_of m.now names.now insts.now))) }
 {
     for inst in insts {
         out.extend_from_slice(b"  ")?;
@@ -46,9 +46,8 @@ fn put_block(
     block: &Block,
 ) -> Result<(), AllocError>
     requires types { AreTypes (type_names_of m.now) 0 m.now.types }
-    requires known { IsBlock (block_in (tables_of m.now) names.now block.now) }
-    ensures { OnOk result (out.new.items ≡ out.old.items
-        ++ text_of (block_pieces (block_in (tables_of m.now) names.now block.now))) }
+    requires known { IsBlock (block_of m.now names.now block.now) }
+    ensures { Prints out.old out.new result (block_pieces (block_of m.now names.now block.now)) }
 {
     put_name(out, names.get(block.name))?;
     out.extend_from_slice(b":\n")?;
@@ -63,10 +62,9 @@ fn put_blocks(
     blocks: &[Block],
 ) -> Result<(), AllocError>
     requires types { AreTypes (type_names_of m.now) 0 m.now.types }
-    requires known { AllByRecursion IsBlock (map (block_in (tables_of m.now) names.now) blocks.now) }
-    ensures { OnOk result (out.new.items ≡ out.old.items
-        ++ text_of (separated (line_feed ∷ [])
-        (map block_pieces (map (block_in (tables_of m.now) names.now) blocks.now)))) }
+    requires known { AllByRecursion IsBlock (blocks_of m.now names.now blocks.now) }
+    ensures { Prints out.old out.new result
+        (separated (line_feed ∷ []) (map block_pieces (blocks_of m.now names.now blocks.now))) }
 {
     let [first, rest @ ..] = blocks else {
         return Ok(());
@@ -82,8 +80,7 @@ fn put_blocks(
 #[tactic(auto, unfolding(crate::specs::Print::param_pieces), using(ir_printer_types::proofs::Appended::text_of_both, std::proofs::lemmas::Grind::common_steps))]
 fn put_param(out: &mut Vec<u8>, names: &Names, param: &Param) -> Result<(), AllocError>
     requires { IsParam (param_in names.now param.now) }
-    ensures { OnOk result (out.new.items ≡ out.old.items
-        ++ text_of (param_pieces (param_in names.now param.now))) }
+    ensures { Prints out.old out.new result (param_pieces (param_in names.now param.now)) }
 {
     put_type(out, param.ty)?;
     put_blank_then_kept(out, &param.kept)?;
@@ -92,9 +89,9 @@ fn put_param(out: &mut Vec<u8>, names: &Names, param: &Param) -> Result<(), Allo
 }
 
 fn put_params(out: &mut Vec<u8>, names: &Names, params: &[Param]) -> Result<(), AllocError>
-    requires { AllByRecursion IsParam (map (param_in names.now) params.now) }
-    ensures { OnOk result (out.new.items ≡ out.old.items
-        ++ text_of (with_commas (map param_pieces (map (param_in names.now) params.now)))) }
+    requires { AllByRecursion IsParam (params_of names.now params.now) }
+    ensures { Prints out.old out.new result
+        (with_commas (map param_pieces (params_of names.now params.now))) }
 {
     let [first, rest @ ..] = params else {
         return Ok(());
@@ -110,10 +107,9 @@ fn put_params(out: &mut Vec<u8>, names: &Names, params: &[Param]) -> Result<(), 
 // Appends what stands between the parentheses behind a function's name.
 fn put_all_params(out: &mut Vec<u8>, function: &Function) -> Result<(), AllocError>
     requires { AllByRecursion IsParam
-        (map (param_in function.now.names) function.now.params) }
-    ensures { OnOk result (out.new.items ≡ out.old.items
-        ++ text_of (params_pieces (map (param_in function.now.names) function.now.params)
-        function.now.varargs)) }
+        (params_of function.now.names function.now.params) }
+    ensures { Prints out.old out.new result
+        (params_pieces (params_of function.now.names function.now.params) function.now.varargs) }
 {
     put_params(out, &function.names, function.params.as_slice())?;
     if function.varargs {
@@ -135,9 +131,9 @@ fn word_of_function(function: &Function) -> &'static [u8]
 // Appends what stands before the blocks.
 fn put_head(out: &mut Vec<u8>, function: &Function) -> Result<(), AllocError>
     requires { AllByRecursion IsParam
-        (map (param_in function.now.names) function.now.params) }
-    ensures { (tables : Tables) → OnOk result (out.new.items ≡ out.old.items
-        ++ text_of (head_pieces (function_in tables function.now))) }
+        (params_of function.now.names function.now.params) }
+    ensures { (tables : Tables) → Prints out.old out.new result
+        (head_pieces (function_in tables function.now)) }
 {
     out.extend_from_slice(word_of_function(function))?;
     out.push(b' ')?;
@@ -161,9 +157,8 @@ fn put_body(
     blocks: &[Block],
 ) -> Result<(), AllocError>
     requires types { AreTypes (type_names_of m.now) 0 m.now.types }
-    requires known { AllByRecursion IsBlock (map (block_in (tables_of m.now) names.now) blocks.now) }
-    ensures { OnOk result (out.new.items ≡ out.old.items
-        ++ text_of (body_pieces (map (block_in (tables_of m.now) names.now) blocks.now))) }
+    requires known { AllByRecursion IsBlock (blocks_of m.now names.now blocks.now) }
+    ensures { Prints out.old out.new result (body_pieces (blocks_of m.now names.now blocks.now)) }
 {
     if blocks.is_empty() {
         return out.extend_from_slice(b"\n");
@@ -181,9 +176,8 @@ fn put_function(
     function: &Function,
 ) -> Result<(), AllocError>
     requires types { AreTypes (type_names_of m.now) 0 m.now.types }
-    requires known { IsFunction (function_in (tables_of m.now) function.now) }
-    ensures { OnOk result (out.new.items ≡ out.old.items
-        ++ text_of (function_pieces (function_in (tables_of m.now) function.now))) }
+    requires known { IsFunction (function_of m.now function.now) }
+    ensures { Prints out.old out.new result (function_pieces (function_of m.now function.now)) }
 {
     put_head(out, function)?;
     put_body(alloc, out, m, &function.names, function.body.as_slice())
@@ -191,7 +185,7 @@ fn put_function(
 
 // Appends an empty line where something is printed already.
 fn part_from(out: &mut Vec<u8>) -> Result<(), AllocError>
-    ensures { OnOk result (out.new.items ≡ out.old.items ++ text_of (parting out.old.items)) }
+    ensures { Prints out.old out.new result (parting out.old.items) }
 {
     if !out.is_empty() {
         out.push(b'\n')?;
@@ -208,10 +202,9 @@ pub(crate) fn put_functions(
 ) -> Result<(), AllocError>
     requires types { AreTypes (type_names_of m.now) 0 m.now.types }
     requires known { AllByRecursion IsFunction
-        (map (function_in (tables_of m.now)) functions.now) }
-    ensures { OnOk result (out.new.items ≡ out.old.items
-        ++ text_of (functions_behind out.old.items
-        (map function_pieces (map (function_in (tables_of m.now)) functions.now)))) }
+        (functions_of m.now functions.now) }
+    ensures { Prints out.old out.new result
+        (functions_behind out.old.items (map function_pieces (functions_of m.now functions.now))) }
 {
     let [first, rest @ ..] = functions else {
         return Ok(());

@@ -1,14 +1,14 @@
 // The lines of a module, its named types and its variables.
 
-ghost use Rattle.std.specs.Prelude.{◌≡◌, ◌<◌, ◌++◌, ◌∷◌, [], map, flat_map, filter_map, codes, length, OnOk};
-ghost use Rattle.text_lex.specs.Layout.{text_of};
+ghost use Rattle.std.specs.Prelude.{◌≡◌, ◌<◌, ◌++◌, [], flat_map, filter_map, codes, length};
 ghost use Rattle.ir_types.specs.Types.{AreTypes};
 ghost use Rattle.ir_types.specs.Denotes.{type_names_of, nodes_in, type_name_in, symbol_in};
 ghost use Rattle.ir_shape.specs.Modules.{IsModule};
 ghost use Rattle.ir_shape.specs.Placed.{IsNamedPlaced, IsSymbolPlaced};
+ghost use Rattle.ir_printer_types.specs.Appends.{Appends, Prints};
 ghost use Rattle.ir_printer_types.specs.Pieces.{local_token};
 ghost use Rattle.ir_printer_types.specs.MemoryPieces.{node_pieces};
-ghost use Rattle.ir_printer.specs.Print.{for_one, definition_pieces, type_name_pieces, variable_word, variable_pieces, symbol_pieces, is_comdat, whole_line, head_line_pieces, comdat_line_pieces};
+ghost use Rattle.ir_printer.specs.Print.{for_one, type_name_pieces, variable_word, variable_pieces, symbol_pieces, is_comdat, whole_line, head_line_pieces, comdat_line_pieces};
 
 use crate::kept::{put_kept_behind, put_kept_then_blank, put_line};
 use ir_printer_types::memory_type::put_memory_type;
@@ -25,8 +25,7 @@ fn is_comdat(line: &Kept) -> bool
 
 // Appends a line of the head, or nothing where it is that of a comdat.
 fn put_head_line(out: &mut Vec<u8>, line: &Kept) -> Result<(), AllocError>
-    ensures { OnOk result (out.new.items ≡ out.old.items
-        ++ text_of (head_line_pieces line.now)) }
+    ensures { Prints out.old out.new result (head_line_pieces line.now) }
 {
     if is_comdat(line) {
         return Ok(());
@@ -36,8 +35,7 @@ fn put_head_line(out: &mut Vec<u8>, line: &Kept) -> Result<(), AllocError>
 
 // Appends the line of a comdat, or nothing where it is another line of the head.
 fn put_comdat(out: &mut Vec<u8>, line: &Kept) -> Result<(), AllocError>
-    ensures { OnOk result (out.new.items ≡ out.old.items
-        ++ text_of (comdat_line_pieces line.now)) }
+    ensures { Prints out.old out.new result (comdat_line_pieces line.now) }
 {
     if !is_comdat(line) {
         return Ok(());
@@ -47,8 +45,7 @@ fn put_comdat(out: &mut Vec<u8>, line: &Kept) -> Result<(), AllocError>
 
 /// Appends the lines of the head but those of comdats.
 pub(crate) fn put_head_lines(out: &mut Vec<u8>, lines: &[Kept]) -> Result<(), AllocError>
-    ensures { OnOk result (out.new.items ≡ out.old.items
-        ++ text_of (flat_map head_line_pieces lines.now)) }
+    ensures { Prints out.old out.new result (flat_map head_line_pieces lines.now) }
 {
     for line in lines {
         put_head_line(out, line)?;
@@ -58,8 +55,7 @@ pub(crate) fn put_head_lines(out: &mut Vec<u8>, lines: &[Kept]) -> Result<(), Al
 
 /// Appends the comdats among the lines of the head.
 pub(crate) fn put_comdats(out: &mut Vec<u8>, lines: &[Kept]) -> Result<(), AllocError>
-    ensures { OnOk result (out.new.items ≡ out.old.items
-        ++ text_of (flat_map comdat_line_pieces lines.now)) }
+    ensures { Prints out.old out.new result (flat_map comdat_line_pieces lines.now) }
 {
     for line in lines {
         put_comdat(out, line)?;
@@ -69,8 +65,7 @@ pub(crate) fn put_comdats(out: &mut Vec<u8>, lines: &[Kept]) -> Result<(), Alloc
 
 /// Appends lines.
 pub(crate) fn put_lines(out: &mut Vec<u8>, lines: &[Kept]) -> Result<(), AllocError>
-    ensures { OnOk result (out.new.items ≡ out.old.items
-        ++ text_of (flat_map whole_line lines.now)) }
+    ensures { Prints out.old out.new result (flat_map whole_line lines.now) }
 {
     for line in lines {
         put_line(out, line)?;
@@ -87,15 +82,14 @@ pub(crate) fn put_type_at(
 ) -> Result<(), AllocError>
     requires types { AreTypes (type_names_of m.now) 0 m.now.types }
     requires place { id.0 < length m.now.types }
-    ensures { OnOk result (out.new.items ≡ out.old.items ++ text_of (node_pieces (nodes_in m.now id))) }
+    ensures { Prints out.old out.new result (node_pieces (nodes_in m.now id)) }
 {
     put_memory_type(alloc, out, m.types.as_slice(), m.type_names.as_slice(), id)
 }
 
 // Appends `%name = type `.
 fn put_definition(out: &mut Vec<u8>, name: &Name) -> Result<(), AllocError>
-    ensures { OnOk result (out.new.items ≡ out.old.items
-        ++ ((local_token name.now).text ++ codes " = type ")) }
+    ensures { Appends out.old out.new result ((local_token name.now).text ++ codes " = type ") }
 {
     out.push(b'%')?;
     put_name(out, name)?;
@@ -112,8 +106,8 @@ fn put_type_name(
 ) -> Result<(), AllocError>
     requires types { AreTypes (type_names_of m.now) 0 m.now.types }
     requires place { IsNamedPlaced m.now.types name.now.ty }
-    ensures { OnOk result (out.new.items ≡ out.old.items
-        ++ text_of (for_one type_name_pieces (type_name_in m.now name.now))) }
+    ensures { Prints out.old out.new result
+        (for_one type_name_pieces (type_name_in m.now name.now)) }
 {
     match name.ty {
         NamedType::Missing => Ok(()),
@@ -134,8 +128,8 @@ fn put_type_name(
 /// Appends the named types.
 pub(crate) fn put_type_names(alloc: Global, out: &mut Vec<u8>, m: &Module) -> Result<(), AllocError>
     requires { IsModule m.now }
-    ensures { OnOk result (out.new.items ≡ out.old.items
-        ++ text_of (flat_map type_name_pieces (filter_map (type_name_in m.now) m.now.type_names))) }
+    ensures { Prints out.old out.new result
+        (flat_map type_name_pieces (filter_map (type_name_in m.now) m.now.type_names)) }
 {
     for name in m.type_names.as_slice() {
         put_type_name(alloc, out, m, name)?;
@@ -160,14 +154,13 @@ fn put_variable(
 ) -> Result<(), AllocError>
     requires types { AreTypes (type_names_of m.now) 0 m.now.types }
     requires place { id.0 < length m.now.types }
-    ensures { OnOk result (out.new.items ≡ out.old.items
-        ++ text_of (variable_pieces (record {
-          name = symbol.now.name;
-          before = symbol.now.before;
-          writable = writable;
-          ty = nodes_in m.now id;
-          after = symbol.now.after;
-        }))) }
+    ensures { Prints out.old out.new result (variable_pieces (record {
+      name = symbol.now.name;
+      before = symbol.now.before;
+      writable = writable;
+      ty = nodes_in m.now id;
+      after = symbol.now.after;
+    })) }
 {
     out.push(b'@')?;
     put_name(out, &symbol.name)?;
@@ -190,8 +183,7 @@ fn put_symbol(
 ) -> Result<(), AllocError>
     requires types { AreTypes (type_names_of m.now) 0 m.now.types }
     requires place { IsSymbolPlaced m.now symbol.now.kind }
-    ensures { OnOk result (out.new.items ≡ out.old.items
-        ++ text_of (for_one symbol_pieces (symbol_in m.now symbol.now))) }
+    ensures { Prints out.old out.new result (for_one symbol_pieces (symbol_in m.now symbol.now)) }
 {
     match symbol.kind {
         SymbolKind::Variable(id, writable) => put_variable(alloc, out, m, symbol, id, writable),
@@ -202,8 +194,8 @@ fn put_symbol(
 /// Appends the variables.
 pub(crate) fn put_variables(alloc: Global, out: &mut Vec<u8>, m: &Module) -> Result<(), AllocError>
     requires { IsModule m.now }
-    ensures { OnOk result (out.new.items ≡ out.old.items
-        ++ text_of (flat_map symbol_pieces (filter_map (symbol_in m.now) m.now.symbols))) }
+    ensures { Prints out.old out.new result
+        (flat_map symbol_pieces (filter_map (symbol_in m.now) m.now.symbols)) }
 {
     for symbol in m.symbols.as_slice() {
         put_symbol(alloc, out, m, symbol)?;

@@ -1,9 +1,10 @@
 // Tokens that are kept as their texts.
 
-ghost use Rattle.std.specs.Prelude.{◌≡◌, ◌≤◌, ◌++◌, ◌∷◌, [], map, drop, length, codes, OnOk, IfOk};
+ghost use Rattle.std.specs.Prelude.{◌≡◌, ◌≤◌, ◌++◌, [], drop, length, codes, IfOk};
 ghost use Rattle.text_forms.specs.Form.{same_text, is_one_of};
-ghost use Rattle.text_lex.specs.Layout.{text_of, begins_quoted};
+ghost use Rattle.text_lex.specs.Layout.{text_of};
 ghost use Rattle.text_lex.specs.KeptText.{is_node, touches, between, kept_behind, kept_pieces, line_pieces};
+ghost use Rattle.ir_printer_types.specs.Appends.{Prints};
 ghost use Rattle.ir_printer.specs.Print.{kept_then_blank, blank_then_kept, whole_line};
 
 use ir_types::Kept;
@@ -35,8 +36,7 @@ fn is_equal(text: &[u8]) -> bool
 
 // Appends what parts two neighbours.
 fn put_between(out: &mut Vec<u8>, previous: &[u8], text: &[u8]) -> Result<(), AllocError>
-    ensures { OnOk result (out.new.items ≡ out.old.items
-        ++ text_of (between previous.now text.now)) }
+    ensures { Prints out.old out.new result (between previous.now text.now) }
 {
     if !touch(previous, text) {
         out.push(b' ')?;
@@ -47,8 +47,7 @@ fn put_between(out: &mut Vec<u8>, previous: &[u8], text: &[u8]) -> Result<(), Al
 // Appends the texts from a place on.
 fn put_from(out: &mut Vec<u8>, kept: &Kept, start: usize) -> Result<(), AllocError>
     requires { start ≤ length kept.now }
-    ensures { OnOk result (out.new.items ≡ out.old.items
-        ++ text_of (kept_pieces (drop start kept.now))) }
+    ensures { Prints out.old out.new result (kept_pieces (drop start kept.now)) }
 {
     if start == kept.len() {
         return Ok(());
@@ -64,8 +63,7 @@ fn put_from(out: &mut Vec<u8>, kept: &Kept, start: usize) -> Result<(), AllocErr
 
 /// Appends kept texts and a space, or nothing where there are none.
 pub(crate) fn put_kept_then_blank(out: &mut Vec<u8>, kept: &Kept) -> Result<(), AllocError>
-    ensures { OnOk result (out.new.items ≡ out.old.items
-        ++ text_of (kept_then_blank kept.now)) }
+    ensures { Prints out.old out.new result (kept_then_blank kept.now) }
 {
     if kept.is_empty() {
         return Ok(());
@@ -77,8 +75,7 @@ pub(crate) fn put_kept_then_blank(out: &mut Vec<u8>, kept: &Kept) -> Result<(), 
 
 /// Appends a space and kept texts, or nothing where there are none.
 pub(crate) fn put_blank_then_kept(out: &mut Vec<u8>, kept: &Kept) -> Result<(), AllocError>
-    ensures { OnOk result (out.new.items ≡ out.old.items
-        ++ text_of (blank_then_kept kept.now)) }
+    ensures { Prints out.old out.new result (blank_then_kept kept.now) }
 {
     if kept.is_empty() {
         return Ok(());
@@ -89,8 +86,7 @@ pub(crate) fn put_blank_then_kept(out: &mut Vec<u8>, kept: &Kept) -> Result<(), 
 
 /// Appends kept texts behind a token that is none of them.
 pub(crate) fn put_kept_behind(out: &mut Vec<u8>, kept: &Kept) -> Result<(), AllocError>
-    ensures { OnOk result (out.new.items ≡ out.old.items
-        ++ text_of (kept_behind [] kept.now)) }
+    ensures { Prints out.old out.new result (kept_behind [] kept.now) }
 {
     if kept.is_empty() {
         return Ok(());
@@ -120,7 +116,7 @@ fn put_to_equal(out: &mut Vec<u8>, line: &Kept) -> Result<usize, AllocError>
 /// Appends a kept line and its line feed.
 #[tactic(auto, using(ir_printer_types::proofs::Appended::text_of_both, std::proofs::lemmas::Grind::common_steps))]
 pub(crate) fn put_line(out: &mut Vec<u8>, line: &Kept) -> Result<(), AllocError>
-    ensures { OnOk result (out.new.items ≡ out.old.items ++ text_of (whole_line line.now)) }
+    ensures { Prints out.old out.new result (whole_line line.now) }
 {
     let place = put_to_equal(out, line)?;
     put_from(out, line, place)?;

@@ -1,7 +1,7 @@
 //! Prints modules.
 #![tactic(auto)]
 
-ghost use Rattle.std.specs.Prelude.{◌≡◌, ◌++◌, OnOk, OnErr};
+ghost use Rattle.std.specs.Prelude.{◌≡◌, OnOk, OnErr};
 ghost use Rattle.text_lex.specs.Layout.{text_of};
 ghost use Rattle.ir_types.specs.Tree.{ModuleTree};
 ghost use Rattle.ir_types.specs.Denotes.{tree_of};
@@ -9,6 +9,7 @@ ghost use Rattle.ir_types.specs.Reads.{Reads};
 ghost use Rattle.ir_shape.specs.Shape.{IsPrintable};
 ghost use Rattle.ir_shape.specs.Modules.{IsModule};
 ghost use Rattle.ir_shape.specs.Narrow.{IsNarrow};
+ghost use Rattle.ir_printer_types.specs.Appends.{Prints};
 ghost use Rattle.ir_printer.specs.Print.{front_pieces, module_pieces};
 
 mod branching;
@@ -30,8 +31,7 @@ use std::alloc::{AllocError, Global};
 #[tactic(auto, unfolding(crate::specs::Print::front_pieces), using(ir_printer_types::proofs::Appended::text_of_both, std::proofs::lemmas::Grind::common_steps))]
 fn put_front(alloc: Global, m: &Module, out: &mut Vec<u8>) -> Result<(), AllocError>
     requires { IsModule m.now }
-    ensures { OnOk result (out.new.items ≡ out.old.items
-        ++ text_of (front_pieces (tree_of m.now))) }
+    ensures { Prints out.old out.new result (front_pieces (tree_of m.now)) }
 {
     put_head_lines(out, m.head.as_slice())?;
     put_type_names(alloc, out, m)?;
@@ -48,8 +48,7 @@ fn put_front(alloc: Global, m: &Module, out: &mut Vec<u8>) -> Result<(), AllocEr
 pub fn print_module(alloc: Global, m: &Module, out: &mut Vec<u8>) -> Result<(), AllocError>
     requires known { IsModule m.now }
     requires narrow { IsNarrow (tree_of m.now) }
-    ensures text { OnOk result (out.new.items ≡ out.old.items
-        ++ text_of (module_pieces (tree_of m.now))) }
+    ensures text { Prints out.old out.new result (module_pieces (tree_of m.now)) }
     ensures reads { OnOk result (Reads (text_of (module_pieces (tree_of m.now))) (tree_of m.now)) }
     ensures err { OnErr result (out.new.items ≡ out.old.items) }
 {

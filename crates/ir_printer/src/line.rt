@@ -1,12 +1,14 @@
 // Instructions, each on a line.
 
-ghost use Rattle.std.specs.Prelude.{◌≡◌, ◌<◌, ◌++◌, ◌∷◌, [], map, codes, length, OnOk};
-ghost use Rattle.std.specs.Option.{option_map};
+ghost use Rattle.std.specs.Prelude.{◌<◌, ◌++◌, ◌∷◌, [], length};
 ghost use Rattle.text_lex.specs.Layout.{text_of};
 ghost use Rattle.ir_types.specs.Types.{AreTypes};
-ghost use Rattle.ir_types.specs.Denotes.{Tables, name_in, type_names_of, nodes_in, tables_of, operand_in, kind_in, inst_in};
+ghost use Rattle.std.specs.Option.{option_map};
+ghost use Rattle.ir_types.specs.Denotes.{Tables, name_in, type_names_of, nodes_in, tables_of, kind_in, inst_in};
 ghost use Rattle.ir_shape.specs.Shape.{IsBody, IsResult, IsInst};
+ghost use Rattle.ir_printer_types.specs.Appends.{Appends, Prints};
 ghost use Rattle.ir_printer_types.specs.MemoryPieces.{node_pieces};
+ghost use Rattle.ir_printer.specs.Trees.{operands_of, labels_of, inst_of};
 ghost use Rattle.ir_printer.specs.Print.{operands_pieces, to_pieces, align_pieces, ending_pieces, result_pieces, inst_pieces};
 
 use crate::branching::{put_entries, put_switch, put_targets};
@@ -29,8 +31,8 @@ fn put_stepped_type(
 ) -> Result<(), AllocError>
     requires types { AreTypes (type_names_of m.now) 0 m.now.types }
     requires place { id.0 < length m.now.types }
-    ensures { OnOk result (out.new.items ≡ out.old.items
-        ++ 32 ∷ (text_of (node_pieces (nodes_in m.now id)) ++ 44 ∷ [])) }
+    ensures { Appends out.old out.new result
+        (32 ∷ (text_of (node_pieces (nodes_in m.now id)) ++ 44 ∷ [])) }
 {
     out.push(b' ')?;
     put_type_at(alloc, out, m, id)?;
@@ -48,11 +50,10 @@ fn put_operands_of(
     inst: &Inst,
 ) -> Result<(), AllocError>
     requires types { AreTypes (type_names_of m.now) 0 m.now.types }
-    requires known { IsBody (inst_in (tables_of m.now) names.now inst.now) }
-    ensures { OnOk result (out.new.items ≡ out.old.items
-        ++ text_of (operands_pieces (kind_in (tables_of m.now) inst.now.kind) inst.now.ty
-        (map (operand_in (tables_of m.now) names.now) inst.now.args)
-        (map (name_in names.now) inst.now.labels))) }
+    requires known { IsBody (inst_of m.now names.now inst.now) }
+    ensures { Prints out.old out.new result
+        (operands_pieces (kind_in (tables_of m.now) inst.now.kind) inst.now.ty
+        (operands_of m.now names.now inst.now.args) (labels_of names.now inst.now.labels)) }
 {
     let ty = inst.ty;
     let args = inst.args.as_slice();
@@ -101,14 +102,14 @@ fn put_operands_of(
 }
 
 fn put_to(out: &mut Vec<u8>, ty: Ty) -> Result<(), AllocError>
-    ensures { OnOk result (out.new.items ≡ out.old.items ++ text_of (to_pieces ty)) }
+    ensures { Prints out.old out.new result (to_pieces ty) }
 {
     out.extend_from_slice(b" to ")?;
     put_type(out, ty)
 }
 
 fn put_align(out: &mut Vec<u8>, align: u64) -> Result<(), AllocError>
-    ensures { OnOk result (out.new.items ≡ out.old.items ++ text_of (align_pieces align)) }
+    ensures { Prints out.old out.new result (align_pieces align) }
 {
     out.extend_from_slice(b", align ")?;
     put_digits(out, align)
@@ -118,9 +119,9 @@ fn put_align(out: &mut Vec<u8>, align: u64) -> Result<(), AllocError>
 #[tactic(auto, using(crate::proofs::Operands::first_type, ir_printer_types::proofs::Appended::text_of_both, std::proofs::lemmas::Grind::common_steps))]
 fn put_ending(out: &mut Vec<u8>, names: &Names, inst: &Inst) -> Result<(), AllocError>
     requires { (tables : Tables) × IsBody (inst_in tables names.now inst.now) }
-    ensures { (tables : Tables) → OnOk result (out.new.items ≡ out.old.items
-        ++ text_of (ending_pieces (kind_in tables inst.now.kind) inst.now.ty
-        (map (name_in names.now) inst.now.labels))) }
+    ensures { (tables : Tables) → Prints out.old out.new result
+        (ending_pieces (kind_in tables inst.now.kind) inst.now.ty
+        (labels_of names.now inst.now.labels)) }
 {
     let labels = inst.labels.as_slice();
     match &inst.kind {
@@ -163,8 +164,7 @@ fn put_result(
     name: Option<ValueId>,
 ) -> Result<(), AllocError>
     requires { IsResult ty (option_map (name_in names.now) name) }
-    ensures { OnOk result (out.new.items ≡ out.old.items
-        ++ text_of (result_pieces (option_map (name_in names.now) name))) }
+    ensures { Prints out.old out.new result (result_pieces (option_map (name_in names.now) name)) }
 {
     if let Some(name) = name {
         put_local(out, names, name)?;
@@ -182,9 +182,8 @@ pub(crate) fn put_inst(
     inst: &Inst,
 ) -> Result<(), AllocError>
     requires types { AreTypes (type_names_of m.now) 0 m.now.types }
-    requires known { IsInst (inst_in (tables_of m.now) names.now inst.now) }
-    ensures { OnOk result (out.new.items ≡ out.old.items
-        ++ text_of (inst_pieces (inst_in (tables_of m.now) names.now inst.now))) }
+    requires known { IsInst (inst_of m.now names.now inst.now) }
+    ensures { Prints out.old out.new result (inst_pieces (inst_of m.now names.now inst.now)) }
 {
     put_result(out, names, inst.ty, inst.result)?;
     put_opening(out, &inst.kind)?;

@@ -1,8 +1,8 @@
 // The words with which instructions begin, with their flags and predicates.
 
-ghost use Rattle.std.specs.Prelude.{◌≡◌, ◌++◌, ◌∷◌, [], codes, OnOk};
-ghost use Rattle.text_lex.specs.Layout.{text_of};
+ghost use Rattle.std.specs.Prelude.{◌≡◌, []};
 ghost use Rattle.ir_types.specs.Denotes.{Tables, kind_in};
+ghost use Rattle.ir_printer_types.specs.Appends.{Prints};
 ghost use Rattle.ir_printer.specs.Print.{operator_word, predicate_word, flag_pieces, wrap_pieces, flags_pieces, offset_flags, call_words, opening_pieces};
 
 use ir_types::{BinOp, Flags, InstKind, Pred, TailKind};
@@ -53,7 +53,7 @@ fn word_of_predicate(predicate: Pred) -> &'static [u8]
 
 // Appends a flag behind a space, where it is set.
 fn put_flag(out: &mut Vec<u8>, set: bool, word: &[u8]) -> Result<(), AllocError>
-    ensures { OnOk result (out.new.items ≡ out.old.items ++ text_of (flag_pieces set word.now)) }
+    ensures { Prints out.old out.new result (flag_pieces set word.now) }
 {
     if set {
         out.push(b' ')?;
@@ -64,7 +64,7 @@ fn put_flag(out: &mut Vec<u8>, set: bool, word: &[u8]) -> Result<(), AllocError>
 
 #[tactic(auto, using(ir_printer_types::proofs::Appended::text_of_both, std::proofs::lemmas::Grind::common_steps))]
 fn put_wrap_flags(out: &mut Vec<u8>, nuw: bool, nsw: bool) -> Result<(), AllocError>
-    ensures { OnOk result (out.new.items ≡ out.old.items ++ text_of (wrap_pieces nuw nsw)) }
+    ensures { Prints out.old out.new result (wrap_pieces nuw nsw) }
 {
     put_flag(out, nuw, b"nuw")?;
     put_flag(out, nsw, b"nsw")
@@ -72,7 +72,7 @@ fn put_wrap_flags(out: &mut Vec<u8>, nuw: bool, nsw: bool) -> Result<(), AllocEr
 
 #[tactic(auto, using(ir_printer_types::proofs::Appended::text_of_both, std::proofs::lemmas::Grind::common_steps))]
 fn put_flags(out: &mut Vec<u8>, flags: Flags) -> Result<(), AllocError>
-    ensures { OnOk result (out.new.items ≡ out.old.items ++ text_of (flags_pieces flags)) }
+    ensures { Prints out.old out.new result (flags_pieces flags) }
 {
     put_wrap_flags(out, flags.nuw, flags.nsw)?;
     put_flag(out, flags.exact, b"exact")?;
@@ -85,8 +85,7 @@ fn put_offset_flags(
     nuw: bool,
     nusw: bool,
 ) -> Result<(), AllocError>
-    ensures { OnOk result (out.new.items ≡ out.old.items
-        ++ text_of (offset_flags inbounds nuw nusw)) }
+    ensures { Prints out.old out.new result (offset_flags inbounds nuw nusw) }
 {
     put_flag(out, inbounds, b"inbounds")?;
     put_flag(out, nusw, b"nusw")?;
@@ -96,7 +95,7 @@ fn put_offset_flags(
 
 // Appends `call`, and the word before it.
 fn put_call_words(out: &mut Vec<u8>, tail: TailKind) -> Result<(), AllocError>
-    ensures { OnOk result (out.new.items ≡ out.old.items ++ text_of (call_words tail)) }
+    ensures { Prints out.old out.new result (call_words tail) }
 {
     match tail {
         TailKind::Unmarked => out.extend_from_slice(b"call"),
@@ -108,8 +107,8 @@ fn put_call_words(out: &mut Vec<u8>, tail: TailKind) -> Result<(), AllocError>
 
 /// Appends the word of an instruction, with its flags or its predicate.
 pub(crate) fn put_opening(out: &mut Vec<u8>, kind: &InstKind) -> Result<(), AllocError>
-    ensures { (tables : Tables) → OnOk result (out.new.items ≡ out.old.items
-        ++ text_of (opening_pieces (kind_in tables kind.now))) }
+    ensures { (tables : Tables) → Prints out.old out.new result
+        (opening_pieces (kind_in tables kind.now)) }
 {
     match kind {
         InstKind::Binary(operator, flags) => {

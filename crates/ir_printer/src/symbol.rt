@@ -1,10 +1,9 @@
 // Symbols as operands.
 
-ghost use Rattle.std.specs.Prelude.{◌≡◌, ◌++◌, OnOk};
-ghost use Rattle.text_lex.specs.Layout.{text_of};
 ghost use Rattle.ir_types.specs.Names.{name_at};
 ghost use Rattle.ir_types.specs.Denotes.{tables_of};
 ghost use Rattle.ir_shape.specs.Shape.{IsName};
+ghost use Rattle.ir_printer_types.specs.Appends.{Appends, Prints};
 ghost use Rattle.ir_printer_types.specs.Pieces.{global_token};
 ghost use Rattle.ir_printer.specs.Print.{global_pieces};
 
@@ -16,8 +15,8 @@ use std::alloc::AllocError;
 // Appends `@name` for a place in the list of symbols.
 fn put_symbol(out: &mut Vec<u8>, m: &Module, symbol: u32) -> Result<(), AllocError>
     requires { IsName (name_at (tables_of m.now).symbols symbol) }
-    ensures { OnOk result (out.new.items ≡ out.old.items
-        ++ (global_token (name_at (tables_of m.now).symbols symbol)).text) }
+    ensures { Appends out.old out.new result
+        ((global_token (name_at (tables_of m.now).symbols symbol)).text) }
 {
     out.push(b'@')?;
     put_name(out, &m.symbols.at(symbol as usize).name)
@@ -32,8 +31,8 @@ pub(crate) fn put_global(
     bytes: u64,
 ) -> Result<(), AllocError>
     requires { IsName (name_at (tables_of m.now).symbols symbol) }
-    ensures { OnOk result (out.new.items ≡ out.old.items
-        ++ text_of (global_pieces (name_at (tables_of m.now).symbols symbol) bytes)) }
+    ensures { Prints out.old out.new result
+        (global_pieces (name_at (tables_of m.now).symbols symbol) bytes) }
 {
     if bytes == 0 {
         return put_symbol(out, m, symbol);

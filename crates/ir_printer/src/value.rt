@@ -1,13 +1,13 @@
 // Numbers, lanes and operands.
 
-ghost use Rattle.std.specs.Prelude.{◌≡◌, ◌<◌, ◌≤◌, ◌^◌, ◌++◌, ◌∷◌, [], map, length, OnOk};
+ghost use Rattle.std.specs.Prelude.{◌<◌, ◌≤◌, ◌^◌, ◌∷◌, [], map};
 ghost use Rattle.std.specs.List.{AllByRecursion, AllZip};
-ghost use Rattle.text_lex.specs.Layout.{text_of};
-ghost use Rattle.ir_types.specs.Grammar.{width_of};
-ghost use Rattle.ir_types.specs.Denotes.{name_in, tables_of, operand_in};
-ghost use Rattle.ir_shape.specs.Shape.{IsName, IsType, IsLane, IsOperand, IsTyped};
+ghost use Rattle.ir_types.specs.ValueForms.{width_of};
+ghost use Rattle.ir_shape.specs.Shape.{IsType, IsLane, IsTyped};
+ghost use Rattle.ir_printer_types.specs.Appends.{Appends, Prints};
 ghost use Rattle.ir_printer_types.specs.Texts.{signed_text};
 ghost use Rattle.ir_printer_types.specs.Pieces.{with_commas};
+ghost use Rattle.ir_printer.specs.Trees.{operand_of, operands_of};
 ghost use Rattle.ir_printer.specs.Print.{comma_before, number_token, lane_pieces, lanes_pieces, operand_pieces, typed_operand, typed_pieces, each_typed, listed_pieces};
 
 use crate::symbol::put_global;
@@ -18,7 +18,7 @@ use std::alloc::AllocError;
 
 /// Appends what parts the one at a place from those before it.
 pub(crate) fn put_comma(out: &mut Vec<u8>, place: usize) -> Result<(), AllocError>
-    ensures { OnOk result (out.new.items ≡ out.old.items ++ text_of (comma_before place)) }
+    ensures { Prints out.old out.new result (comma_before place) }
 {
     if place > 0 {
         out.extend_from_slice(b", ")?;
@@ -32,7 +32,7 @@ pub(crate) fn put_signed(out: &mut Vec<u8>, width: u32, number: u64) -> Result<(
     requires some { 0 < width }
     requires most { width ≤ 64 }
     requires fits { number < 2 ^ width }
-    ensures { OnOk result (out.new.items ≡ out.old.items ++ signed_text width number) }
+    ensures { Appends out.old out.new result (signed_text width number) }
 {
     let half = 1 << (width - 1);
     if number < half {
@@ -47,7 +47,7 @@ pub(crate) fn put_signed(out: &mut Vec<u8>, width: u32, number: u64) -> Result<(
 pub(crate) fn put_number(out: &mut Vec<u8>, ty: Ty, number: u64) -> Result<(), AllocError>
     requires typed { IsType ty }
     requires fits { number < 2 ^ width_of ty }
-    ensures { OnOk result (out.new.items ≡ out.old.items ++ (number_token ty number).text) }
+    ensures { Appends out.old out.new result ((number_token ty number).text) }
 {
     match ty {
         Ty::Int(1) if number == 1 => out.extend_from_slice(b"true"),
@@ -63,7 +63,7 @@ pub(crate) fn put_number(out: &mut Vec<u8>, ty: Ty, number: u64) -> Result<(), A
 fn put_lane(out: &mut Vec<u8>, ty: Ty, lane: Option<u64>) -> Result<(), AllocError>
     requires typed { IsType ty }
     requires known { IsLane (width_of ty) lane }
-    ensures { OnOk result (out.new.items ≡ out.old.items ++ text_of (lane_pieces ty lane)) }
+    ensures { Prints out.old out.new result (lane_pieces ty lane) }
 {
     put_type(out, ty)?;
     out.push(b' ')?;
@@ -76,8 +76,7 @@ fn put_lane(out: &mut Vec<u8>, ty: Ty, lane: Option<u64>) -> Result<(), AllocErr
 fn put_each_lane(out: &mut Vec<u8>, ty: Ty, lanes: &[Option<u64>]) -> Result<(), AllocError>
     requires typed { IsType ty }
     requires known { AllByRecursion (IsLane (width_of ty)) lanes.now }
-    ensures { OnOk result (out.new.items ≡ out.old.items
-        ++ text_of (with_commas (map (lane_pieces ty) lanes.now))) }
+    ensures { Prints out.old out.new result (with_commas (map (lane_pieces ty) lanes.now)) }
 {
     for (place, lane) in lanes.iter().enumerate() {
         put_comma(out, place)?;
@@ -91,7 +90,7 @@ fn put_each_lane(out: &mut Vec<u8>, ty: Ty, lanes: &[Option<u64>]) -> Result<(),
 fn put_lanes(out: &mut Vec<u8>, ty: Ty, lanes: &[Option<u64>]) -> Result<(), AllocError>
     requires typed { IsType ty }
     requires known { AllByRecursion (IsLane (width_of ty)) lanes.now }
-    ensures { OnOk result (out.new.items ≡ out.old.items ++ text_of (lanes_pieces ty lanes.now)) }
+    ensures { Prints out.old out.new result (lanes_pieces ty lanes.now) }
 {
     out.push(b'<')?;
     put_each_lane(out, ty, lanes)?;
@@ -107,9 +106,9 @@ pub(crate) fn put_operand(
     ty: Ty,
     operand: &Operand,
 ) -> Result<(), AllocError>
-    requires { IsTyped ty (operand_in (tables_of m.now) names.now operand.now) }
-    ensures { OnOk result (out.new.items ≡ out.old.items
-        ++ text_of (operand_pieces ty (operand_in (tables_of m.now) names.now operand.now))) }
+    requires { IsTyped ty (operand_of m.now names.now operand.now) }
+    ensures { Prints out.old out.new result
+        (operand_pieces ty (operand_of m.now names.now operand.now)) }
 {
     match operand {
         Operand::Local(name) => put_local(out, names, *name),
@@ -132,10 +131,9 @@ fn put_operands(
     ty: Ty,
     operands: &[Operand],
 ) -> Result<(), AllocError>
-    requires { AllByRecursion (IsTyped ty) (map (operand_in (tables_of m.now) names.now) operands.now) }
-    ensures { OnOk result (out.new.items ≡ out.old.items
-        ++ text_of (with_commas
-        (map (operand_pieces ty) (map (operand_in (tables_of m.now) names.now) operands.now)))) }
+    requires { AllByRecursion (IsTyped ty) (operands_of m.now names.now operands.now) }
+    ensures { Prints out.old out.new result
+        (with_commas (map (operand_pieces ty) (operands_of m.now names.now operands.now))) }
 {
     for (place, operand) in operands.iter().enumerate() {
         put_comma(out, place)?;
@@ -153,9 +151,9 @@ pub(crate) fn put_typed(
     ty: Ty,
     operands: &[Operand],
 ) -> Result<(), AllocError>
-    requires { AllZip IsTyped (ty ∷ ty ∷ []) (map (operand_in (tables_of m.now) names.now) operands.now) }
-    ensures { OnOk result (out.new.items ≡ out.old.items
-        ++ text_of (typed_pieces ty (map (operand_in (tables_of m.now) names.now) operands.now))) }
+    requires { AllZip IsTyped (ty ∷ ty ∷ []) (operands_of m.now names.now operands.now) }
+    ensures { Prints out.old out.new result
+        (typed_pieces ty (operands_of m.now names.now operands.now)) }
 {
     out.push(b' ')?;
     put_type(out, ty)?;
@@ -172,9 +170,9 @@ pub(crate) fn put_typed_operand(
     ty: Ty,
     operand: &Operand,
 ) -> Result<(), AllocError>
-    requires { IsTyped ty (operand_in (tables_of m.now) names.now operand.now) }
-    ensures { OnOk result (out.new.items ≡ out.old.items
-        ++ text_of (typed_operand ty (operand_in (tables_of m.now) names.now operand.now))) }
+    requires { IsTyped ty (operand_of m.now names.now operand.now) }
+    ensures { Prints out.old out.new result
+        (typed_operand ty (operand_of m.now names.now operand.now)) }
 {
     put_type(out, ty)?;
     out.push(b' ')?;
@@ -188,10 +186,9 @@ fn put_each_typed(
     types: &[Ty],
     operands: &[Operand],
 ) -> Result<(), AllocError>
-    requires { AllZip IsTyped types.now (map (operand_in (tables_of m.now) names.now) operands.now) }
-    ensures { OnOk result (out.new.items ≡ out.old.items
-        ++ text_of (with_commas
-        (each_typed types.now (map (operand_in (tables_of m.now) names.now) operands.now)))) }
+    requires { AllZip IsTyped types.now (operands_of m.now names.now operands.now) }
+    ensures { Prints out.old out.new result
+        (with_commas (each_typed types.now (operands_of m.now names.now operands.now))) }
 {
     for (place, operand) in operands.iter().enumerate() {
         put_comma(out, place)?;
@@ -208,9 +205,9 @@ pub(crate) fn put_listed(
     types: &[Ty],
     operands: &[Operand],
 ) -> Result<(), AllocError>
-    requires { AllZip IsTyped types.now (map (operand_in (tables_of m.now) names.now) operands.now) }
-    ensures { OnOk result (out.new.items ≡ out.old.items
-        ++ text_of (listed_pieces types.now (map (operand_in (tables_of m.now) names.now) operands.now))) }
+    requires { AllZip IsTyped types.now (operands_of m.now names.now operands.now) }
+    ensures { Prints out.old out.new result
+        (listed_pieces types.now (operands_of m.now names.now operands.now)) }
 {
     out.push(b' ')?;
     put_each_typed(out, m, names, types, operands)

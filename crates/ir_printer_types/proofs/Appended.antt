@@ -8,6 +8,7 @@ use Rattle.text_lex.specs.Layout.{Piece, text_of}
 use Rattle.text_lex.proofs.Layouts.{text_of-append}
 use Rattle.ir_printer_types.specs.Pieces.{each_behind, separated}
 
+-- the text of pieces behind others stands behind theirs
 pub text_of_both : (ps qs : List Piece) → text_of (ps ++ qs) ≡ text_of ps ++ text_of qs
 text_of_both ps qs = text_of-append ps qs
 

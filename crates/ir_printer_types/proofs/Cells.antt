@@ -26,16 +26,20 @@ use Rattle.ir_printer_types.proofs.ByPlaces.{pieces_at, memory_pieces_from, all_
 pub record IsCell (nodes : List TypeNode) (ps : List Piece) : Type 0 where
   pub is : (rest : List TypeNode) → cells_of (nodes ++ rest) ≡ whole ps ∷ cells_of rest
 
+-- nodes that are one cell are printed as its pieces
 pub one_cell : (nodes : List TypeNode) (ps : List Piece) → IsCell nodes ps → node_pieces nodes ≡ ps
 unfolding node_pieces
 one_cell nodes ps h = ap (λ (ns : List TypeNode). first_type (cells_of ns)) (sym (append-nil nodes)) ∙ ap first_type (h.is [])
 
+-- a type of values is a cell
 pub scalar_cell : (t : Ty) → IsCell (scalar t ∷ []) (type_pieces t)
 scalar_cell t = record { is = λ rest. refl }
 
+-- and so is a name
 pub called_cell : (n : Name) → IsCell (called n ∷ []) (lexeme (local_token n) ∷ [])
 called_cell n = record { is = λ rest. refl }
 
+-- and an array of one
 pub array_cell : (n : ℕ) (nodes : List TypeNode) (ps : List Piece) → IsCell nodes ps → IsCell (array n ∷ nodes) (array_pieces n ps)
 array_cell n nodes ps h = record { is = λ rest. ap (cell_before (array n)) (h.is rest) }
 
@@ -48,6 +52,7 @@ closed_cells (x ∷ xs) (q ∷ qs) h rest =
     let parts : ((x ++ concat xs) ++ closing ∷ []) ++ rest ≡ x ++ ((concat xs ++ closing ∷ []) ++ rest) = simp append_assoc in
     ap (λ (ns : List TypeNode). up_to_end (cells_of ns)) parts ∙ ap up_to_end (h.0.is _) ∙ ap (λ (y : List (List Piece) × List Cell). (q ∷ y.0, y.1)) (closed_cells xs qs h.1 rest)
 
+-- and a struct of some
 pub struct_cell : (p : Bool) (xs : List (List TypeNode)) (qs : List (List Piece)) → AllZip IsCell xs qs → IsCell (opening p ∷ (concat xs ++ closing ∷ [])) (struct_pieces p qs)
 struct_cell p xs qs h = record { is = λ rest. ap (λ (y : List (List Piece) × List Cell). whole (struct_pieces p y.0) ∷ y.1) (closed_cells xs qs h rest) }
 

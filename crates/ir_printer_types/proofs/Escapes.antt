@@ -54,6 +54,7 @@ unescaped_byte c rest more e = elim (test (is_escaped c)) [
       rw (n, b.0, e) refl
 ]
 
+-- what is escaped is got back
 pub unescaped-escaped : (s : List ℕ) → unescaped (escaped s) ≡ s
 unescaped-escaped [] = refl
 unescaped-escaped (c ∷ cs) = unescaped_byte c (escaped cs) cs (unescaped-escaped cs)
@@ -70,10 +71,12 @@ quotable_byte c rest e = elim (test (is_escaped c)) [
       rw (n, a.0, e) refl
 ]
 
+-- what is escaped can stand between quotes
 pub is_quotable-escaped : (s : List ℕ) → is_quotable (escaped s) ≡ true
 is_quotable-escaped [] = refl
 is_quotable-escaped (c ∷ cs) = quotable_byte c (escaped cs) (is_quotable-escaped cs)
 
+-- without the last byte stands what was before it
 pub without_last-append : (s : List ℕ) (c : ℕ) → without_last (s ++ c ∷ []) ≡ s
 without_last-append [] c = refl
 without_last-append (d ∷ []) c = refl

@@ -83,6 +83,7 @@ pub record IsPrinting (names : List Name) (types : List MemTy) (out : List ℕ) 
   pub within : AllByRecursion (IsWithin types) fs
   pub printed : out ++ text_of (rest_of_all names types fs) ≡ whole
 
+-- with one frame, all of the type is to be printed
 pub all_begins : (names : List Name) (types : List MemTy) (out : List ℕ) (id : TypeId) → AreTypes names 0 types → id.0 < length types → IsPrinting names types out (out ++ text_of (node_pieces (type_nodes names types id))) (frame id 0 ∷ [])
 all_begins names types out id h lt = record { within = (lt, tt); printed = ap (λ (ps : List Piece). out ++ text_of ps) (at_first names types id h lt ∙ by_nodes names types id h lt) }
 
@@ -90,6 +91,7 @@ all_begins names types out id h lt = record { within = (lt, tt); printed = ap (�
 pub taken_within : {names : List Name} {types : List MemTy} {out whole : List ℕ} {frames : List Frame} (fs : List Frame) (f : Frame) → IsPrinting names types out whole frames → frames ≡ fs ++ f ∷ [] → f.id.0 < length types
 taken_within {types = types} fs f p e = (within_front types fs f (rw e at p.within)).1
 
+-- a type of the list that has a name has it in the list of names
 pub taken_named : {t : MemTy} (names : List Name) (types : List MemTy) (id : TypeId) → AreTypes names 0 types → id.0 < length types → t ≡ get_or types id.0 t → HasItsName names t
 taken_named {t} names types id h lt i = rw (is_at types id.0 t lt i) (named_at names types id h lt)
 

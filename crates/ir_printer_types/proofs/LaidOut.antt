@@ -18,6 +18,7 @@ use Rattle.ir_printer_types.proofs.Laid.{IsLaid, IsBehind, loose, nothing_behind
 
 -- ---- marks and words
 
+-- a comma is one token
 pub comma_kind : kind_of (codes ",") ≡ Some kinds.Comma
 unfolding table
 comma_kind = refl
@@ -26,6 +27,7 @@ pub comma_laid : {ps : List Piece} → IsLaid ps → IsBehind (comma ∷ ps)
 unfolding table
 comma_laid h = mark_laid kinds.Comma (codes ",") refl refl h
 
+-- a `=` can stand behind any token
 pub equal_laid : {ps : List Piece} → IsLaid ps → IsBehind (equal ∷ ps)
 unfolding table
 equal_laid h = mark_laid kinds.Equal (codes "=") refl refl h
@@ -40,26 +42,32 @@ pub angle_kinds : (kind_of (codes "<") ≡ Some kinds.Less) × (kind_of (codes "
 unfolding table
 angle_kinds = (refl, refl)
 
+-- the word of a width is one
 pub width_kind : (w : ℕ) → IsOneOf widths w → kind_of (width_word w) ≡ Some kinds.Word
 unfolding width_word
 width_kind w h = let le = (width_within w h).1 in integer_word (decimal w) (decimal_digits w (omega arith))
 
 -- ---- lists
 
+-- a comma and a space separate
 pub commas_part : Separates (comma ∷ blank ∷ [])
 commas_part = record { apart = λ ps h. comma_laid (loose (blank_laid h)) }
 
+-- and so does the end of a line
 pub feeds_part : Separates (line_feed ∷ [])
 feeds_part = record { apart = λ ps h. feed_laid h }
 
 -- ---- names and types
 
+-- a local name is laid out
 pub local_laid : {ps : List Piece} (n : Name) → IsName n → IsBehind ps → IsLaid (lexeme (local_token n) ∷ ps)
 local_laid n h g = token_laid (local_token n) (local_kind n h) g
 
+-- and a word
 pub word_laid : {ps : List Piece} (w : List ℕ) → kind_of w ≡ Some kinds.Word → IsBehind ps → IsLaid (lexeme (token kinds.Word w) ∷ ps)
 word_laid w e g = token_laid (token kinds.Word w) e g
 
+-- and a type
 pub type_laid : (t : Ty) → IsReturnType t → IsLaid (type_pieces t)
 unfolding type_pieces table
 type_laid (Int w) h = word_laid (width_word w) (width_kind w h) nothing_behind
@@ -69,6 +77,7 @@ type_laid (Vector n w) h =
     (blank_laid (word_laid (codes "x") refl (blank_laid (word_laid (width_word w) (width_kind w h.1) (mark_laid kinds.Greater (codes ">") refl refl (loose nothing_behind))))))))
 type_laid Void h = word_laid (codes "void") refl nothing_behind
 
+-- a type of values can be returned
 pub type_returned : (t : Ty) → IsType t → IsReturnType t
 type_returned (Int w) h = h
 type_returned Ptr h = h

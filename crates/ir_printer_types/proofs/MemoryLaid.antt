@@ -12,6 +12,7 @@ use Rattle.ir_printer_types.specs.MemoryPieces.{struct_head, struct_end, inside,
 use Rattle.ir_printer_types.proofs.Laid.{IsLaid, IsBehind, loose, nothing_behind, blank_laid, mark_laid, token_laid, laid-append, separated_laid}
 use Rattle.ir_printer_types.proofs.LaidOut.{bracket_kinds, commas_part, word_laid}
 
+-- an array of what is laid out is laid out
 pub array_laid : (n : ℕ) (ps : List Piece) → n < 2 ^ 64 → IsLaid ps → IsLaid (array_pieces n ps)
 unfolding table
 array_laid n ps lt h =
@@ -33,5 +34,6 @@ inside_laid : (parts : List (List Piece)) → AllByRecursion IsLaid parts → Is
 inside_laid [] h = loose nothing_behind
 inside_laid (p ∷ parts) h = loose (blank_laid (laid-append (with_commas (p ∷ parts)) (blank ∷ []) (separated_laid (comma ∷ blank ∷ []) (p ∷ parts) commas_part h) (blank_laid (loose nothing_behind))))
 
+-- and so is a struct of such parts
 pub struct_laid : (p : Bool) (parts : List (List Piece)) → AllByRecursion IsLaid parts → IsLaid (struct_pieces p parts)
 struct_laid p parts h = head_laid p (laid-append (inside parts) _ (inside_laid parts h) (end_laid p))

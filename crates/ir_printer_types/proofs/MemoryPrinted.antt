@@ -8,7 +8,7 @@ use Rattle.text_lex.proofs.Layouts.{tokens_of-append}
 use Rattle.ir_types.specs.declared.name.Name.{Name}
 use Rattle.ir_types.specs.declared.inst.Ty.{Ty}
 use Rattle.ir_types.specs.TypeNodes.{TypeNode, scalar, called, array, opening, closing}
-use Rattle.ir_types.specs.Grammar.{memory_leaf, memory_type}
+use Rattle.ir_types.specs.TypeForms.{memory_leaf, memory_type}
 use Rattle.ir_shape.specs.Shape.{IsName, IsType, IsNested, IsMemory}
 use Rattle.ir_printer_types.specs.Pieces.{blank, right_bracket, local_token, type_pieces}
 use Rattle.ir_printer_types.specs.MemoryPieces.{struct_head, struct_end, inside, array_pieces, struct_pieces, node_pieces}

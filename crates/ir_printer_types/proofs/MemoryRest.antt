@@ -91,6 +91,7 @@ typed_at names [] n k h lt = absurd (omega arith)
 typed_at names (t ∷ types) n zero h lt = let e : n + 0 ≡ n = omega arith in rw e (h.0)
 typed_at names (t ∷ types) n (suc k) h lt = let e : n + suc k ≡ suc n + k = omega arith in rw e (typed_at names types (suc n) k h.1 (omega arith))
 
+-- the type at a place that has a name has it in the list
 pub named_at : (names : List Name) (types : List MemTy) (id : TypeId) → AreTypes names 0 types → id.0 < length types → HasItsName names (type_at types id)
 named_at names types id h lt = named (type_at types id) (typed_at names types 0 id.0 h lt)
   where

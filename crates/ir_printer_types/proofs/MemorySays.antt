@@ -14,7 +14,7 @@ use Rattle.text_lex.proofs.Decimals.{decimal_digits, number_of-decimal}
 use Rattle.text_lex.proofs.Layouts.{tokens_of-append}
 use Rattle.ir_types.specs.Written.{number_of}
 use Rattle.ir_types.specs.TypeNodes.{TypeNode, array, opening, closing}
-use Rattle.ir_types.specs.Grammar.{elements_of, memory_leaf, array_begin, type_parts, memory_type}
+use Rattle.ir_types.specs.TypeForms.{elements_of, memory_leaf, array_begin, type_parts, memory_type}
 use Rattle.ir_printer_types.specs.Pieces.{token, comma, blank, right_bracket, each_behind}
 use Rattle.ir_printer_types.specs.MemoryPieces as pieces_of
 use Rattle.ir_printer_types.specs.MemoryPieces.{array_head, array_pieces, struct_pieces}
@@ -26,6 +26,7 @@ use Rattle.ir_printer_types.proofs.Says.{Says, none_says, more_says, pair_says, 
 joined_says : {f g : Form (List TypeNode)} {a b : List TypeNode} (x y : List Lexeme) (c : List TypeNode) → a ++ b ≡ c → Says f a x → Says g b y → Says (joined f g) c (x ++ y)
 joined_says {a = a} {b = b} x y c e p q = mapped_says (a, b) c e (pair_says x y p q)
 
+-- a type without parts is a memory type of any depth
 pub leaf_says : (d : ℕ) (nodes : List TypeNode) (ts : List Lexeme) → Says memory_leaf nodes ts → Says (memory_type d) nodes ts
 unfolding type_parts
 leaf_says zero nodes ts p = p
@@ -43,6 +44,7 @@ unfolding array_begin
 array_begin_says n lt =
     mapped_says (n, tt) _ refl (after_mark_says kinds.LeftBracket _ (pair_says (token kinds.Number (decimal n) ∷ []) _ (made_says (decimal n) n (elements_again n lt) (one_says kinds.Number _)) (exactly_says kinds.Word (codes "x"))))
 
+-- an array's tokens spell it, one deeper than its element
 pub array_says : (d n : ℕ) (nodes : List TypeNode) (ps : List Piece) → n < 2 ^ 64 → Says (memory_type d) nodes (tokens_of ps) → Says (memory_type (suc d)) (array n ∷ nodes) (tokens_of (array_pieces n ps))
 unfolding type_parts
 array_says d n nodes ps lt p =
@@ -75,6 +77,7 @@ more_members d (x ∷ xs) [] h = absurd h
 more_members d (x ∷ xs) (q ∷ qs) h =
     more_says (token kinds.Comma (codes ",") ∷ tokens_of q) _ _ (ap (λ (ts : List Lexeme). token kinds.Comma (codes ",") ∷ ts) (tokens_of-append q _)) (after_mark_says kinds.Comma _ h.0) (more_members d xs qs h.1)
 
+-- the tokens of a struct, without the white space
 pub struct_tokens : (p : Bool) (q rest : List Piece) → tokens_of (pieces_of.struct_head p ++ ((blank ∷ ((q ++ rest) ++ blank ∷ [])) ++ pieces_of.struct_end p)) ≡ tokens_of (pieces_of.struct_head p) ++ (tokens_of q ++ (tokens_of rest ++ tokens_of (pieces_of.struct_end p)))
 struct_tokens p q rest = simp (tokens_of-append, append_assoc)
 
@@ -82,6 +85,7 @@ struct_form : (d : ℕ) (p : Bool) (nodes : List TypeNode) (ts : List Lexeme) �
 struct_form d true nodes ts s = right_says (right_says (right_says s))
 struct_form d false nodes ts s = right_says (right_says (left_says s))
 
+-- a struct's tokens spell it, one deeper than its members
 pub struct_says : (d : ℕ) (p : Bool) (xs : List (List TypeNode)) (qs : List (List Piece)) → AllZip (IsSaid d) xs qs → Says (memory_type (suc d)) (opening p ∷ (concat xs ++ closing ∷ [])) (tokens_of (struct_pieces p qs))
 struct_says d p [] [] h =
     rw (tokens_of-append (pieces_of.struct_head p) (pieces_of.struct_end p)) (struct_form d p _ _ (joined_says (tokens_of (pieces_of.struct_head p)) _ _ refl (head_says p) (left_says (end_says p))))

@@ -61,17 +61,21 @@ name_again (Text s) h = elim (test (is_plain_name s)) [
   | inr n ↦ rw n (quoted_named s)
 ]
 
+-- behind the sign of a local's token its name is read again
 pub local_again : (n : Name) → IsName n → name_behind (local_token n).text ≡ Some n
 local_again n h = name_again n h
 
+-- and of a symbol's
 pub global_again : (n : Name) → IsName n → name_behind (global_token n).text ≡ Some n
 global_again n h = name_again n h
 
+-- and before that of a label's
 pub label_again : (n : Name) → IsName n → name_before (label_token n).text ≡ Some n
 label_again n h = rw (without_last-append (name_text n) 58) (name_again n h)
 
 -- ---- its text is a token
 
+-- the text of a local's token is one token
 pub local_kind : (n : Name) → IsName n → kind_of (local_token n).text ≡ Some Local
 unfolding name_text
 local_kind (Number n) h = local_numbered (decimal n) (decimal_digits n (omega arith))
@@ -80,6 +84,7 @@ local_kind (Text s) h = elim (test (is_plain_name s)) [
   | inr n ↦ rw n (local_quoted (escaped s) (is_quotable-escaped s))
 ]
 
+-- and that of a symbol's
 pub global_kind : (n : Name) → IsName n → kind_of (global_token n).text ≡ Some Global
 unfolding name_text
 global_kind (Number n) h = global_numbered (decimal n) (decimal_digits n (omega arith))
@@ -88,6 +93,7 @@ global_kind (Text s) h = elim (test (is_plain_name s)) [
   | inr n ↦ rw n (global_quoted (escaped s) (is_quotable-escaped s))
 ]
 
+-- and that of a label's
 pub label_kind : (n : Name) → IsName n → kind_of (label_token n).text ≡ Some Label
 unfolding name_text
 label_kind (Number n) h = label_numbered (decimal n) (decimal_digits n (omega arith))

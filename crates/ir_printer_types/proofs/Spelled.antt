@@ -12,7 +12,8 @@ use Rattle.ir_types.specs.declared.name.Name.{Name}
 use Rattle.ir_types.specs.declared.inst.Ty.{Ty}
 use Rattle.ir_types.specs.declared.inst.Ty.TheVariants.{Int, Ptr, Vector, Void}
 use Rattle.ir_types.specs.Written.{number_of}
-use Rattle.ir_types.specs.Grammar.{local_name, global_name, label, width, lane_counts, lanes_of, vector_type, value_type, return_type}
+use Rattle.ir_types.specs.Types.{lane_counts}
+use Rattle.ir_types.specs.TypeForms.{local_name, global_name, label, width, lanes_of, vector_type, value_type, return_type}
 use Rattle.ir_shape.specs.Shape.{IsName, IsOneOf, widths, IsType, IsReturnType}
 use Rattle.ir_shape.proofs.Among.{of_each}
 use Rattle.ir_printer_types.specs.Pieces.{token, local_token, global_token, label_token, width_word, type_pieces}
@@ -22,20 +23,24 @@ use Rattle.ir_printer_types.proofs.Says.{Says, pair_says, left_says, right_says,
 
 -- ---- names
 
+-- the token of a local name says it
 pub local_says : (n : Name) → IsName n → Says local_name n (local_token n ∷ [])
 unfolding local_name
 local_says n h = made_says _ n (local_again n h) (one_says kinds.Local _)
 
+-- and that of a symbol's
 pub global_says : (n : Name) → IsName n → Says global_name n (global_token n ∷ [])
 unfolding global_name
 global_says n h = made_says _ n (global_again n h) (one_says kinds.Global _)
 
+-- and that of a label
 pub label_says : (n : Name) → IsName n → Says label n (label_token n ∷ [])
 unfolding label
 label_says n h = made_says _ n (label_again n h) (one_says kinds.Label _)
 
 -- ---- types
 
+-- the digits of the widths
 pub decimals : (decimal 1 ≡ codes "1") × (decimal 8 ≡ codes "8") × (decimal 16 ≡ codes "16") × (decimal 32 ≡ codes "32") × (decimal 64 ≡ codes "64")
 decimals = (
   decimal_digit 1 (lit< tt),
@@ -45,6 +50,7 @@ decimals = (
   decimal_step 64 (lit≤ tt) (lit< tt) ∙ ap (λ (ds : List ℕ). ds ++ 52 ∷ []) (decimal_digit 6 (lit< tt)),
 )
 
+-- the word of a width says it
 pub width_says : (w : ℕ) → IsOneOf widths w → Says width w (token kinds.Word (width_word w) ∷ [])
 unfolding width width_word
 width_says w h = of_each (λ n. Says width n (token kinds.Word (width_word n) ∷ [])) widths w (
@@ -73,6 +79,7 @@ found_again (x ∷ xs) n h = elim (test (eqb x n)) [
     later (inl e) other = absurd (let same = eq-eqb x n (sym e) in cc)
     later (inr g) other = g
 
+-- a vector's lanes are few enough for the digits that are read
 pub few_lanes : (n : ℕ) → IsOneOf lane_counts n → n < 10 ^ 64
 few_lanes n h = let m : n ≤ 512 = of_each (λ k. k ≤ 512) lane_counts n (lit≤ tt, (lit≤ tt, (lit≤ tt, (lit≤ tt, (lit≤ tt, (lit≤ tt, (lit≤ tt, (lit≤ tt, (lit≤ tt, tt))))))))) h in omega arith
 
@@ -84,6 +91,7 @@ lanes_again : (n : ℕ) → IsOneOf lane_counts n → lanes_of (decimal n) ≡ S
 lanes_again n h =
     digits_lanes (decimal n) (decimal_digits n (few_lanes n h)) ∙ rw (number_of-decimal n (few_lanes n h)) (found_again lane_counts n h)
 
+-- the tokens of a type's pieces say it
 pub type_says : (t : Ty) → IsType t → Says value_type t (tokens_of (type_pieces t))
 unfolding value_type vector_type type_pieces
 type_says (Int w) h = left_says (mapped_says w _ refl (width_says w h))
@@ -94,6 +102,7 @@ type_says (Vector n w) h =
     (pair_says (token kinds.Number (decimal n) ∷ token kinds.Word (codes "x") ∷ token kinds.Word (width_word w) ∷ []) _ lanes (mark_says kinds.Greater _))))))
 type_says Void h = absurd h
 
+-- and of one that is returned
 pub return_type_says : (t : Ty) → IsReturnType t → Says return_type t (tokens_of (type_pieces t))
 unfolding return_type type_pieces
 return_type_says (Int w) h = left_says (type_says (Int w) h)

@@ -53,9 +53,11 @@ with_feed {b = b} {f = f} {a = a} {ps = ps} w = record {
 pub ended : {A : Type 0} {b : Before} {f : Form A} {a : A} {ps : List Piece} → Writes b f a ps → Writes b f a (ps ++ [])
 ended {b = b} {f = f} {a = a} {ps = ps} w = subst (Writes b f a) (sym (append-nil ps)) w
 
+-- pieces whose tokens say it, and that are laid out, write it
 pub laid_writes : {A : Type 0} {f : Form A} {a : A} {ps : List Piece} → Says f a (tokens_of ps) → IsLaid ps → Writes closed f a ps
 laid_writes s l = record { says = s; tokens = l.tokens; joined = l.joined }
 
+-- and what writes is laid out
 pub is_laid : {A : Type 0} {f : Form A} {a : A} {ps : List Piece} → Writes closed f a ps → IsLaid ps
 is_laid w = record { tokens = w.tokens; joined = w.joined }
 
@@ -65,6 +67,7 @@ regrouped {b = b} {f = f} {a = a} ps qs rs w = subst (Writes b f a) (sym (append
 
 -- ---- the forms
 
+-- a pair is written by the pieces of both
 pub both : {A B : Type 0} {b : Before} {f : Form A} {g : Form B} {x : A} {y : B} {ps qs : List Piece} → Writes b f x ps → Writes open_ g y qs → Writes b (pair f g) (x, y) (ps ++ qs)
 both {b = b} {f = f} {g = g} {x = x} {y = y} {ps = ps} {qs = qs} v w = record {
   says = subst (Says (pair f g) (x, y)) (sym (tokens_of-append ps qs)) (pair_says (tokens_of ps) (tokens_of qs) v.says w.says);
@@ -72,24 +75,31 @@ both {b = b} {f = f} {g = g} {x = x} {y = y} {ps = ps} {qs = qs} v w = record {
   joined = joins-from b ps qs v.joined (joins_any (end_of b ps) qs w.joined);
 }
 
+-- either by those of the one
 pub left_writes : {A : Type 0} {b : Before} {f g : Form A} {a : A} {ps : List Piece} → Writes b f a ps → Writes b (either f g) a ps
 left_writes w = record { says = left_says w.says; tokens = w.tokens; joined = w.joined }
 
+-- or of the other
 pub right_writes : {A : Type 0} {b : Before} {f g : Form A} {a : A} {ps : List Piece} → Writes b g a ps → Writes b (either f g) a ps
 right_writes w = record { says = right_says w.says; tokens = w.tokens; joined = w.joined }
 
+-- what is mapped by those of what it is made of
 pub mapped_writes : {A B : Type 0} {b : Before} {m : A → B} {f : Form A} {ps : List Piece} (x : A) (y : B) → m x ≡ y → Writes b f x ps → Writes b (mapped m f) y ps
 mapped_writes x y e w = record { says = mapped_says x y e w.says; tokens = w.tokens; joined = w.joined }
 
+-- and where the function may refuse
 pub made_writes : {A B : Type 0} {b : Before} {m : A → Option B} {f : Form A} {ps : List Piece} (x : A) (y : B) → m x ≡ Some y → Writes b f x ps → Writes b (made m f) y ps
 made_writes x y e w = record { says = made_says x y e w.says; tokens = w.tokens; joined = w.joined }
 
+-- behind a token that is kept, the rest by its own
 pub ahead_writes : {A : Type 0} {f : Form A} {a : A} {ps : List Piece} (k : TokenKind) (s : List ℕ) → kind_of s ≡ Some k → Writes open_ f a ps → Writes closed (ahead k f) (s, a) (lexeme (token k s) ∷ ps)
 ahead_writes {ps = ps} k s e w = record { says = ahead_says k s w.says; tokens = (e, w.tokens); joined = joins_any (left_by k) ps w.joined }
 
+-- what is absent by nothing
 pub none_writes : {A : Type 0} {b : Before} {f : Form A} → Writes b (optional f) None []
 none_writes = record { says = record { spells = refl }; tokens = tt; joined = refl }
 
+-- and what may be, where it is there, by its own
 pub there_writes : {A : Type 0} {b : Before} {f : Form A} {a : A} {ps : List Piece} → Writes b f a ps → Writes b (optional f) (Some a) ps
 there_writes w = record { says = there_says w.says; tokens = w.tokens; joined = w.joined }
 
@@ -107,18 +117,23 @@ no_more {ps = ps} w = record { says = pair_says [] (tokens_of ps) (record { spel
 
 -- ---- words
 
+-- what a word stands for by the word
 pub word_writes : {A : Type 0} (w : List ℕ) (a : A) → kind_of w ≡ Some Word → Writes closed (word w a) a (pieces_of.word w ∷ [])
 word_writes w a e = record { says = word_says w a; tokens = (e, tt); joined = refl }
 
+-- what stands behind a word by its own behind it
 pub behind_writes : {A : Type 0} {f : Form A} {a : A} {ps : List Piece} (w : List ℕ) → kind_of w ≡ Some Word → Writes open_ f a ps → Writes closed (behind w f) a (pieces_of.word w ∷ ps)
 behind_writes w e v = record { says = behind_says w v.says; tokens = (e, v.tokens); joined = v.joined }
 
+-- a choice by its word and the pieces behind
 pub by_word_writes : {K A : Type 0} {table : List (List ℕ × K)} {f : K → Form A} {a : A} {ps : List Piece} (w : List ℕ) (k : K) → kind_of w ≡ Some Word → entry table w ≡ Some k → Writes open_ (f k) a ps → Writes closed (by_word table f) a (pieces_of.word w ∷ ps)
 by_word_writes w k t e v = record { says = by_word_says w k e v.says; tokens = (t, v.tokens); joined = v.joined }
 
+-- a given word by itself
 pub exactly_writes : (w : List ℕ) → kind_of w ≡ Some Word → Writes closed (exactly Word w) tt (pieces_of.word w ∷ [])
 exactly_writes w e = record { says = exactly_says Word w; tokens = (e, tt); joined = refl }
 
+-- and a token of a kind
 pub one_writes : (k : TokenKind) (w : List ℕ) → kind_of w ≡ Some k → Writes closed (one k) w (lexeme (token k w) ∷ [])
 one_writes k w e = record { says = one_says k w; tokens = (e, tt); joined = refl }
 
@@ -152,15 +167,19 @@ bracketed ps v = between_writes LeftBracket RightBracket (codes "[") (codes "]")
 pub record EachWrites {A B : Type 0} (f : Form A) (w : B → A) (pieces : B → List Piece) (P : B → Type 0) : Type 0 where
   pub one : (x : B) → P x → Writes closed f (w x) (pieces x)
 
+-- what writes each says each
 pub each_says : {A B : Type 0} {f : Form A} {w : B → A} {pieces : B → List Piece} {P : B → Type 0} → EachWrites f w pieces P → EachSays f w pieces P
 each_says e = record { one = λ x h. (e.one x h).says }
 
+-- and lays each out
 pub each_is_laid : {A B : Type 0} {f : Form A} {w : B → A} {pieces : B → List Piece} {P : B → Type 0} → EachWrites f w pieces P → (items : List B) → AllByRecursion P items → AllByRecursion IsLaid (map pieces items)
 each_is_laid {pieces = pieces} {P = P} e items h = all_laid P pieces (λ x g. is_laid (e.one x g)) items h
 
+-- one or more are written with commas between them
 pub commas_write : {A B : Type 0} {f : Form A} {w : B → A} {pieces : B → List Piece} {P : B → Type 0} → EachWrites f w pieces P → (items : List B) → 0 < length items → AllByRecursion P items → Writes closed (commas f) (map w items) (with_commas (map pieces items))
 commas_write e items lt h = laid_writes (commas_says (each_says e) items lt h) (separated_laid _ _ commas_part (each_is_laid e items h))
 
+-- and so is a list, which may be empty
 pub list_write : {A B : Type 0} {f : Form A} {w : B → A} {pieces : B → List Piece} {P : B → Type 0} → EachWrites f w pieces P → (items : List B) → AllByRecursion P items → Writes closed (list f) (map w items) (with_commas (map pieces items))
 list_write e items h = laid_writes (list_says (each_says e) items h) (separated_laid _ _ commas_part (each_is_laid e items h))
 

@@ -1,13 +1,18 @@
 -- The types that stand in a type, and what stands around them.
-use Rattle.std.specs.Prelude.{ℕ, zero, suc, ◌<◌, nat_lt, List, [], ◌∷◌, ◌++◌, length, if◌then◌else◌}
+use Rattle.std.specs.Prelude.{ℕ, zero, suc, ◌<◌, nat_lt, List, [], ◌∷◌, ◌++◌, map, length, if◌then◌else◌}
 use Rattle.text_lex.specs.Layout.{Piece, lexeme}
 use Rattle.ir_types.specs.declared.name.Name.{Name}
 use Rattle.ir_types.specs.declared.memory_type.TypeId.{TypeId}
+use Rattle.ir_types.specs.declared.memory_type.TypeName.{TypeName}
 use Rattle.ir_types.specs.declared.memory_type.MemTy.{MemTy}
 use Rattle.ir_types.specs.declared.memory_type.MemTy.TheVariants.{One, Array, Struct, Named}
 use Rattle.ir_types.specs.Names.{name_at}
 use Rattle.ir_printer_types.specs.Pieces.{comma, blank, right_bracket, local_token, type_pieces}
 use Rattle.ir_printer_types.specs.MemoryPieces.{array_head, struct_head, struct_end}
+
+-- the names of named types
+abbrev pub names_of : List TypeName → List Name
+names_of names = map (λ (n : TypeName). n.name) names
 
 -- the name of a type that has one stands in the list
 abbrev pub HasItsName : List Name → MemTy → Type 0

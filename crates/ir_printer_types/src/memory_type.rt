@@ -1,13 +1,13 @@
 // Types of what lies in memory.
 
-ghost use Rattle.std.specs.Prelude.{◌≡◌, ◌<◌, ◌++◌, map, length, OnOk};
-ghost use Rattle.text_lex.specs.Layout.{text_of};
+ghost use Rattle.std.specs.Prelude.{◌≡◌, ◌<◌, length};
 ghost use Rattle.ir_types.specs.Types.{AreTypes};
 ghost use Rattle.ir_types.specs.TypeNodes.{type_nodes};
 ghost use Rattle.ir_types.specs.Names.{name_at};
+ghost use Rattle.ir_printer_types.specs.Appends.{Appends, Prints};
 ghost use Rattle.ir_printer_types.specs.Pieces.{local_token};
 ghost use Rattle.ir_printer_types.specs.MemoryPieces.{struct_head, struct_end, node_pieces};
-ghost use Rattle.ir_printer_types.specs.Parts.{HasItsName, parts_of, front_pieces, end_pieces, up_to_part};
+ghost use Rattle.ir_printer_types.specs.Parts.{names_of, HasItsName, parts_of, front_pieces, end_pieces, up_to_part};
 
 use crate::name::{put_digits, put_name};
 use crate::types::put_type;
@@ -37,30 +37,29 @@ fn parts(ty: &MemTy) -> &[TypeId]
 /// Appends `%name` for a place in the list of type names.
 pub fn put_type_name(out: &mut Vec<u8>, names: &[TypeName], name: u32) -> Result<(), AllocError>
     requires { name < length names.now }
-    ensures { OnOk result (out.new.items ≡ out.old.items
-        ++ (local_token (name_at (map (λ n. n.name) names.now) name)).text) }
+    ensures { Appends out.old out.new result
+        ((local_token (name_at (names_of names.now) name)).text) }
 {
     out.push(b'%')?;
     put_name(out, &names[name as usize].name)
 }
 
 fn put_struct_head(out: &mut Vec<u8>, packed: bool) -> Result<(), AllocError>
-    ensures { OnOk result (out.new.items ≡ out.old.items ++ text_of (struct_head packed)) }
+    ensures { Prints out.old out.new result (struct_head packed) }
 {
     out.extend_from_slice(if packed { b"<{".as_slice() } else { b"{" })
 }
 
 fn put_struct_end(out: &mut Vec<u8>, packed: bool) -> Result<(), AllocError>
-    ensures { OnOk result (out.new.items ≡ out.old.items ++ text_of (struct_end packed)) }
+    ensures { Prints out.old out.new result (struct_end packed) }
 {
     out.extend_from_slice(if packed { b"}>".as_slice() } else { b"}" })
 }
 
 // Appends what stands before a type's parts, or all of a type without parts.
 fn put_front(out: &mut Vec<u8>, names: &[TypeName], ty: &MemTy) -> Result<(), AllocError>
-    requires { HasItsName (map (λ n. n.name) names.now) ty.now }
-    ensures { OnOk result (out.new.items ≡ out.old.items
-        ++ text_of (front_pieces (map (λ n. n.name) names.now) ty.now)) }
+    requires { HasItsName (names_of names.now) ty.now }
+    ensures { Prints out.old out.new result (front_pieces (names_of names.now) ty.now) }
 {
     match ty {
         MemTy::One(ty) => put_type(out, *ty),
@@ -83,7 +82,7 @@ fn put_front(out: &mut Vec<u8>, names: &[TypeName], ty: &MemTy) -> Result<(), Al
 
 // Appends what stands behind a type's last part.
 fn put_end(out: &mut Vec<u8>, ty: &MemTy) -> Result<(), AllocError>
-    ensures { OnOk result (out.new.items ≡ out.old.items ++ text_of (end_pieces ty.now)) }
+    ensures { Prints out.old out.new result (end_pieces ty.now) }
 {
     match ty {
         MemTy::Array(..) => out.extend_from_slice(b"]"),
@@ -102,9 +101,8 @@ fn put_up_to_part(
     ty: &MemTy,
     place: usize,
 ) -> Result<(), AllocError>
-    requires { HasItsName (map (λ n. n.name) names.now) ty.now }
-    ensures { OnOk result (out.new.items ≡ out.old.items
-        ++ text_of (up_to_part (map (λ n. n.name) names.now) ty.now place)) }
+    requires { HasItsName (names_of names.now) ty.now }
+    ensures { Prints out.old out.new result (up_to_part (names_of names.now) ty.now place) }
 {
     if place == 0 {
         put_front(out, names, ty)
@@ -123,10 +121,10 @@ pub fn put_memory_type(
     names: &[TypeName],
     id: TypeId,
 ) -> Result<(), AllocError>
-    requires listed { AreTypes (map (λ n. n.name) names.now) 0 types.now }
+    requires listed { AreTypes (names_of names.now) 0 types.now }
     requires place { id.0 < length types.now }
-    ensures { OnOk result (out.new.items ≡ out.old.items
-        ++ text_of (node_pieces (type_nodes (map (λ n. n.name) names.now) types.now id))) }
+    ensures { Prints out.old out.new result
+        (node_pieces (type_nodes (names_of names.now) types.now id)) }
 {
     let mut frames = Vec::new(alloc);
     frames.push(Frame { id, printed: 0 })?;

@@ -1,8 +1,9 @@
 // The bytes of names and of numbers in digits.
 
-ghost use Rattle.std.specs.Prelude.{◌≡◌, ◌<◌, ◌++◌, ◌∷◌, [], decimal, OnOk};
+ghost use Rattle.std.specs.Prelude.{◌≡◌, ◌<◌, [], decimal};
 ghost use Rattle.text_forms.specs.Lexical.{is_digit, begins_name};
 ghost use Rattle.text_lex.specs.Names.{is_plain_name};
+ghost use Rattle.ir_printer_types.specs.Appends.{Appends};
 ghost use Rattle.ir_printer_types.specs.Texts.{hex_digit, is_escaped, escaped_byte, quoted, name_text};
 
 use ir_types::Name;
@@ -11,7 +12,7 @@ use std::alloc::AllocError;
 
 /// Appends a number in digits.
 pub fn put_digits(out: &mut Vec<u8>, number: u64) -> Result<(), AllocError>
-    ensures { OnOk result (out.new.items ≡ out.old.items ++ decimal number) }
+    ensures { Appends out.old out.new result (decimal number) }
 {
     let mut buffer = Buffer::new();
     out.extend_from_slice(buffer.format(number).as_bytes())
@@ -70,7 +71,7 @@ fn needs_escape(byte: u8) -> bool
 }
 
 fn put_escaped(out: &mut Vec<u8>, byte: u8) -> Result<(), AllocError>
-    ensures { OnOk result (out.new.items ≡ out.old.items ++ escaped_byte byte) }
+    ensures { Appends out.old out.new result (escaped_byte byte) }
 {
     if needs_escape(byte) {
         out.extend_from_slice(&[b'\\', digit_of(byte / 16), digit_of(byte % 16)])
@@ -80,7 +81,7 @@ fn put_escaped(out: &mut Vec<u8>, byte: u8) -> Result<(), AllocError>
 }
 
 fn put_quoted(out: &mut Vec<u8>, text: &[u8]) -> Result<(), AllocError>
-    ensures { OnOk result (out.new.items ≡ out.old.items ++ quoted text.now) }
+    ensures { Appends out.old out.new result (quoted text.now) }
 {
     out.push(b'"')?;
     for byte in text {
@@ -93,7 +94,7 @@ fn put_quoted(out: &mut Vec<u8>, text: &[u8]) -> Result<(), AllocError>
 /// Appends a name, without what says of what it is one.
 #[tactic(auto, unfolding(crate::specs::Texts::name_text))]
 pub fn put_name(out: &mut Vec<u8>, name: &Name) -> Result<(), AllocError>
-    ensures { OnOk result (out.new.items ≡ out.old.items ++ name_text name.now) }
+    ensures { Appends out.old out.new result (name_text name.now) }
 {
     match name {
         Name::Number(number) => put_digits(out, u64::from(*number)),

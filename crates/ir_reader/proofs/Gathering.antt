@@ -9,7 +9,8 @@ use Rattle.text_forms.specs.Reading.{nullable, opens, read}
 use Rattle.text_forms.proofs.Many.{shorter, behind_front, goes_on, fails, ends}
 use Rattle.ir_types.specs.TypeNodes.{TypeNode}
 use Rattle.ir_types.specs.Tree.{Item}
-use Rattle.ir_types.specs.Grammar.{memory_type, comdat, metadata, type_definition, variable_definition}
+use Rattle.ir_types.specs.TypeForms.{memory_type}
+use Rattle.ir_types.specs.ItemForms.{comdat, metadata, type_definition, variable_definition}
 use Rattle.ir_types.specs.Skimmed.{Skimmed, skimmed_item, skimmed_module}
 use Rattle.ir_reader_items.specs.declared.part.Part.{Part}
 use Rattle.ir_reader_items.specs.Parts.{item_of}

@@ -19,7 +19,10 @@ use Rattle.ir_types.specs.Names.{IsTable}
 use Rattle.ir_types.specs.declared.inst.Ty.{Ty}
 use Rattle.ir_types.specs.Tree.{KeptTexts, WrittenParam, WrittenFunction, BlockTree, FunctionTree}
 use Rattle.ir_types.specs.Offsets.{Definitions}
-use Rattle.ir_types.specs.Grammar.{return_type, global_name, between, dotted_parameters, kept, declared_tree, declared_function, defined_function}
+use Rattle.text_forms.specs.Combined.{between}
+use Rattle.ir_types.specs.TypeForms.{return_type, global_name}
+use Rattle.ir_types.specs.Words.{kept}
+use Rattle.ir_types.specs.FunctionForms.{dotted_parameters, declared_tree, declared_function, defined_function}
 use Rattle.ir_types.specs.Skimmed.{Outline, Skimmed, outlined, skimmed_definition, skimmed_declaration, dotted_read, params_read, body_read, with_dotted, with_inner, filled}
 use Rattle.ir_types.specs.Numbered.{numbered_param, numbered_block, with_parts, numbered_function}
 use Rattle.ir_types.specs.Denotes.{function_in}

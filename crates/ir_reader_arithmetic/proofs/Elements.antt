@@ -6,7 +6,9 @@ use Rattle.text_forms.specs.Reading.{read}
 use Rattle.ir_types.specs.declared.inst.Ty.{Ty}
 use Rattle.ir_types.specs.Offsets.{Definitions}
 use Rattle.ir_types.specs.Tree.{OperandTree}
-use Rattle.ir_types.specs.Grammar.{after_mark, typed_value, comma_typed, index_value, extract_tree, extractelement, insert_tree, insertelement}
+use Rattle.text_forms.specs.Combined.{after_mark}
+use Rattle.ir_types.specs.InstParts.{typed_value, comma_typed, index_value}
+use Rattle.ir_types.specs.InstForms.{extract_tree, extractelement, insert_tree, insertelement}
 
 -- an index behind a comma
 abbrev pub index_behind : Definitions → Form (ℕ × OperandTree)
@@ -17,10 +19,12 @@ pub extract_reads : (defs : Definitions) (v : Ty × OperandTree) (i : ℕ × Ope
 unfolding extractelement
 extract_reads defs v i ts us ws vector index = rw vector (rw index refl)
 
+-- no index stands behind the vector of `extractelement`
 pub extract_fails : (defs : Definitions) (v : Ty × OperandTree) (ts us : List Lexeme) → read (typed_value defs) ts ≡ Some (v, us) → read (index_behind defs) us ≡ None → read (extractelement defs) ts ≡ None
 unfolding extractelement
 extract_fails defs v ts us vector index = rw vector (rw index refl)
 
+-- `insertelement`, of what its parts are read as
 pub insert_reads : (defs : Definitions) (v e : Ty × OperandTree) (i : ℕ × OperandTree) (ts us vs ws : List Lexeme) → read (typed_value defs) ts ≡ Some (v, us) → read (comma_typed defs) us ≡ Some (e, vs) → read (index_behind defs) vs ≡ Some (i, ws)
     → read (insertelement defs) ts ≡ Some (insert_tree (v, (e, i)), ws)
 unfolding insertelement

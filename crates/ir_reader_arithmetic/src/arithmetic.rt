@@ -1,10 +1,8 @@
 // Operators of integers, comparisons, `select` and `freeze`, without the words before them.
 
-ghost use Rattle.std.specs.Prelude.{◌≡◌, List, IfOk};
-ghost use Rattle.text_forms.specs.Reading.{read};
-ghost use Rattle.text_forms.specs.Gives.{Gives, left};
-ghost use Rattle.ir_types.specs.Grammar.{overflowing, possibly_exact, plain_binary, or_operation, compared, compare, bits_for, select, freeze};
-ghost use Rattle.ir_reader_values.specs.Seen.{operand_seen, inst_seen, definitions, Widens, Stays, InstUses};
+ghost use Rattle.std.specs.Prelude.{◌≡◌, List};
+ghost use Rattle.ir_types.specs.InstForms.{overflowing, possibly_exact, plain_binary, or_operation, compared, compare, bits_for, select, freeze};
+ghost use Rattle.ir_reader_values.specs.Seen.{operand_seen, inst_seen, definitions, Widens, Stays, InstAdds, ReadsAs, ReadsOver};
 
 use crate::words::predicate_of;
 use ir_making::{applied, binary, one_operand, three_operands, two_operands};
@@ -21,7 +19,7 @@ static NO_FLAGS: Flags = Flags {
 };
 
 /// [nuw] [nsw] T V, V.
-#[tactic(auto, unfolding(ir_types::specs::Grammar::overflowing))]
+#[tactic(auto, unfolding(ir_types::specs::InstForms::overflowing))]
 pub fn overflowing<'t>(
     alloc: Global,
     operator: BinOp,
@@ -29,9 +27,9 @@ pub fn overflowing<'t>(
     scope: &mut Scope,
 ) -> Result<(Inst, Cursor<'t>), SyntaxFault>
     ensures grows { Widens scope.old scope.new }
-    ensures reads { Gives (λ x. (inst_seen scope.new x.0, left x.1)) result (read (overflowing (definitions scope.old) operator) (left tokens.entry)) }
+    ensures reads { ReadsAs (inst_seen scope.new) result (overflowing (definitions scope.old) operator) tokens.entry }
     ensures stays { Stays inst_seen scope.new result }
-    ensures uses { IfOk result (λ x. InstUses scope.old (inst_seen scope.new x.0) scope.new) }
+    ensures uses { InstAdds scope.old result scope.new }
 {
     let ((nuw, nsw), rest) = two_flags(tokens, b"nuw", b"nsw");
     let ((ty, (first, second)), rest) = typed_pair(alloc, rest, scope)?;
@@ -45,7 +43,7 @@ pub fn overflowing<'t>(
 }
 
 /// [exact] T V, V.
-#[tactic(auto, unfolding(ir_types::specs::Grammar::possibly_exact))]
+#[tactic(auto, unfolding(ir_types::specs::InstForms::possibly_exact))]
 pub fn possibly_exact<'t>(
     alloc: Global,
     operator: BinOp,
@@ -53,9 +51,9 @@ pub fn possibly_exact<'t>(
     scope: &mut Scope,
 ) -> Result<(Inst, Cursor<'t>), SyntaxFault>
     ensures grows { Widens scope.old scope.new }
-    ensures reads { Gives (λ x. (inst_seen scope.new x.0, left x.1)) result (read (possibly_exact (definitions scope.old) operator) (left tokens.entry)) }
+    ensures reads { ReadsAs (inst_seen scope.new) result (possibly_exact (definitions scope.old) operator) tokens.entry }
     ensures stays { Stays inst_seen scope.new result }
-    ensures uses { IfOk result (λ x. InstUses scope.old (inst_seen scope.new x.0) scope.new) }
+    ensures uses { InstAdds scope.old result scope.new }
 {
     let (exact, rest) = one_flag(tokens, b"exact");
     let ((ty, (first, second)), rest) = typed_pair(alloc, rest, scope)?;
@@ -65,7 +63,7 @@ pub fn possibly_exact<'t>(
 }
 
 /// T V, V behind a word that takes no flags.
-#[tactic(auto, unfolding(ir_types::specs::Grammar::plain_binary))]
+#[tactic(auto, unfolding(ir_types::specs::InstForms::plain_binary))]
 pub fn plain_binary<'t>(
     alloc: Global,
     operator: BinOp,
@@ -73,9 +71,9 @@ pub fn plain_binary<'t>(
     scope: &mut Scope,
 ) -> Result<(Inst, Cursor<'t>), SyntaxFault>
     ensures grows { Widens scope.old scope.new }
-    ensures reads { Gives (λ x. (inst_seen scope.new x.0, left x.1)) result (read (plain_binary (definitions scope.old) operator) (left tokens.entry)) }
+    ensures reads { ReadsAs (inst_seen scope.new) result (plain_binary (definitions scope.old) operator) tokens.entry }
     ensures stays { Stays inst_seen scope.new result }
-    ensures uses { IfOk result (λ x. InstUses scope.old (inst_seen scope.new x.0) scope.new) }
+    ensures uses { InstAdds scope.old result scope.new }
 {
     let ((ty, (first, second)), rest) = typed_pair(alloc, tokens, scope)?;
     let inst = binary(alloc, operator, NO_FLAGS, ty, first, second)?;
@@ -83,16 +81,16 @@ pub fn plain_binary<'t>(
 }
 
 /// [disjoint] T V, V.
-#[tactic(auto, unfolding(ir_types::specs::Grammar::or_operation))]
+#[tactic(auto, unfolding(ir_types::specs::InstForms::or_operation))]
 pub fn or_operation<'t>(
     alloc: Global,
     tokens: Cursor<'t>,
     scope: &mut Scope,
 ) -> Result<(Inst, Cursor<'t>), SyntaxFault>
     ensures grows { Widens scope.old scope.new }
-    ensures reads { Gives (λ x. (inst_seen scope.new x.0, left x.1)) result (read (or_operation (definitions scope.old)) (left tokens.entry)) }
+    ensures reads { ReadsOver inst_seen or_operation tokens.entry scope.old result scope.new }
     ensures stays { Stays inst_seen scope.new result }
-    ensures uses { IfOk result (λ x. InstUses scope.old (inst_seen scope.new x.0) scope.new) }
+    ensures uses { InstAdds scope.old result scope.new }
 {
     let (disjoint, rest) = one_flag(tokens, b"disjoint");
     let ((ty, (first, second)), rest) = typed_pair(alloc, rest, scope)?;
@@ -115,7 +113,7 @@ fn bits_for(ty: Ty) -> Ty
 }
 
 /// T V, V behind the predicate.
-#[tactic(auto, unfolding(ir_types::specs::Grammar::compared))]
+#[tactic(auto, unfolding(ir_types::specs::InstForms::compared))]
 fn compared<'t>(
     alloc: Global,
     predicate: Pred,
@@ -123,9 +121,9 @@ fn compared<'t>(
     scope: &mut Scope,
 ) -> Result<(Inst, Cursor<'t>), SyntaxFault>
     ensures grows { Widens scope.old scope.new }
-    ensures reads { Gives (λ x. (inst_seen scope.new x.0, left x.1)) result (read (compared (definitions scope.old) predicate) (left tokens.entry)) }
+    ensures reads { ReadsAs (inst_seen scope.new) result (compared (definitions scope.old) predicate) tokens.entry }
     ensures stays { Stays inst_seen scope.new result }
-    ensures uses { IfOk result (λ x. InstUses scope.old (inst_seen scope.new x.0) scope.new) }
+    ensures uses { InstAdds scope.old result scope.new }
 {
     let ((ty, (first, second)), rest) = typed_pair(alloc, tokens, scope)?;
     let args = two_operands(alloc, first, second)?;
@@ -134,16 +132,16 @@ fn compared<'t>(
 }
 
 /// pred T V, V.
-#[tactic(auto, unfolding(ir_types::specs::Grammar::compare))]
+#[tactic(auto, unfolding(ir_types::specs::InstForms::compare))]
 pub fn comparison<'t>(
     alloc: Global,
     tokens: Cursor<'t>,
     scope: &mut Scope,
 ) -> Result<(Inst, Cursor<'t>), SyntaxFault>
     ensures grows { Widens scope.old scope.new }
-    ensures reads { Gives (λ x. (inst_seen scope.new x.0, left x.1)) result (read (compare (definitions scope.old)) (left tokens.entry)) }
+    ensures reads { ReadsOver inst_seen compare tokens.entry scope.old result scope.new }
     ensures stays { Stays inst_seen scope.new result }
-    ensures uses { IfOk result (λ x. InstUses scope.old (inst_seen scope.new x.0) scope.new) }
+    ensures uses { InstAdds scope.old result scope.new }
 {
     let (word, rest) = tokens.one(TokenKind::Word)?;
     match predicate_of(word) {
@@ -153,16 +151,16 @@ pub fn comparison<'t>(
 }
 
 /// T V, T V, T V: a condition and two arms.
-#[tactic(auto, unfolding(ir_types::specs::Grammar::select))]
+#[tactic(auto, unfolding(ir_types::specs::InstForms::select))]
 pub fn selection<'t>(
     alloc: Global,
     tokens: Cursor<'t>,
     scope: &mut Scope,
 ) -> Result<(Inst, Cursor<'t>), SyntaxFault>
     ensures grows { Widens scope.old scope.new }
-    ensures reads { Gives (λ x. (inst_seen scope.new x.0, left x.1)) result (read (select (definitions scope.old)) (left tokens.entry)) }
+    ensures reads { ReadsOver inst_seen select tokens.entry scope.old result scope.new }
     ensures stays { Stays inst_seen scope.new result }
-    ensures uses { IfOk result (λ x. InstUses scope.old (inst_seen scope.new x.0) scope.new) }
+    ensures uses { InstAdds scope.old result scope.new }
 {
     let (values, rest) = three_values(alloc, tokens, scope)?;
     let ((condition_type, condition), ((ty, then), (last_type, otherwise))) = values;
@@ -172,16 +170,16 @@ pub fn selection<'t>(
 }
 
 /// T V.
-#[tactic(auto, unfolding(ir_types::specs::Grammar::freeze))]
+#[tactic(auto, unfolding(ir_types::specs::InstForms::freeze))]
 pub fn freeze<'t>(
     alloc: Global,
     tokens: Cursor<'t>,
     scope: &mut Scope,
 ) -> Result<(Inst, Cursor<'t>), SyntaxFault>
     ensures grows { Widens scope.old scope.new }
-    ensures reads { Gives (λ x. (inst_seen scope.new x.0, left x.1)) result (read (freeze (definitions scope.old)) (left tokens.entry)) }
+    ensures reads { ReadsOver inst_seen freeze tokens.entry scope.old result scope.new }
     ensures stays { Stays inst_seen scope.new result }
-    ensures uses { IfOk result (λ x. InstUses scope.old (inst_seen scope.new x.0) scope.new) }
+    ensures uses { InstAdds scope.old result scope.new }
 {
     let ((ty, operand), rest) = typed_value(alloc, tokens, scope)?;
     let args = one_operand(alloc, operand)?;

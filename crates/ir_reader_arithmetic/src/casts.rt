@@ -1,10 +1,11 @@
 // Casts, without the words before them.
 
-ghost use Rattle.std.specs.Prelude.{◌≡◌, List, IfOk};
+ghost use Rattle.std.specs.Prelude.{◌≡◌, List};
 ghost use Rattle.text_forms.specs.Reading.{read};
 ghost use Rattle.text_forms.specs.Gives.{Gives, left};
-ghost use Rattle.ir_types.specs.Grammar.{to_type, trunc, zext, sext, ptrtoint};
-ghost use Rattle.ir_reader_values.specs.Seen.{operand_seen, inst_seen, definitions, Widens, Stays, InstUses};
+ghost use Rattle.ir_types.specs.InstParts.{to_type};
+ghost use Rattle.ir_types.specs.InstForms.{trunc, zext, sext, ptrtoint};
+ghost use Rattle.ir_reader_values.specs.Seen.{operand_seen, inst_seen, Widens, Stays, InstAdds, ReadsOver};
 
 use ir_making::{applied, one_operand};
 use ir_reader_types::value_type;
@@ -23,16 +24,16 @@ fn to_type<'t>(tokens: Cursor<'t>) -> Result<(Ty, Cursor<'t>), SyntaxFault>
 }
 
 /// [nuw] [nsw] T V to T.
-#[tactic(auto, unfolding(ir_types::specs::Grammar::trunc))]
+#[tactic(auto, unfolding(ir_types::specs::InstForms::trunc))]
 pub fn trunc<'t>(
     alloc: Global,
     tokens: Cursor<'t>,
     scope: &mut Scope,
 ) -> Result<(Inst, Cursor<'t>), SyntaxFault>
     ensures grows { Widens scope.old scope.new }
-    ensures reads { Gives (λ x. (inst_seen scope.new x.0, left x.1)) result (read (trunc (definitions scope.old)) (left tokens.entry)) }
+    ensures reads { ReadsOver inst_seen trunc tokens.entry scope.old result scope.new }
     ensures stays { Stays inst_seen scope.new result }
-    ensures uses { IfOk result (λ x. InstUses scope.old (inst_seen scope.new x.0) scope.new) }
+    ensures uses { InstAdds scope.old result scope.new }
 {
     let ((nuw, nsw), rest) = two_flags(tokens, b"nuw", b"nsw");
     let ((from, operand), rest) = typed_value(alloc, rest, scope)?;
@@ -43,16 +44,16 @@ pub fn trunc<'t>(
 }
 
 /// [nneg] T V to T.
-#[tactic(auto, unfolding(ir_types::specs::Grammar::zext))]
+#[tactic(auto, unfolding(ir_types::specs::InstForms::zext))]
 pub fn zext<'t>(
     alloc: Global,
     tokens: Cursor<'t>,
     scope: &mut Scope,
 ) -> Result<(Inst, Cursor<'t>), SyntaxFault>
     ensures grows { Widens scope.old scope.new }
-    ensures reads { Gives (λ x. (inst_seen scope.new x.0, left x.1)) result (read (zext (definitions scope.old)) (left tokens.entry)) }
+    ensures reads { ReadsOver inst_seen zext tokens.entry scope.old result scope.new }
     ensures stays { Stays inst_seen scope.new result }
-    ensures uses { IfOk result (λ x. InstUses scope.old (inst_seen scope.new x.0) scope.new) }
+    ensures uses { InstAdds scope.old result scope.new }
 {
     let (nneg, rest) = one_flag(tokens, b"nneg");
     let ((from, operand), rest) = typed_value(alloc, rest, scope)?;
@@ -62,16 +63,16 @@ pub fn zext<'t>(
 }
 
 /// T V to T.
-#[tactic(auto, unfolding(ir_types::specs::Grammar::sext))]
+#[tactic(auto, unfolding(ir_types::specs::InstForms::sext))]
 pub fn sext<'t>(
     alloc: Global,
     tokens: Cursor<'t>,
     scope: &mut Scope,
 ) -> Result<(Inst, Cursor<'t>), SyntaxFault>
     ensures grows { Widens scope.old scope.new }
-    ensures reads { Gives (λ x. (inst_seen scope.new x.0, left x.1)) result (read (sext (definitions scope.old)) (left tokens.entry)) }
+    ensures reads { ReadsOver inst_seen sext tokens.entry scope.old result scope.new }
     ensures stays { Stays inst_seen scope.new result }
-    ensures uses { IfOk result (λ x. InstUses scope.old (inst_seen scope.new x.0) scope.new) }
+    ensures uses { InstAdds scope.old result scope.new }
 {
     let ((from, operand), rest) = typed_value(alloc, tokens, scope)?;
     let (ty, rest) = to_type(rest)?;
@@ -80,16 +81,16 @@ pub fn sext<'t>(
 }
 
 /// ptr V to T.
-#[tactic(auto, unfolding(ir_types::specs::Grammar::ptrtoint))]
+#[tactic(auto, unfolding(ir_types::specs::InstForms::ptrtoint))]
 pub fn ptrtoint<'t>(
     alloc: Global,
     tokens: Cursor<'t>,
     scope: &mut Scope,
 ) -> Result<(Inst, Cursor<'t>), SyntaxFault>
     ensures grows { Widens scope.old scope.new }
-    ensures reads { Gives (λ x. (inst_seen scope.new x.0, left x.1)) result (read (ptrtoint (definitions scope.old)) (left tokens.entry)) }
+    ensures reads { ReadsOver inst_seen ptrtoint tokens.entry scope.old result scope.new }
     ensures stays { Stays inst_seen scope.new result }
-    ensures uses { IfOk result (λ x. InstUses scope.old (inst_seen scope.new x.0) scope.new) }
+    ensures uses { InstAdds scope.old result scope.new }
 {
     let (pointer, rest) = pointer_value(alloc, tokens, scope)?;
     let (ty, rest) = to_type(rest)?;

@@ -1,10 +1,8 @@
 // Lanes of vectors, without the words before them.
 
-ghost use Rattle.std.specs.Prelude.{◌≡◌, List, IfOk};
-ghost use Rattle.text_forms.specs.Reading.{read};
-ghost use Rattle.text_forms.specs.Gives.{Gives, left};
-ghost use Rattle.ir_types.specs.Grammar.{element_of, extractelement, insertelement, shuffled, shufflevector};
-ghost use Rattle.ir_reader_values.specs.Seen.{inst_seen, definitions, Widens, Stays, InstUses};
+ghost use Rattle.std.specs.Prelude.{◌≡◌, List};
+ghost use Rattle.ir_types.specs.InstForms.{element_of, extractelement, insertelement, shuffled, shufflevector};
+ghost use Rattle.ir_reader_values.specs.Seen.{inst_seen, Widens, Stays, InstAdds, ReadsOver};
 
 use ir_making::{applied, three_operands, two_operands};
 use ir_reader_values::{Scope, comma_index, comma_typed, three_values, typed_value};
@@ -23,16 +21,16 @@ fn element_of(ty: Ty) -> Ty
 }
 
 /// T V, iN V.
-#[tactic(auto, unfolding(ir_types::specs::Grammar::extractelement))]
+#[tactic(auto, unfolding(ir_types::specs::InstForms::extractelement))]
 pub fn extract<'t>(
     alloc: Global,
     tokens: Cursor<'t>,
     scope: &mut Scope,
 ) -> Result<(Inst, Cursor<'t>), SyntaxFault>
     ensures grows { Widens scope.old scope.new }
-    ensures reads { Gives (λ x. (inst_seen scope.new x.0, left x.1)) result (read (extractelement (definitions scope.old)) (left tokens.entry)) }
+    ensures reads { ReadsOver inst_seen extractelement tokens.entry scope.old result scope.new }
     ensures stays { Stays inst_seen scope.new result }
-    ensures uses { IfOk result (λ x. InstUses scope.old (inst_seen scope.new x.0) scope.new) }
+    ensures uses { InstAdds scope.old result scope.new }
 {
     let ((ty, vector), rest) = typed_value(alloc, tokens, scope)?;
     let ((width, index), rest) = comma_index(alloc, rest, scope)?;
@@ -42,16 +40,16 @@ pub fn extract<'t>(
 }
 
 /// T V, T V, iN V.
-#[tactic(auto, unfolding(ir_types::specs::Grammar::insertelement))]
+#[tactic(auto, unfolding(ir_types::specs::InstForms::insertelement))]
 pub fn insert<'t>(
     alloc: Global,
     tokens: Cursor<'t>,
     scope: &mut Scope,
 ) -> Result<(Inst, Cursor<'t>), SyntaxFault>
     ensures grows { Widens scope.old scope.new }
-    ensures reads { Gives (λ x. (inst_seen scope.new x.0, left x.1)) result (read (insertelement (definitions scope.old)) (left tokens.entry)) }
+    ensures reads { ReadsOver inst_seen insertelement tokens.entry scope.old result scope.new }
     ensures stays { Stays inst_seen scope.new result }
-    ensures uses { IfOk result (λ x. InstUses scope.old (inst_seen scope.new x.0) scope.new) }
+    ensures uses { InstAdds scope.old result scope.new }
 {
     let ((ty, vector), rest) = typed_value(alloc, tokens, scope)?;
     let ((element, value), rest) = comma_typed(alloc, rest, scope)?;
@@ -72,16 +70,16 @@ fn shuffled(ty: Ty, mask: Ty) -> Ty
 }
 
 /// T V, T V, T V: two vectors and a mask.
-#[tactic(auto, unfolding(ir_types::specs::Grammar::shufflevector))]
+#[tactic(auto, unfolding(ir_types::specs::InstForms::shufflevector))]
 pub fn shuffle<'t>(
     alloc: Global,
     tokens: Cursor<'t>,
     scope: &mut Scope,
 ) -> Result<(Inst, Cursor<'t>), SyntaxFault>
     ensures grows { Widens scope.old scope.new }
-    ensures reads { Gives (λ x. (inst_seen scope.new x.0, left x.1)) result (read (shufflevector (definitions scope.old)) (left tokens.entry)) }
+    ensures reads { ReadsOver inst_seen shufflevector tokens.entry scope.old result scope.new }
     ensures stays { Stays inst_seen scope.new result }
-    ensures uses { IfOk result (λ x. InstUses scope.old (inst_seen scope.new x.0) scope.new) }
+    ensures uses { InstAdds scope.old result scope.new }
 {
     let (values, rest) = three_values(alloc, tokens, scope)?;
     let ((ty, first), ((second_type, second), (mask_type, mask))) = values;

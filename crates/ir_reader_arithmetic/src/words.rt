@@ -2,7 +2,7 @@
 
 ghost use Rattle.std.specs.Prelude.{◌≡◌};
 ghost use Rattle.text_forms.specs.Form.{entry};
-ghost use Rattle.ir_types.specs.Grammar.{predicates};
+ghost use Rattle.ir_types.specs.InstForms.{predicates};
 
 use ir_types::Pred;
 use text_forms::find;
@@ -21,7 +21,7 @@ static PREDICATES: [(&[u8], Pred); 10] = [
 ];
 
 /// The predicate of the word.
-#[tactic(auto, unfolding(ir_types::specs::Grammar::predicates))]
+#[tactic(auto, unfolding(ir_types::specs::InstForms::predicates))]
 pub fn predicate_of(word: &[u8]) -> Option<Pred>
     ensures { result ≡ entry predicates word.now }
 {

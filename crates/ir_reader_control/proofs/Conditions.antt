@@ -10,7 +10,10 @@ use Rattle.ir_types.specs.declared.inst.Ty.TheVariants.{Int, Void}
 use Rattle.ir_types.specs.Kinds.{Branch}
 use Rattle.ir_types.specs.Offsets.{Definitions}
 use Rattle.ir_types.specs.Tree.{OperandTree, InstTree}
-use Rattle.ir_types.specs.Grammar.{operand_at, bare_inst, value, after_mark, target, branch_tree, branch}
+use Rattle.text_forms.specs.Combined.{after_mark}
+use Rattle.ir_types.specs.ValueForms.{operand_at, value}
+use Rattle.ir_types.specs.InstParts.{target}
+use Rattle.ir_types.specs.InstForms.{bare_inst, branch_tree, branch}
 use Rattle.ir_reader_control.specs.Conditions.{conditional_read}
 use Rattle.ir_reader_values.specs.Operands.{value_read}
 use Rattle.ir_reader_values.proofs.Chains.{alike, chained}
@@ -36,6 +39,7 @@ labels_behind a ts = by (read (after_mark Comma target) ts)
 abbrev i1 : Lexeme
 i1 = record { kind = Word; text = codes "i1" }
 
+-- a branch whose first token is `i1` is read part after part
 pub conditional_is : (defs : Definitions) (ts : List Lexeme) → read (branch defs) (i1 ∷ ts) ≡ conditional_read defs ts
 unfolding branch target
 conditional_is defs ts =

@@ -14,7 +14,11 @@ use Rattle.ir_types.specs.Kinds as kinds
 use Rattle.ir_types.specs.Offsets.{Definitions}
 use Rattle.ir_types.specs.Tree.{OperandTree, InstTree}
 use Rattle.ir_types.specs.Written.{number_at}
-use Rattle.ir_types.specs.Grammar.{WrittenValue, operand_at, entries_at, cases_at, index_fits, if_wide, bare_inst, width, value_type, value, index_value, after_mark, between, target, commas, local_name, entry_of_phi, phi_tree, phi, case_of_switch, switch_tree, switch}
+use Rattle.text_forms.specs.Combined.{after_mark, between, commas}
+use Rattle.ir_types.specs.TypeForms.{width, value_type, local_name}
+use Rattle.ir_types.specs.ValueForms.{WrittenValue, operand_at, index_fits, value}
+use Rattle.ir_types.specs.InstParts.{index_value, target}
+use Rattle.ir_types.specs.InstForms.{entries_at, cases_at, if_wide, bare_inst, entry_of_phi, phi_tree, phi, case_of_switch, switch_tree, switch}
 use Rattle.ir_reader_values.specs.Split.{split_each, gathered}
 use Rattle.ir_reader_control.specs.Labelled.{entry_at, entry_read, phi_read, case_at, cases_behind, cases_read, switch_read}
 use Rattle.ir_reader_values.proofs.Chains.{alike, first_apart, chained, then_made, completed_alike, between_is}
@@ -54,6 +58,7 @@ entries_made defs t es = by (entries_at defs t es) ∙ ap (λ (o : Option (List 
     by None = refl
     by (Some args) = refl
 
+-- a phi is read part after part
 pub phi_is : (defs : Definitions) (ts : List Lexeme) → read (phi defs) ts ≡ phi_read defs ts
 unfolding phi
 phi_is defs ts =
@@ -76,6 +81,7 @@ entry_parts defs t ts = chained (operand_at defs t) with_label value (after_mark
 abbrev before_bracket : Option ((OperandTree × Name) × List Lexeme) → Option ((OperandTree × Name) × List Lexeme)
 before_bracket r = r >>= λ x. read (mark RightBracket) x.1 >>= λ e. Some (x.0, e.1)
 
+-- an entry of a phi is read and completed part after part
 pub entry_is : (defs : Definitions) (t : Ty) (ts : List Lexeme) → completed (entry_at defs t) (read entry_of_phi ts) ≡ entry_read defs t ts
 unfolding entry_of_phi
 entry_is defs t ts =
@@ -189,6 +195,7 @@ head_of v o = o >>= λ l. Some ((v, l.0), l.1)
 abbrev behind_head : (ℕ × OperandTree) × Name → List Lexeme → Option (InstTree × List Lexeme)
 behind_head h ts = read (mark LeftBracket) ts >>= λ o. cases_read h.0.0 (h.1 ∷ []) o.1 >>= λ c. read (mark RightBracket) c.1 >>= λ e. Some (switch_of h.0 c.0, e.1)
 
+-- a switch is read part after part
 pub switch_is : (defs : Definitions) (ts : List Lexeme) → read (switch defs) ts ≡ switch_read defs ts
 unfolding switch
 switch_is defs ts =

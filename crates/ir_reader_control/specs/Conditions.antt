@@ -7,7 +7,9 @@ use Rattle.ir_types.specs.declared.inst.Ty.TheVariants.{Int, Void}
 use Rattle.ir_types.specs.Kinds.{Branch}
 use Rattle.ir_types.specs.Offsets.{Definitions}
 use Rattle.ir_types.specs.Tree.{InstTree}
-use Rattle.ir_types.specs.Grammar.{bare_inst, after_mark, target}
+use Rattle.text_forms.specs.Combined.{after_mark}
+use Rattle.ir_types.specs.InstParts.{target}
+use Rattle.ir_types.specs.InstForms.{bare_inst}
 use Rattle.ir_reader_values.specs.Operands.{value_read}
 
 -- V, label %name, label %name

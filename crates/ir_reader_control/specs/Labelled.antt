@@ -15,7 +15,11 @@ use Rattle.ir_types.specs.declared.inst.Operand.{Operand}
 use Rattle.ir_types.specs.Offsets.{Definitions}
 use Rattle.ir_types.specs.Tree.{OperandTree, InstTree}
 use Rattle.ir_types.specs.Written.{number_at}
-use Rattle.ir_types.specs.Grammar.{WrittenValue, operand_at, index_fits, if_wide, bare_inst, value_type, index_value, after_mark, target, commas, local_name, entry_of_phi, case_of_switch}
+use Rattle.text_forms.specs.Combined.{after_mark, commas}
+use Rattle.ir_types.specs.TypeForms.{value_type, local_name}
+use Rattle.ir_types.specs.ValueForms.{WrittenValue, operand_at, index_fits}
+use Rattle.ir_types.specs.InstParts.{index_value, target}
+use Rattle.ir_types.specs.InstForms.{if_wide, bare_inst, entry_of_phi, case_of_switch}
 use Rattle.ir_reader_values.specs.declared.scope.Scope.{Scope}
 use Rattle.ir_reader_values.specs.Seen.{name_seen, operand_seen}
 use Rattle.ir_reader_values.specs.View.{typed_in}

@@ -1,13 +1,14 @@
 // Terminators, without the words before them.
 
-ghost use Rattle.std.specs.Prelude.{◌≡◌, ◌∷◌, [], ◌≤◌, List, map, IfOk};
+ghost use Rattle.std.specs.Prelude.{◌≡◌, ◌∷◌, [], ◌≤◌, List, map};
 ghost use Rattle.text_forms.specs.declared.TokenKind.TheVariants.{Comma};
 ghost use Rattle.text_forms.specs.Form.{mapped};
-ghost use Rattle.text_forms.specs.Reading.{read};
 ghost use Rattle.text_forms.specs.Gives.{Gives, left};
-ghost use Rattle.ir_types.specs.Grammar.{after_mark, target, branch, return_tree, typed_value, ret};
+ghost use Rattle.text_forms.specs.Combined.{after_mark};
+ghost use Rattle.ir_types.specs.InstParts.{target, typed_value};
+ghost use Rattle.ir_types.specs.InstForms.{branch, return_tree, ret};
 ghost use Rattle.ir_reader_control.specs.Conditions.{conditional_read};
-ghost use Rattle.ir_reader_values.specs.Seen.{name_seen, operand_seen, inst_seen, definitions, Widens, Stays, InstUses};
+ghost use Rattle.ir_reader_values.specs.Seen.{name_seen, operand_seen, inst_seen, definitions, Widens, Stays, InstAdds, ReadsAs, ReadsOver};
 
 use ir_making::{applied, bare, one_label, one_operand, two_labels};
 use ir_reader_types::begins_type;
@@ -18,14 +19,14 @@ use std::alloc::Global;
 use text_forms::{Cursor, SyntaxFault, TokenKind};
 
 /// label %name.
-#[tactic(auto, unfolding(ir_types::specs::Grammar::target))]
+#[tactic(auto, unfolding(ir_types::specs::InstParts::target))]
 fn target<'t>(
     alloc: Global,
     tokens: Cursor<'t>,
     scope: &mut Scope,
 ) -> Result<(ValueId, Cursor<'t>), SyntaxFault>
     ensures grows { Widens scope.old scope.new }
-    ensures reads { Gives (λ x. (name_seen scope.new x.0, left x.1)) result (read target (left tokens.entry)) }
+    ensures reads { ReadsAs (name_seen scope.new) result target tokens.entry }
     ensures stays { Stays name_seen scope.new result }
     ensures tables { scope.new.tables ≡ scope.old.tables }
 {
@@ -42,7 +43,7 @@ pub fn comma_target<'t>(
     scope: &mut Scope,
 ) -> Result<(ValueId, Cursor<'t>), SyntaxFault>
     ensures grows { Widens scope.old scope.new }
-    ensures reads { Gives (λ x. (name_seen scope.new x.0, left x.1)) result (read (after_mark Comma target) (left tokens.entry)) }
+    ensures reads { ReadsAs (name_seen scope.new) result (after_mark Comma target) tokens.entry }
     ensures stays { Stays name_seen scope.new result }
     ensures tables { scope.new.tables ≡ scope.old.tables }
 {
@@ -59,7 +60,7 @@ fn conditional<'t>(
     ensures grows { Widens scope.old scope.new }
     ensures reads { Gives (λ x. (inst_seen scope.new x.0, left x.1)) result (conditional_read (definitions scope.old) (left tokens.entry)) }
     ensures stays { Stays inst_seen scope.new result }
-    ensures uses { IfOk result (λ x. InstUses scope.old (inst_seen scope.new x.0) scope.new) }
+    ensures uses { InstAdds scope.old result scope.new }
 {
     let (condition, rest) = value_at(alloc, Ty::Int(1), tokens, scope)?;
     let (then, rest) = comma_target(alloc, rest, scope)?;
@@ -70,16 +71,16 @@ fn conditional<'t>(
 }
 
 /// label %name | i1 V, label %name, label %name.
-#[tactic(auto, unfolding(ir_types::specs::Grammar::branch, ir_types::specs::Grammar::target))]
+#[tactic(auto, unfolding(ir_types::specs::InstForms::branch, ir_types::specs::InstParts::target))]
 pub fn branch<'t>(
     alloc: Global,
     tokens: Cursor<'t>,
     scope: &mut Scope,
 ) -> Result<(Inst, Cursor<'t>), SyntaxFault>
     ensures grows { Widens scope.old scope.new }
-    ensures reads { Gives (λ x. (inst_seen scope.new x.0, left x.1)) result (read (branch (definitions scope.old)) (left tokens.entry)) }
+    ensures reads { ReadsOver inst_seen branch tokens.entry scope.old result scope.new }
     ensures stays { Stays inst_seen scope.new result }
-    ensures uses { IfOk result (λ x. InstUses scope.old (inst_seen scope.new x.0) scope.new) }
+    ensures uses { InstAdds scope.old result scope.new }
 {
     if let Some(rest) = tokens.behind_word(b"i1") {
         let (inst, rest) = conditional(alloc, rest, scope)?;
@@ -98,9 +99,9 @@ fn returned_value<'t>(
     scope: &mut Scope,
 ) -> Result<(Inst, Cursor<'t>), SyntaxFault>
     ensures grows { Widens scope.old scope.new }
-    ensures reads { Gives (λ x. (inst_seen scope.new x.0, left x.1)) result (read (mapped return_tree (typed_value (definitions scope.old))) (left tokens.entry)) }
+    ensures reads { ReadsAs (inst_seen scope.new) result (mapped return_tree (typed_value (definitions scope.old))) tokens.entry }
     ensures stays { Stays inst_seen scope.new result }
-    ensures uses { IfOk result (λ x. InstUses scope.old (inst_seen scope.new x.0) scope.new) }
+    ensures uses { InstAdds scope.old result scope.new }
 {
     let ((ty, value), rest) = typed_value(alloc, tokens, scope)?;
     let args = one_operand(alloc, value)?;
@@ -108,16 +109,16 @@ fn returned_value<'t>(
 }
 
 /// T V | void.
-#[tactic(auto, unfolding(ir_types::specs::Grammar::ret, ir_types::specs::Grammar::typed_value, ir_types::specs::Grammar::value_type, ir_types::specs::Grammar::vector_type, ir_types::specs::Grammar::width))]
+#[tactic(auto, unfolding(ir_types::specs::InstForms::ret, ir_types::specs::InstParts::typed_value, ir_types::specs::TypeForms::value_type, ir_types::specs::TypeForms::vector_type, ir_types::specs::TypeForms::width))]
 pub fn give_back<'t>(
     alloc: Global,
     tokens: Cursor<'t>,
     scope: &mut Scope,
 ) -> Result<(Inst, Cursor<'t>), SyntaxFault>
     ensures grows { Widens scope.old scope.new }
-    ensures reads { Gives (λ x. (inst_seen scope.new x.0, left x.1)) result (read (ret (definitions scope.old)) (left tokens.entry)) }
+    ensures reads { ReadsOver inst_seen ret tokens.entry scope.old result scope.new }
     ensures stays { Stays inst_seen scope.new result }
-    ensures uses { IfOk result (λ x. InstUses scope.old (inst_seen scope.new x.0) scope.new) }
+    ensures uses { InstAdds scope.old result scope.new }
 {
     if begins_type(tokens) {
         return returned_value(alloc, tokens, scope);

@@ -1,15 +1,16 @@
 // The entries of a phi, and the phi without its word.
 
-ghost use Rattle.std.specs.Prelude.{◌≡◌, List, map, IfOk, ◌∷◌, []};
+ghost use Rattle.std.specs.Prelude.{◌≡◌, List, IfOk};
 ghost use Rattle.text_forms.specs.declared.TokenKind.TheVariants.{Comma};
 ghost use Rattle.text_forms.specs.Reading.{read, opens};
 ghost use Rattle.text_forms.specs.Walk.{completed};
 ghost use Rattle.text_forms.specs.Gives.{Gives, left};
 ghost use Rattle.ir_types.specs.Types.{IsType};
-ghost use Rattle.ir_types.specs.Grammar.{entry_of_phi, commas, marked, phi};
+ghost use Rattle.text_forms.specs.Combined.{commas, marked};
+ghost use Rattle.ir_types.specs.InstForms.{entry_of_phi, phi};
 ghost use Rattle.ir_reader_values.specs.Split.{split_each};
 ghost use Rattle.ir_reader_control.specs.Labelled.{entry_at, entry_in, entries_in};
-ghost use Rattle.ir_reader_values.specs.Seen.{inst_seen, definitions, Widens, Stays, OperandsUse, InstUses, operand_seen};
+ghost use Rattle.ir_reader_values.specs.Seen.{inst_seen, definitions, Widens, Stays, InstAdds, OperandAdds, OperandsAdd, ReadsOver};
 
 use ir_making::{bare, one_label, one_operand};
 use ir_reader_types::value_type;
@@ -30,7 +31,7 @@ fn entry<'t>(
     ensures grows { Widens scope.old scope.new }
     ensures reads { Gives (λ x. (entry_in scope.new x.0, left x.1)) result (completed (entry_at (definitions scope.old) ty) (read entry_of_phi (left tokens.entry))) }
     ensures stays { Stays entry_in scope.new result }
-    ensures uses { IfOk result (λ x. OperandsUse scope.old (operand_seen scope.new x.0.0 ∷ []) scope.new) }
+    ensures uses { IfOk result (λ x. OperandAdds scope.old x.0.0 scope.new) }
 {
     let rest = tokens.mark(TokenKind::LeftBracket)?;
     let (value, rest) = value_at(alloc, ty, rest, scope)?;
@@ -50,7 +51,7 @@ fn comma_entry<'t>(
     ensures grows { Widens scope.old scope.new }
     ensures reads { Gives (λ x. (entry_in scope.new x.0, left x.1)) result (completed (entry_at (definitions scope.old) ty) (read (marked Comma entry_of_phi) (left tokens.entry))) }
     ensures stays { Stays entry_in scope.new result }
-    ensures uses { IfOk result (λ x. OperandsUse scope.old (operand_seen scope.new x.0.0 ∷ []) scope.new) }
+    ensures uses { IfOk result (λ x. OperandAdds scope.old x.0.0 scope.new) }
 {
     let rest = tokens.mark(TokenKind::Comma)?;
     let (found, rest) = entry(alloc, ty, rest, scope)?;
@@ -58,7 +59,7 @@ fn comma_entry<'t>(
 }
 
 /// Whether a comma and an entry stand next.
-#[tactic(auto, unfolding(ir_types::specs::Grammar::entry_of_phi))]
+#[tactic(auto, unfolding(ir_types::specs::InstForms::entry_of_phi))]
 fn another(tokens: Cursor<'_>) -> bool
     ensures { result ≡ opens (marked Comma entry_of_phi) (left tokens.entry) }
 {
@@ -79,7 +80,7 @@ fn entries<'t>(
     ensures grows { Widens scope.old scope.new }
     ensures reads { Gives (λ x. (entries_in scope.new x.0, left x.1)) result (completed (split_each (entry_at (definitions scope.old) ty)) (read (commas entry_of_phi) (left tokens.entry))) }
     ensures stays { Stays entries_in scope.new result }
-    ensures uses { IfOk result (λ x. OperandsUse scope.old (map (operand_seen scope.new) x.0.0) scope.new) }
+    ensures uses { IfOk result (λ x. OperandsAdd scope.old x.0.0 scope.new) }
 {
     let ((operand, label), mut rest) = entry(alloc, ty, tokens, scope)?;
     let mut operands = one_operand(alloc, operand)?;
@@ -101,9 +102,9 @@ pub fn phi<'t>(
     scope: &mut Scope,
 ) -> Result<(Inst, Cursor<'t>), SyntaxFault>
     ensures grows { Widens scope.old scope.new }
-    ensures reads { Gives (λ x. (inst_seen scope.new x.0, left x.1)) result (read (phi (definitions scope.old)) (left tokens.entry)) }
+    ensures reads { ReadsOver inst_seen phi tokens.entry scope.old result scope.new }
     ensures stays { Stays inst_seen scope.new result }
-    ensures uses { IfOk result (λ x. InstUses scope.old (inst_seen scope.new x.0) scope.new) }
+    ensures uses { InstAdds scope.old result scope.new }
 {
     let (ty, rest) = value_type(tokens)?;
     let ((args, labels), rest) = entries(alloc, ty, rest, scope)?;

@@ -1,13 +1,13 @@
 // The cases of a switch, and the switch without its word.
 
-ghost use Rattle.std.specs.Prelude.{◌≡◌, ◌≤◌, List, map, IfOk, ◌∷◌, []};
+ghost use Rattle.std.specs.Prelude.{◌≡◌, ◌≤◌, List, map, IfOk};
 ghost use Rattle.text_forms.specs.Reading.{read, opens};
 ghost use Rattle.text_forms.specs.Walk.{completed};
 ghost use Rattle.text_forms.specs.Gives.{Gives, left};
 ghost use Rattle.ir_types.specs.Types.{IsOneOf, widths};
-ghost use Rattle.ir_types.specs.Grammar.{case_of_switch, switch};
+ghost use Rattle.ir_types.specs.InstForms.{case_of_switch, switch};
 ghost use Rattle.ir_reader_control.specs.Labelled.{labels_in, case_at, case_in, cases_in, cases_read, switch_head, head_in};
-ghost use Rattle.ir_reader_values.specs.Seen.{name_seen, inst_seen, definitions, Widens, AreSteady, Stays, OperandsUse, InstUses, operand_seen};
+ghost use Rattle.ir_reader_values.specs.Seen.{name_seen, inst_seen, Widens, AreSteady, Stays, InstAdds, OperandAdds, ReadsOver};
 
 use crate::branches::comma_target;
 use ir_making::{bare, one_label, one_operand};
@@ -19,7 +19,7 @@ use std::alloc::Global;
 use text_forms::{Cursor, SyntaxFault, TokenKind};
 
 /// iN number, label %name, where the width is this: the number, whether it is out of range, and the label.
-#[tactic(auto, unfolding(ir_types::specs::Grammar::case_of_switch))]
+#[tactic(auto, unfolding(ir_types::specs::InstForms::case_of_switch))]
 fn case<'t>(
     alloc: Global,
     bits: u32,
@@ -44,7 +44,7 @@ fn case<'t>(
 }
 
 /// Whether a case stands next.
-#[tactic(auto, unfolding(ir_types::specs::Grammar::case_of_switch, ir_types::specs::Grammar::width))]
+#[tactic(auto, unfolding(ir_types::specs::InstForms::case_of_switch, ir_types::specs::TypeForms::width))]
 fn begins_case(tokens: Cursor<'_>) -> bool
     ensures { result ≡ opens case_of_switch (left tokens.entry) }
 {
@@ -87,10 +87,10 @@ fn head<'t>(
     scope: &mut Scope,
 ) -> Result<(((u32, Operand), ValueId), Cursor<'t>), SyntaxFault>
     ensures grows { Widens scope.old scope.new }
-    ensures reads { Gives (λ x. (head_in scope.new x.0, left x.1)) result (read (switch_head (definitions scope.old)) (left tokens.entry)) }
+    ensures reads { ReadsOver head_in switch_head tokens.entry scope.old result scope.new }
     ensures stays { Stays head_in scope.new result }
     ensures written { IfOk result (λ x. IsOneOf widths x.0.0.0) }
-    ensures uses { IfOk result (λ x. OperandsUse scope.old (operand_seen scope.new x.0.0.1 ∷ []) scope.new) }
+    ensures uses { IfOk result (λ x. OperandAdds scope.old x.0.0.1 scope.new) }
 {
     let (value, rest) = index_value(alloc, tokens, scope)?;
     let (default, rest) = comma_target(alloc, rest, scope)?;
@@ -105,9 +105,9 @@ pub fn switch<'t>(
     scope: &mut Scope,
 ) -> Result<(Inst, Cursor<'t>), SyntaxFault>
     ensures grows { Widens scope.old scope.new }
-    ensures reads { Gives (λ x. (inst_seen scope.new x.0, left x.1)) result (read (switch (definitions scope.old)) (left tokens.entry)) }
+    ensures reads { ReadsOver inst_seen switch tokens.entry scope.old result scope.new }
     ensures stays { Stays inst_seen scope.new result }
-    ensures uses { IfOk result (λ x. InstUses scope.old (inst_seen scope.new x.0) scope.new) }
+    ensures uses { InstAdds scope.old result scope.new }
 {
     let (((bits, value), default), rest) = head(alloc, tokens, scope)?;
     let rest = rest.mark(TokenKind::LeftBracket)?;

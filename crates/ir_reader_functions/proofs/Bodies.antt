@@ -9,7 +9,10 @@ use Rattle.text_forms.specs.Nested.{joined}
 use Rattle.ir_types.specs.declared.name.Name.{Name}
 use Rattle.ir_types.specs.declared.inst.Ty.{Ty}
 use Rattle.ir_types.specs.Tree.{KeptTexts, ParamTree, BlockTree, FunctionTree, WrittenParam, WrittenBlock}
-use Rattle.ir_types.specs.Grammar.{return_type, global_name, kept, parameter, dotted_parameters, list, some, block, between, declared_tree, declared_function, defined_tree, defined_function}
+use Rattle.text_forms.specs.Combined.{list, some, between}
+use Rattle.ir_types.specs.TypeForms.{return_type, global_name}
+use Rattle.ir_types.specs.Words.{kept}
+use Rattle.ir_types.specs.FunctionForms.{parameter, dotted_parameters, block, declared_tree, declared_function, defined_tree, defined_function}
 use Rattle.ir_types.specs.Numbered.{numbered_param, numbered_block, numbered_function}
 use Rattle.ir_types.specs.Offsets.{Definitions}
 use Rattle.ir_reader_values.specs.Between.{between_read}

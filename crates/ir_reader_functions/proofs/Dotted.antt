@@ -7,7 +7,11 @@ use Rattle.text_forms.specs.Reading.{◌>>=◌, opens, read, any_of, next_in, fi
 use Rattle.text_forms.specs.Gives.{mark}
 use Rattle.text_forms.specs.Walk.{walk, completed}
 use Rattle.ir_types.specs.Tree.{ParamTree, WrittenParam}
-use Rattle.ir_types.specs.Grammar.{parameter, value_type, vector_type, width, commas, marked, dotted, or_else, dotted_parameters}
+use Rattle.text_forms.specs.Combined.{commas, marked}
+use Rattle.ir_types.specs.TypeForms.{value_type, vector_type, width}
+use Rattle.ir_types.specs.FlagForms.{or_else}
+use Rattle.ir_types.specs.InstParts.{dotted}
+use Rattle.ir_types.specs.FunctionForms.{parameter, dotted_parameters}
 use Rattle.ir_types.specs.Numbered.{numbered_param}
 use Rattle.ir_reader_functions.specs.Functions.{numbered_dotted, some_dotted_read}
 use Rattle.ir_reader_functions.proofs.Lines.{or_nothing}

@@ -7,7 +7,10 @@ use Rattle.ir_types.specs.Tree.{WrittenParam}
 use Rattle.ir_types.specs.Offsets.{Definitions}
 use Rattle.ir_reader_ops.proofs.Beginnings.{fits_append}
 use Rattle.ir_reader_functions.proofs.Lines.{or_nothing}
-use Rattle.ir_types.specs.Grammar.{parameter, value_type, vector_type, width, commas, list, or_none, block, label, line, operation, terminator}
+use Rattle.text_forms.specs.Combined.{commas, list, or_none}
+use Rattle.ir_types.specs.TypeForms.{value_type, vector_type, width, label}
+use Rattle.ir_types.specs.InstForms.{operation, terminator}
+use Rattle.ir_types.specs.FunctionForms.{parameter, block, line}
 
 abbrev Params : Type 0
 Params = Option (List WrittenParam × List Lexeme)

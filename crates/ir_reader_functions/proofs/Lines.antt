@@ -10,7 +10,9 @@ use Rattle.ir_types.specs.declared.name.Name.{Name}
 use Rattle.ir_types.specs.declared.inst.Ty.{Ty}
 use Rattle.ir_types.specs.declared.inst.Ty.TheVariants.{Int, Ptr, Vector, Void}
 use Rattle.ir_types.specs.Tree.{InstTree}
-use Rattle.ir_types.specs.Grammar.{line, named_by, with_result, operation, operation_words, terminator, terminator_words}
+use Rattle.ir_types.specs.Words.{operation_words, terminator_words}
+use Rattle.ir_types.specs.InstForms.{operation, terminator}
+use Rattle.ir_types.specs.FunctionForms.{line, named_by, with_result}
 use Rattle.ir_types.specs.Numbered.{numbered_inst, named_result, next_after}
 use Rattle.ir_types.specs.Offsets.{Definitions}
 use Rattle.ir_reader_ops.specs.declared.inst.Place.{Place}

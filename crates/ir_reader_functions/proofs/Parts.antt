@@ -6,7 +6,9 @@ use Rattle.text_forms.specs.Walk.{walk, completed}
 use Rattle.ir_types.specs.declared.name.Name.{Name}
 use Rattle.ir_types.specs.Offsets.{Definitions}
 use Rattle.ir_types.specs.Tree.{InstTree, BlockTree}
-use Rattle.ir_types.specs.Grammar.{label, line, operation, terminator, block, block_tree}
+use Rattle.ir_types.specs.TypeForms.{label}
+use Rattle.ir_types.specs.InstForms.{operation, terminator}
+use Rattle.ir_types.specs.FunctionForms.{line, block, block_tree}
 use Rattle.ir_types.specs.Numbered.{named, numbered_inst, numbered_block}
 use Rattle.ir_reader_functions.specs.Blocks.{block_read}
 use Rattle.ir_reader_values.proofs.Chains.{alike, chained, then_made, completed_mapped, completed_alike}

@@ -11,7 +11,9 @@ use Rattle.ir_types.specs.Denotes.{block_in}
 use Rattle.ir_reader_types.specs.Tables.{tables_in}
 use Rattle.ir_reader_values.specs.declared.scope.Scope.{Scope}
 use Rattle.ir_reader_values.specs.Seen.{inst_seen}
-use Rattle.ir_types.specs.Grammar.{label, line, operation, terminator}
+use Rattle.ir_types.specs.TypeForms.{label}
+use Rattle.ir_types.specs.InstForms.{operation, terminator}
+use Rattle.ir_types.specs.FunctionForms.{line}
 use Rattle.ir_types.specs.Numbered.{named, numbered_inst}
 
 -- instructions, with the names in them

@@ -19,7 +19,10 @@ use Rattle.ir_reader_values.specs.declared.scope.Scope.{Scope}
 use Rattle.ir_reader_values.specs.Between.{between_read}
 use Rattle.ir_reader_memory.specs.Calls.{comma_dots}
 use Rattle.ir_reader_functions.specs.Blocks.{block_seen}
-use Rattle.ir_types.specs.Grammar.{return_type, global_name, kept, parameter, dotted_parameters, commas, list, some, block}
+use Rattle.text_forms.specs.Combined.{commas, list, some}
+use Rattle.ir_types.specs.TypeForms.{return_type, global_name}
+use Rattle.ir_types.specs.Words.{kept}
+use Rattle.ir_types.specs.FunctionForms.{parameter, dotted_parameters, block}
 use Rattle.ir_types.specs.Numbered.{numbered_param, numbered_block}
 
 -- parameters, with their names

@@ -10,7 +10,7 @@ use Rattle.ir_types.specs.declared.name.ValueId.{ValueId}
 use Rattle.ir_types.specs.Tree.{InstTree}
 use Rattle.ir_reader_values.specs.declared.scope.Scope.{Scope}
 use Rattle.ir_reader_values.specs.Seen.{name_seen}
-use Rattle.ir_types.specs.Grammar.{with_result, without_result}
+use Rattle.ir_types.specs.FunctionForms.{with_result, without_result}
 
 -- a token
 abbrev pub tok : TokenKind → List ℕ → Lexeme

@@ -6,7 +6,9 @@ ghost use Rattle.text_forms.specs.Form.{many, optional, pair};
 ghost use Rattle.text_forms.specs.Reading.{read};
 ghost use Rattle.text_forms.specs.Walk.{walk, completed};
 ghost use Rattle.text_forms.specs.Gives.{Gives, left};
-ghost use Rattle.ir_types.specs.Grammar.{label, operation, terminator, line as line_form, block};
+ghost use Rattle.ir_types.specs.TypeForms.{label};
+ghost use Rattle.ir_types.specs.InstForms.{operation, terminator};
+ghost use Rattle.ir_types.specs.FunctionForms.{line as line_form, block};
 ghost use Rattle.ir_types.specs.Numbered.{named, numbered_inst, numbered_block};
 ghost use Rattle.ir_reader_types.specs.Uses.{InstsUse};
 ghost use Rattle.ir_reader_values.specs.Seen.{name_seen, definitions, Widens, Stays};
@@ -52,7 +54,7 @@ fn operations<'t>(
 }
 
 /// The place of a block's name, which may be written before it.
-#[tactic(auto, unfolding(ir_types::specs::Grammar::label))]
+#[tactic(auto, unfolding(ir_types::specs::TypeForms::label))]
 fn block_name<'t>(
     alloc: Global,
     tokens: Cursor<'t>,

@@ -7,7 +7,7 @@ ghost use Rattle.text_forms.specs.Walk.{completed};
 ghost use Rattle.text_forms.specs.Gives.{Gives, left};
 ghost use Rattle.ir_types.specs.Offsets.{Definitions};
 ghost use Rattle.ir_types.specs.Written.{name_behind as written_name_behind};
-ghost use Rattle.ir_types.specs.Grammar.{line as line_form};
+ghost use Rattle.ir_types.specs.FunctionForms.{line as line_form};
 ghost use Rattle.ir_types.specs.Numbered.{numbered_inst};
 ghost use Rattle.ir_reader_values.specs.Seen.{inst_seen, definitions, Widens, Stays, InstUses};
 ghost use Rattle.ir_reader_ops.specs.Words.{form_at};

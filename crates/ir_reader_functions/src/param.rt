@@ -9,7 +9,9 @@ ghost use Rattle.text_forms.specs.Walk.{walk, completed};
 ghost use Rattle.text_forms.specs.Gives.{Gives, left};
 ghost use Rattle.ir_types.specs.declared.name.Name.{Name};
 ghost use Rattle.ir_types.specs.Denotes.{name_in, param_in};
-ghost use Rattle.ir_types.specs.Grammar.{local_name, parameter, dotted_parameters, commas, marked, list};
+ghost use Rattle.text_forms.specs.Combined.{commas, marked, list};
+ghost use Rattle.ir_types.specs.TypeForms.{local_name};
+ghost use Rattle.ir_types.specs.FunctionForms.{parameter, dotted_parameters};
 ghost use Rattle.ir_types.specs.Numbered.{named, numbered_param};
 ghost use Rattle.ir_reader_functions.specs.View.{StaysNamed};
 ghost use Rattle.ir_reader_functions.specs.Functions.{params_in, dotted_in, numbered_dotted, some_dotted_read};
@@ -22,7 +24,7 @@ use std::alloc::Global;
 use text_forms::{Cursor, SyntaxFault, TokenKind};
 
 /// The place of a parameter's name, which may be written behind what is kept.
-#[tactic(auto, unfolding(ir_types::specs::Grammar::local_name))]
+#[tactic(auto, unfolding(ir_types::specs::TypeForms::local_name))]
 fn param_name<'t>(
     alloc: Global,
     tokens: Cursor<'t>,
@@ -43,7 +45,7 @@ fn param_name<'t>(
 }
 
 /// T K [%name].
-#[tactic(auto, unfolding(ir_types::specs::Grammar::parameter))]
+#[tactic(auto, unfolding(ir_types::specs::FunctionForms::parameter))]
 fn param<'t>(
     alloc: Global,
     tokens: Cursor<'t>,
@@ -77,7 +79,7 @@ fn comma_param<'t>(
 }
 
 /// Whether a parameter stands next.
-#[tactic(auto, unfolding(ir_types::specs::Grammar::parameter, ir_types::specs::Grammar::value_type, ir_types::specs::Grammar::vector_type, ir_types::specs::Grammar::width))]
+#[tactic(auto, unfolding(ir_types::specs::FunctionForms::parameter, ir_types::specs::TypeForms::value_type, ir_types::specs::TypeForms::vector_type, ir_types::specs::TypeForms::width))]
 fn begins_param(tokens: Cursor<'_>) -> bool
     ensures { result ≡ opens parameter (left tokens.entry) }
 {
@@ -85,7 +87,7 @@ fn begins_param(tokens: Cursor<'_>) -> bool
 }
 
 /// Whether a comma and a parameter stand next.
-#[tactic(auto, unfolding(ir_types::specs::Grammar::parameter, ir_types::specs::Grammar::value_type, ir_types::specs::Grammar::vector_type, ir_types::specs::Grammar::width))]
+#[tactic(auto, unfolding(ir_types::specs::FunctionForms::parameter, ir_types::specs::TypeForms::value_type, ir_types::specs::TypeForms::vector_type, ir_types::specs::TypeForms::width))]
 fn another(tokens: Cursor<'_>) -> bool
     ensures { result ≡ opens (marked Comma parameter) (left tokens.entry) }
 {

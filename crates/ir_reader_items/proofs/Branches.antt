@@ -8,7 +8,9 @@ use Rattle.text_forms.specs.Form.{Lexeme, Form, kind_code, entry, mapped, by_wor
 use Rattle.text_forms.specs.Reading.{Terminal, mark_then, any_of, fits, fits_one, words_of, next_in, opens, read}
 use Rattle.ir_types.specs.TypeNodes.{TypeNode}
 use Rattle.ir_types.specs.Tree.{comdat_line, metadata_line}
-use Rattle.ir_types.specs.Grammar.{memory_type, item_words, comdat, metadata, type_definition, variable_definition}
+use Rattle.ir_types.specs.TypeForms.{memory_type}
+use Rattle.ir_types.specs.Words.{item_words}
+use Rattle.ir_types.specs.ItemForms.{comdat, metadata, type_definition, variable_definition}
 use Rattle.ir_types.specs.Skimmed.{as_it_is, skimmed_behind, skimmed_item}
 
 abbrev pub named : TokenKind → List Lexeme → Bool

@@ -6,7 +6,8 @@ use Rattle.text_forms.specs.Reading.{this, first, all_apart, opens, read, ◌>>=
 use Rattle.text_forms.proofs.Nested.{any_depth}
 use Rattle.text_forms.proofs.NestedDecides.{memory_takes}
 use Rattle.ir_types.specs.TypeNodes.{TypeNode}
-use Rattle.ir_types.specs.Grammar.{local_name, width, vector_type, value_type, memory_leaf, array_begin, type_parts, memory_type, word}
+use Rattle.text_forms.specs.Combined.{word}
+use Rattle.ir_types.specs.TypeForms.{local_name, width, vector_type, value_type, memory_leaf, array_begin, type_parts, memory_type}
 use Rattle.ir_types.proofs.Decides.{parts_decide}
 use Rattle.ir_reader_items.specs.Sources.{type_read, nodes_or_none}
 use Rattle.ir_reader_items.specs.Typed.{defined_read}

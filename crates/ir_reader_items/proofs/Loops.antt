@@ -11,7 +11,7 @@ use Rattle.text_forms.proofs.Many.{shorter}
 use Rattle.text_forms.proofs.Exact.{some_is}
 use Rattle.ir_types.specs.declared.opcode.Extra.{Extra}
 use Rattle.ir_types.specs.Tree.{KeptTexts}
-use Rattle.ir_types.specs.Grammar.{extra, kept_once}
+use Rattle.ir_types.specs.ItemForms.{extra, kept_once}
 use Rattle.ir_reader_items.specs.declared.extras.Seen.{Seen}
 use Rattle.ir_reader_items.specs.Extras.{with_extra, nothing_seen, once_more, kept_onto}
 use Rattle.ir_reader_items.proofs.Once.{kept_walk, joined_texts}

@@ -9,7 +9,7 @@ use Rattle.text_forms.specs.Walk.{walk}
 use Rattle.ir_types.specs.declared.opcode.Extra.{Extra}
 use Rattle.ir_types.specs.declared.opcode.Extra.TheVariants.{Section, Comdat, Alignment, Attachment}
 use Rattle.ir_types.specs.Tree.{KeptTexts}
-use Rattle.ir_types.specs.Grammar.{count_of, is_section, is_comdat, is_alignment, kept_once}
+use Rattle.ir_types.specs.ItemForms.{count_of, is_section, is_comdat, is_alignment, kept_once}
 use Rattle.ir_reader_items.specs.declared.extras.Seen.{Seen}
 use Rattle.ir_reader_items.specs.Extras.{nothing_seen, once_more}
 

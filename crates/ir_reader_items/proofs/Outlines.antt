@@ -11,7 +11,8 @@ use Rattle.text_forms.proofs.Exact.{some_is}
 use Rattle.ir_types.specs.declared.name.Name.{Name}
 use Rattle.ir_types.specs.declared.inst.Ty.{Ty}
 use Rattle.ir_types.specs.Tree.{KeptTexts}
-use Rattle.ir_types.specs.Grammar.{return_type, global_name, kept}
+use Rattle.ir_types.specs.TypeForms.{return_type, global_name}
+use Rattle.ir_types.specs.Words.{kept}
 use Rattle.ir_types.specs.Skimmed.{Outline, declared_outline, skimmed_declaration, defined_outline, skimmed_definition}
 use Rattle.kept_runs.specs.Passed.{passed}
 use Rattle.ir_reader_values.proofs.Chains.{alike, first_apart}

@@ -11,7 +11,10 @@ use Rattle.ir_types.specs.declared.name.Name.{Name}
 use Rattle.ir_types.specs.TypeNodes.{TypeNode}
 use Rattle.ir_types.specs.Tree.{KeptTexts, VariableTree, Item, WrittenFunction, type_item, variable_item}
 use Rattle.ir_types.specs.Written.{name_behind}
-use Rattle.ir_types.specs.Grammar.{memory_type, after_mark, behind, kept, variable_word, behind_type, named_type, named_variable, type_definition, variable_definition}
+use Rattle.text_forms.specs.Combined.{after_mark, behind}
+use Rattle.ir_types.specs.TypeForms.{memory_type}
+use Rattle.ir_types.specs.Words.{kept}
+use Rattle.ir_types.specs.ItemForms.{variable_word, behind_type, named_type, named_variable, type_definition, variable_definition}
 use Rattle.ir_types.specs.Skimmed.{Skimmed, as_it_is}
 use Rattle.ir_reader_items.specs.Sources.{type_read}
 use Rattle.ir_reader_items.specs.Typed.{defined_read, definition_read, variable_read}

@@ -3,3 +3,4 @@ pub mod Parts
 pub mod Typed
 pub mod Passed
 pub mod Extras
+pub mod Lines

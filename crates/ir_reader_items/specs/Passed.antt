@@ -1,18 +1,24 @@
 -- Functions are passed over part after part, and only their names are kept.
-use Rattle.std.specs.Prelude.{List, Option, Some}
+use Rattle.std.specs.Prelude.{Bool, List, Option, Some}
 use Rattle.text_forms.specs.declared.TokenKind.TheVariants.{LeftParen, RightParen, LeftBrace, RightBrace}
 use Rattle.text_forms.specs.Form.{Lexeme, enclosed}
 use Rattle.text_forms.specs.Reading.{◌>>=◌, read}
 use Rattle.text_forms.specs.Kept.{attachments}
 use Rattle.text_forms.specs.Nested.{joined}
 use Rattle.ir_types.specs.declared.name.Name.{Name}
-use Rattle.ir_types.specs.Grammar.{return_type, global_name, kept}
+use Rattle.ir_types.specs.TypeForms.{return_type, global_name}
+use Rattle.ir_types.specs.Words.{kept}
 use Rattle.ir_types.specs.Skimmed.{Outline}
 use Rattle.kept_runs.specs.Passed.{passed}
+use Rattle.ir_reader_items.specs.Sources.{outline_there}
 
 -- the name of the outline that is read
 abbrev pub outline_name : Option (Outline × List Lexeme) → Option (Name × List Lexeme)
 outline_name r = r >>= λ x. Some (x.0.name, x.1)
+
+-- the name of the function, defined or only declared, with whose parts the tokens begin
+abbrev pub name_there : Bool → List Lexeme → Option (Name × List Lexeme)
+name_there defined ts = outline_name (outline_there defined ts)
 
 -- R @name ( .. )
 abbrev pub signature_passed : List Lexeme → Option (Name × List Lexeme)

@@ -5,7 +5,7 @@ use Rattle.text_forms.specs.Reading.{read}
 use Rattle.ir_types.specs.declared.name.Name.TheVariants.{Number}
 use Rattle.ir_types.specs.declared.inst.Ty.TheVariants.{Void}
 use Rattle.ir_types.specs.TypeNodes.{TypeNode}
-use Rattle.ir_types.specs.Grammar.{memory_type}
+use Rattle.ir_types.specs.TypeForms.{memory_type}
 use Rattle.ir_types.specs.Skimmed.{Outline, skimmed_declaration, skimmed_definition}
 
 -- ---- memory types

@@ -7,7 +7,9 @@ use Rattle.text_forms.specs.Reading.{◌>>=◌, this, next_in, read}
 use Rattle.ir_types.specs.TypeNodes.{TypeNode}
 use Rattle.ir_types.specs.Tree.{Item, type_item, variable_item}
 use Rattle.ir_types.specs.Written.{name_behind}
-use Rattle.ir_types.specs.Grammar.{word, kept, variable_word, behind_type}
+use Rattle.text_forms.specs.Combined.{word}
+use Rattle.ir_types.specs.Words.{kept}
+use Rattle.ir_types.specs.ItemForms.{variable_word, behind_type}
 use Rattle.ir_types.specs.Skimmed.{Skimmed}
 use Rattle.ir_reader_items.specs.Sources.{type_read}
 

@@ -1,12 +1,10 @@
 // Definitions of names of types.
 
-ghost use Rattle.std.specs.Prelude.{◌≡◌, ◌≤◌, ℕ, length};
 ghost use Rattle.text_forms.specs.Form.{mapped};
-ghost use Rattle.text_forms.specs.Gives.{Gives, left};
-ghost use Rattle.text_forms.specs.Reading.{read};
-ghost use Rattle.ir_types.specs.Grammar.{memory_type, type_definition};
+ghost use Rattle.text_forms.specs.Gives.{left};
+ghost use Rattle.ir_types.specs.ItemForms.{type_definition};
 ghost use Rattle.ir_types.specs.Skimmed.{as_it_is};
-ghost use Rattle.ir_reader_items.specs.Parts.{item_of};
+ghost use Rattle.ir_reader_items.specs.Parts.{GivesItem, GivesItemOf};
 ghost use Rattle.ir_reader_items.specs.Typed.{definition_read};
 
 use crate::part::{Definition, Part};
@@ -17,7 +15,7 @@ use text_forms::{Cursor, SyntaxFault, TokenKind};
 
 /// The parts of a definition.
 fn parts<'t>(alloc: Global, tokens: Cursor<'t>) -> Result<(Part<'t>, Cursor<'t>), SyntaxFault>
-    ensures { Gives (λ x. (item_of x.0, left x.1)) result (definition_read (left tokens.entry)) }
+    ensures { GivesItem result (definition_read (left tokens.entry)) }
 {
     let (token, rest) = tokens.one(TokenKind::Local)?;
     let rest = rest.mark(TokenKind::Equal)?;
@@ -34,7 +32,7 @@ pub fn definition<'t>(
     alloc: Global,
     tokens: Cursor<'t>,
 ) -> Result<(Part<'t>, Cursor<'t>), SyntaxFault>
-    ensures { (d : ℕ) → length (left tokens.entry) ≤ d → Gives (λ x. (item_of x.0, left x.1)) result (read (mapped as_it_is (type_definition (memory_type d))) (left tokens.entry)) }
+    ensures { GivesItemOf (λ m. mapped as_it_is (type_definition m)) (left tokens.entry) result }
 {
     parts(alloc, tokens)
 }

@@ -1,16 +1,13 @@
 // What stands behind the type of a variable.
 
-ghost use Rattle.std.specs.Prelude.{◌≡◌, codes};
-ghost use Rattle.text_forms.specs.declared.TokenKind.TheVariants.{LeftParen, RightParen, Quoted, Number, Word, Comdat};
-ghost use Rattle.text_forms.specs.Form.{made, many};
-ghost use Rattle.text_forms.specs.Gives.{Gives, left};
-ghost use Rattle.text_forms.specs.Kept.{kept_one, kept_token, kept_such, perhaps};
-ghost use Rattle.text_forms.specs.Machine.{behind};
-ghost use Rattle.text_forms.specs.Nested.{joined};
+ghost use Rattle.std.specs.Prelude.{◌≡◌};
+ghost use Rattle.text_forms.specs.Gives.{left};
 ghost use Rattle.text_forms.specs.Reading.{read, opens};
-ghost use Rattle.ir_types.specs.Grammar.{is_unsigned, extra_behind, extra, kept_once, initialiser_stops, behind_type};
+ghost use Rattle.text_forms.specs.Kept.{is_unsigned};
+ghost use Rattle.ir_types.specs.ItemForms.{extra_behind, extra, initialiser_stops, behind_type};
 ghost use Rattle.kept_runs.specs.Stopping.{stops_of};
-ghost use Rattle.ir_reader_items.specs.Extras.{with_extra, nothing_seen, kept_onto};
+ghost use Rattle.ir_reader_items.specs.Lines.{KeepsBehind, GivesPlainly};
+ghost use Rattle.ir_reader_items.specs.Extras.{with_extra, nothing_seen, section_kept, comdat_name_kept, comdat_kept, number_kept, alignment_kept, extras_kept, KeepsExtra};
 
 use ir_types::{Extra, Kept};
 use kept_runs::{Stops, keep, keep_attachment, keep_up_to, keep_word};
@@ -80,7 +77,7 @@ impl Seen {
 
 /// Keeps `section` and a string.
 fn keep_section<'t>(tokens: Cursor<'t>, texts: &mut Texts) -> Result<Cursor<'t>, SyntaxFault>
-    ensures { Gives (λ rest. (texts.new, left rest)) result (behind texts.old (read (joined (kept_token Word (codes "section")) (kept_one Quoted)) (left tokens.entry))) }
+    ensures { KeepsBehind texts.old texts.new result (read section_kept (left tokens.entry)) }
 {
     let rest = keep_word(tokens, b"section", texts)?;
     keep(rest, TokenKind::Quoted, texts)
@@ -88,7 +85,7 @@ fn keep_section<'t>(tokens: Cursor<'t>, texts: &mut Texts) -> Result<Cursor<'t>,
 
 /// Keeps a comdat's name in parentheses, or nothing.
 fn keep_comdat_name<'t>(tokens: Cursor<'t>, texts: &mut Texts) -> Result<Cursor<'t>, SyntaxFault>
-    ensures { Gives (λ rest. (texts.new, left rest)) result (behind texts.old (read (perhaps (joined (kept_one LeftParen) (joined (kept_one Comdat) (kept_one RightParen)))) (left tokens.entry))) }
+    ensures { KeepsBehind texts.old texts.new result (read comdat_name_kept (left tokens.entry)) }
 {
     if !tokens.is_next(TokenKind::LeftParen) {
         return Ok(tokens);
@@ -100,7 +97,7 @@ fn keep_comdat_name<'t>(tokens: Cursor<'t>, texts: &mut Texts) -> Result<Cursor<
 
 /// Keeps `comdat`, and a comdat's name in parentheses.
 fn keep_comdat<'t>(tokens: Cursor<'t>, texts: &mut Texts) -> Result<Cursor<'t>, SyntaxFault>
-    ensures { Gives (λ rest. (texts.new, left rest)) result (behind texts.old (read (joined (kept_token Word (codes "comdat")) (perhaps (joined (kept_one LeftParen) (joined (kept_one Comdat) (kept_one RightParen))))) (left tokens.entry))) }
+    ensures { KeepsBehind texts.old texts.new result (read comdat_kept (left tokens.entry)) }
 {
     let rest = keep_word(tokens, b"comdat", texts)?;
     keep_comdat_name(rest, texts)
@@ -118,7 +115,7 @@ fn is_unsigned(digits: &[u8]) -> bool
 
 /// Keeps a number without a sign.
 fn keep_unsigned<'t>(tokens: Cursor<'t>, texts: &mut Texts) -> Result<Cursor<'t>, SyntaxFault>
-    ensures { Gives (λ rest. (texts.new, left rest)) result (behind texts.old (read (kept_such Number is_unsigned) (left tokens.entry))) }
+    ensures { KeepsBehind texts.old texts.new result (read number_kept (left tokens.entry)) }
 {
     let (digits, rest) = tokens.one(TokenKind::Number)?;
     if !is_unsigned(digits) {
@@ -130,20 +127,20 @@ fn keep_unsigned<'t>(tokens: Cursor<'t>, texts: &mut Texts) -> Result<Cursor<'t>
 
 /// Keeps `align` and a number.
 fn keep_alignment<'t>(tokens: Cursor<'t>, texts: &mut Texts) -> Result<Cursor<'t>, SyntaxFault>
-    ensures { Gives (λ rest. (texts.new, left rest)) result (behind texts.old (read (joined (kept_token Word (codes "align")) (kept_such Number is_unsigned)) (left tokens.entry))) }
+    ensures { KeepsBehind texts.old texts.new result (read alignment_kept (left tokens.entry)) }
 {
     let rest = keep_word(tokens, b"align", texts)?;
     keep_unsigned(rest, texts)
 }
 
 /// Keeps what may stand behind a comma.
-#[tactic(auto, unfolding(ir_types::specs::Grammar::extra_behind))]
+#[tactic(auto, unfolding(ir_types::specs::ItemForms::extra_behind))]
 fn keep_behind_comma<'t>(
     alloc: Global,
     tokens: Cursor<'t>,
     texts: &mut Texts,
 ) -> Result<(Extra, Cursor<'t>), SyntaxFault>
-    ensures { Gives (λ x. ((x.0, texts.new), left x.1)) result (kept_onto texts.old (read extra_behind (left tokens.entry))) }
+    ensures { KeepsExtra texts.old texts.new result (read extra_behind (left tokens.entry)) }
 {
     if tokens.behind_word(b"section").is_some() {
         let rest = keep_section(tokens, texts)?;
@@ -167,14 +164,14 @@ fn keep_extra<'t>(
     tokens: Cursor<'t>,
     texts: &mut Texts,
 ) -> Result<(Extra, Cursor<'t>), SyntaxFault>
-    ensures { Gives (λ x. ((x.0, texts.new), left x.1)) result (kept_onto texts.old (read extra (left tokens.entry))) }
+    ensures { KeepsExtra texts.old texts.new result (read extra (left tokens.entry)) }
 {
     let rest = keep(tokens, TokenKind::Comma, texts)?;
     keep_behind_comma(alloc, rest, texts)
 }
 
 /// Whether what may stand behind a comma is next.
-#[tactic(auto, unfolding(ir_types::specs::Grammar::extra_behind, text_forms::specs::Kept::attachment))]
+#[tactic(auto, unfolding(ir_types::specs::ItemForms::extra_behind, text_forms::specs::Kept::attachment))]
 fn begins_behind_comma(tokens: Cursor<'_>) -> bool
     ensures { result ≡ opens extra_behind (left tokens.entry) }
 {
@@ -185,7 +182,7 @@ fn begins_behind_comma(tokens: Cursor<'_>) -> bool
 }
 
 /// Whether a comma and what may stand behind it are next.
-#[tactic(auto, unfolding(ir_types::specs::Grammar::extra_behind, text_forms::specs::Kept::attachment))]
+#[tactic(auto, unfolding(ir_types::specs::ItemForms::extra_behind, text_forms::specs::Kept::attachment))]
 fn begins_extra(tokens: Cursor<'_>) -> bool
     ensures { result ≡ opens extra (left tokens.entry) }
 {
@@ -201,7 +198,7 @@ fn keep_extras<'t>(
     tokens: Cursor<'t>,
     texts: &mut Texts,
 ) -> Result<Cursor<'t>, SyntaxFault>
-    ensures { Gives (λ rest. (texts.new, left rest)) result (behind texts.old (read (made kept_once (many extra)) (left tokens.entry))) }
+    ensures { KeepsBehind texts.old texts.new result (read extras_kept (left tokens.entry)) }
 {
     let mut seen = Seen::nothing();
     let mut rest = tokens;
@@ -217,7 +214,7 @@ fn keep_extras<'t>(
 }
 
 /// Where an initialiser ends.
-#[tactic(auto, unfolding(ir_types::specs::Grammar::initialiser_stops, ir_types::specs::Grammar::item_words))]
+#[tactic(auto, unfolding(ir_types::specs::ItemForms::initialiser_stops, ir_types::specs::Words::item_words))]
 fn initialiser_stops() -> Stops<'static>
     ensures { stops_of result ≡ initialiser_stops }
 {
@@ -229,12 +226,12 @@ fn initialiser_stops() -> Stops<'static>
 }
 
 /// The initialiser and what stands behind it.
-#[tactic(auto, unfolding(ir_types::specs::Grammar::behind_type))]
+#[tactic(auto, unfolding(ir_types::specs::ItemForms::behind_type))]
 pub fn kept_behind_type<'t>(
     alloc: Global,
     tokens: Cursor<'t>,
 ) -> Result<(Kept, Cursor<'t>), SyntaxFault>
-    ensures { Gives (λ x. (x.0, left x.1)) result (read behind_type (left tokens.entry)) }
+    ensures { GivesPlainly result (read behind_type (left tokens.entry)) }
 {
     let mut texts = Texts::new(alloc);
     let rest = keep_up_to(alloc, tokens, initialiser_stops(), &mut texts)?;

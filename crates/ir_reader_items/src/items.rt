@@ -1,14 +1,16 @@
 // Items of every kind.
 
-ghost use Rattle.std.specs.Prelude.{◌≡◌, ◌≤◌, ◌∷◌, [], ℕ, length};
+ghost use Rattle.std.specs.Prelude.{◌≡◌, ◌∷◌, [], ℕ};
 ghost use Rattle.text_forms.specs.declared.TokenKind.TheVariants.{Equal};
 ghost use Rattle.text_forms.specs.Form.{by_word, mapped};
-ghost use Rattle.text_forms.specs.Gives.{Gives, left};
+ghost use Rattle.text_forms.specs.Gives.{left};
 ghost use Rattle.text_forms.specs.Reading.{read, opens, next_in, mark_then, any_of};
 ghost use Rattle.ir_types.specs.Tree.{comdat_line, metadata_line};
-ghost use Rattle.ir_types.specs.Grammar.{memory_type, item_words, comdat, metadata};
+ghost use Rattle.ir_types.specs.TypeForms.{memory_type};
+ghost use Rattle.ir_types.specs.Words.{item_words};
+ghost use Rattle.ir_types.specs.ItemForms.{comdat, metadata};
 ghost use Rattle.ir_types.specs.Skimmed.{as_it_is, skimmed_behind, skimmed_item};
-ghost use Rattle.ir_reader_items.specs.Parts.{item_of};
+ghost use Rattle.ir_reader_items.specs.Parts.{GivesItem, GivesItemOf};
 
 use crate::definition::definition;
 use crate::lines::{attributes, comdat, metadata, source_filename, target};
@@ -54,13 +56,13 @@ pub fn begins_item(tokens: Cursor<'_>) -> bool
 }
 
 /// What is behind the word of an item.
-#[tactic(auto, unfolding(ir_types::specs::Grammar::target_line, ir_types::specs::Grammar::attribute_group))]
+#[tactic(auto, unfolding(ir_types::specs::ItemForms::target_line, ir_types::specs::ItemForms::attribute_group))]
 fn behind_word<'t>(
     alloc: Global,
     tokens: Cursor<'t>,
     word: ItemWord,
 ) -> Result<(Part<'t>, Cursor<'t>), SyntaxFault>
-    ensures { Gives (λ x. (item_of x.0, left x.1)) result (read (skimmed_behind word) (left tokens.entry)) }
+    ensures { GivesItem result (read (skimmed_behind word) (left tokens.entry)) }
 {
     match word {
         ItemWord::SourceFilename => {
@@ -88,7 +90,7 @@ fn behind_word<'t>(
 
 /// An item that begins with a word.
 fn with_word<'t>(alloc: Global, tokens: Cursor<'t>) -> Result<(Part<'t>, Cursor<'t>), SyntaxFault>
-    ensures { Gives (λ x. (item_of x.0, left x.1)) result (read (by_word item_words skimmed_behind) (left tokens.entry)) }
+    ensures { GivesItem result (read (by_word item_words skimmed_behind) (left tokens.entry)) }
 {
     let (text, rest) = tokens.one(TokenKind::Word)?;
     match item_word(text) {
@@ -99,7 +101,7 @@ fn with_word<'t>(alloc: Global, tokens: Cursor<'t>) -> Result<(Part<'t>, Cursor<
 
 /// A comdat.
 fn comdat_item<'t>(alloc: Global, tokens: Cursor<'t>) -> Result<(Part<'t>, Cursor<'t>), SyntaxFault>
-    ensures { Gives (λ x. (item_of x.0, left x.1)) result (read (mapped as_it_is (mapped comdat_line comdat)) (left tokens.entry)) }
+    ensures { GivesItem result (read (mapped as_it_is (mapped comdat_line comdat)) (left tokens.entry)) }
 {
     let (kept, rest) = comdat(alloc, tokens)?;
     Ok((Part::Comdat(kept), rest))
@@ -110,7 +112,7 @@ fn metadata_item<'t>(
     alloc: Global,
     tokens: Cursor<'t>,
 ) -> Result<(Part<'t>, Cursor<'t>), SyntaxFault>
-    ensures { Gives (λ x. (item_of x.0, left x.1)) result (read (mapped as_it_is (mapped metadata_line metadata)) (left tokens.entry)) }
+    ensures { GivesItem result (read (mapped as_it_is (mapped metadata_line metadata)) (left tokens.entry)) }
 {
     let (kept, rest) = metadata(alloc, tokens)?;
     Ok((Part::Metadata(kept), rest))
@@ -122,7 +124,7 @@ fn metadata_item<'t>(
 ///
 /// Where none stands next, with the place at which reading from left to right stops, or there is no room.
 pub fn item<'t>(alloc: Global, tokens: Cursor<'t>) -> Result<(Part<'t>, Cursor<'t>), SyntaxFault>
-    ensures { (d : ℕ) → length (left tokens.entry) ≤ d → Gives (λ x. (item_of x.0, left x.1)) result (read (skimmed_item (memory_type d)) (left tokens.entry)) }
+    ensures { GivesItemOf skimmed_item (left tokens.entry) result }
 {
     if begins_with_word(tokens) {
         return with_word(alloc, tokens);

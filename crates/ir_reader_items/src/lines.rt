@@ -1,13 +1,10 @@
 // Lines that are kept whole.
 
-ghost use Rattle.std.specs.Prelude.{◌∷◌, codes};
-ghost use Rattle.text_forms.specs.Form.{mapped, either};
-ghost use Rattle.text_forms.specs.Gives.{Gives, left};
-ghost use Rattle.text_forms.specs.Kept.{perhaps, kept_token};
-ghost use Rattle.text_forms.specs.Machine.{behind};
+ghost use Rattle.std.specs.Prelude.{codes};
+ghost use Rattle.text_forms.specs.Gives.{left};
 ghost use Rattle.text_forms.specs.Reading.{read};
-ghost use Rattle.text_forms.specs.declared.TokenKind.TheVariants.{Word};
-ghost use Rattle.ir_types.specs.Grammar.{equal_string, target_line, attribute_group, comdat, metadata};
+ghost use Rattle.ir_types.specs.ItemForms.{equal_string, target_line, attribute_group, comdat, metadata};
+ghost use Rattle.ir_reader_items.specs.Lines.{KeepsBehind, GivesPlainly, under, subject, distinct_kept};
 
 use ir_types::Kept;
 use kept_runs::{keep, keep_braces, keep_word};
@@ -17,7 +14,7 @@ use text_forms::{Cursor, SyntaxFault, TokenKind};
 
 /// Keeps `=` and a string.
 fn keep_equal_string<'t>(tokens: Cursor<'t>, texts: &mut Texts) -> Result<Cursor<'t>, SyntaxFault>
-    ensures { Gives (λ rest. (texts.new, left rest)) result (behind texts.old (read equal_string (left tokens.entry))) }
+    ensures { KeepsBehind texts.old texts.new result (read equal_string (left tokens.entry)) }
 {
     let rest = keep(tokens, TokenKind::Equal, texts)?;
     keep(rest, TokenKind::Quoted, texts)
@@ -28,7 +25,7 @@ pub fn source_filename<'t>(
     alloc: Global,
     tokens: Cursor<'t>,
 ) -> Result<(Kept, Cursor<'t>), SyntaxFault>
-    ensures { Gives (λ x. (x.0, left x.1)) result (read (mapped (λ xs. codes "source_filename" ∷ xs) equal_string) (left tokens.entry)) }
+    ensures { GivesPlainly result (read (under (codes "source_filename") equal_string) (left tokens.entry)) }
 {
     let mut texts = Texts::new(alloc);
     texts.push(b"source_filename")?;
@@ -38,7 +35,7 @@ pub fn source_filename<'t>(
 
 /// Keeps what a line about the target is about.
 fn keep_subject<'t>(tokens: Cursor<'t>, texts: &mut Texts) -> Result<Cursor<'t>, SyntaxFault>
-    ensures { Gives (λ rest. (texts.new, left rest)) result (behind texts.old (read (either (kept_token Word (codes "datalayout")) (kept_token Word (codes "triple"))) (left tokens.entry))) }
+    ensures { KeepsBehind texts.old texts.new result (read subject (left tokens.entry)) }
 {
     if tokens.behind_word(b"datalayout").is_some() {
         return keep_word(tokens, b"datalayout", texts);
@@ -47,9 +44,9 @@ fn keep_subject<'t>(tokens: Cursor<'t>, texts: &mut Texts) -> Result<Cursor<'t>,
 }
 
 /// A line about the target, behind its word.
-#[tactic(auto, unfolding(ir_types::specs::Grammar::target_line))]
+#[tactic(auto, unfolding(ir_types::specs::ItemForms::target_line))]
 pub fn target<'t>(alloc: Global, tokens: Cursor<'t>) -> Result<(Kept, Cursor<'t>), SyntaxFault>
-    ensures { Gives (λ x. (x.0, left x.1)) result (read (mapped (λ xs. codes "target" ∷ xs) target_line) (left tokens.entry)) }
+    ensures { GivesPlainly result (read (under (codes "target") target_line) (left tokens.entry)) }
 {
     let mut texts = Texts::new(alloc);
     texts.push(b"target")?;
@@ -59,9 +56,9 @@ pub fn target<'t>(alloc: Global, tokens: Cursor<'t>) -> Result<(Kept, Cursor<'t>
 }
 
 /// A group of attributes, behind its word.
-#[tactic(auto, unfolding(ir_types::specs::Grammar::attribute_group))]
+#[tactic(auto, unfolding(ir_types::specs::ItemForms::attribute_group))]
 pub fn attributes<'t>(alloc: Global, tokens: Cursor<'t>) -> Result<(Kept, Cursor<'t>), SyntaxFault>
-    ensures { Gives (λ x. (x.0, left x.1)) result (read (mapped (λ xs. codes "attributes" ∷ xs) attribute_group) (left tokens.entry)) }
+    ensures { GivesPlainly result (read (under (codes "attributes") attribute_group) (left tokens.entry)) }
 {
     let mut texts = Texts::new(alloc);
     texts.push(b"attributes")?;
@@ -72,9 +69,9 @@ pub fn attributes<'t>(alloc: Global, tokens: Cursor<'t>) -> Result<(Kept, Cursor
 }
 
 /// A comdat.
-#[tactic(auto, unfolding(ir_types::specs::Grammar::comdat))]
+#[tactic(auto, unfolding(ir_types::specs::ItemForms::comdat))]
 pub fn comdat<'t>(alloc: Global, tokens: Cursor<'t>) -> Result<(Kept, Cursor<'t>), SyntaxFault>
-    ensures { Gives (λ x. (x.0, left x.1)) result (read comdat (left tokens.entry)) }
+    ensures { GivesPlainly result (read comdat (left tokens.entry)) }
 {
     let mut texts = Texts::new(alloc);
     let rest = keep(tokens, TokenKind::Comdat, &mut texts)?;
@@ -86,7 +83,7 @@ pub fn comdat<'t>(alloc: Global, tokens: Cursor<'t>) -> Result<(Kept, Cursor<'t>
 
 /// Keeps the word `distinct`, or nothing.
 fn keep_distinct<'t>(tokens: Cursor<'t>, texts: &mut Texts) -> Result<Cursor<'t>, SyntaxFault>
-    ensures { Gives (λ rest. (texts.new, left rest)) result (behind texts.old (read (perhaps (kept_token Word (codes "distinct"))) (left tokens.entry))) }
+    ensures { KeepsBehind texts.old texts.new result (read distinct_kept (left tokens.entry)) }
 {
     if tokens.behind_word(b"distinct").is_some() {
         return keep_word(tokens, b"distinct", texts);
@@ -95,9 +92,9 @@ fn keep_distinct<'t>(tokens: Cursor<'t>, texts: &mut Texts) -> Result<Cursor<'t>
 }
 
 /// Metadata.
-#[tactic(auto, unfolding(ir_types::specs::Grammar::metadata))]
+#[tactic(auto, unfolding(ir_types::specs::ItemForms::metadata))]
 pub fn metadata<'t>(alloc: Global, tokens: Cursor<'t>) -> Result<(Kept, Cursor<'t>), SyntaxFault>
-    ensures { Gives (λ x. (x.0, left x.1)) result (read metadata (left tokens.entry)) }
+    ensures { GivesPlainly result (read metadata (left tokens.entry)) }
 {
     let mut texts = Texts::new(alloc);
     let rest = keep(tokens, TokenKind::Metadata, &mut texts)?;

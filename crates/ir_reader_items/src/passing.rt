@@ -1,15 +1,13 @@
 // What is passed over, and left to be read again.
 
-ghost use Rattle.std.specs.Prelude.{◌≡◌};
-ghost use Rattle.std.specs.Option.{option_map};
+ghost use Rattle.std.specs.Prelude.{◌≡◌, true, false};
 ghost use Rattle.text_forms.specs.Gives.{Gives, left};
-ghost use Rattle.text_forms.specs.Reading.{read};
-ghost use Rattle.ir_types.specs.Skimmed.{skimmed_declaration, skimmed_definition};
 ghost use Rattle.ir_limits.specs.Limits.{first_long};
 ghost use Rattle.ir_reader_types.specs.TypeTable.{names_of};
 ghost use Rattle.ir_reader_items.specs.Sources.{type_read, outline_there};
-ghost use Rattle.ir_reader_items.specs.Parts.{nodes_of, outline_of};
-ghost use Rattle.ir_reader_items.specs.Passed.{outline_name, signature_passed};
+ghost use Rattle.ir_reader_items.specs.Parts.{nodes_of, nodes_if_any, outline_of};
+ghost use Rattle.ir_reader_items.specs.Lines.{GivesPlainly};
+ghost use Rattle.ir_reader_items.specs.Passed.{name_there, signature_passed};
 ghost use Rattle.ir_reader_items.specs.Typed.{defined_read};
 
 use crate::source::{FunctionSource, TypeSource};
@@ -52,7 +50,7 @@ pub fn defined<'t>(
     alloc: Global,
     tokens: Cursor<'t>,
 ) -> Result<(Option<TypeSource<'t>>, Cursor<'t>), SyntaxFault>
-    ensures { Gives (λ x. (option_map nodes_of x.0, left x.1)) result (defined_read (left tokens.entry)) }
+    ensures { Gives (λ x. (nodes_if_any x.0, left x.1)) result (defined_read (left tokens.entry)) }
 {
     match tokens.behind_word(b"opaque") {
         Some(rest) => Ok((None, rest)),
@@ -65,7 +63,7 @@ pub fn defined<'t>(
 
 /// The name of a function, behind the type of what it returns, and what is behind its parameters.
 fn signature<'t>(alloc: Global, tokens: Cursor<'t>) -> Result<(Name, Cursor<'t>), SyntaxFault>
-    ensures { Gives (λ x. (x.0, left x.1)) result (signature_passed (left tokens.entry)) }
+    ensures { GivesPlainly result (signature_passed (left tokens.entry)) }
 {
     let (_, rest) = return_type(tokens)?;
     let (name, rest) = global(alloc, rest)?;
@@ -76,7 +74,7 @@ fn signature<'t>(alloc: Global, tokens: Cursor<'t>) -> Result<(Name, Cursor<'t>)
 /// The name of a defined function, and what is behind its body.
 #[tactic(auto, using(crate::proofs::Outlines::definition_is))]
 fn defined_outline<'t>(alloc: Global, tokens: Cursor<'t>) -> Result<(Name, Cursor<'t>), SyntaxFault>
-    ensures { Gives (λ x. (x.0, left x.1)) result (outline_name (read skimmed_definition (left tokens.entry))) }
+    ensures { GivesPlainly result (name_there true (left tokens.entry)) }
 {
     let (_, rest) = kept(alloc, tokens)?;
     let (name, rest) = signature(alloc, rest)?;
@@ -91,7 +89,7 @@ fn declared_outline<'t>(
     alloc: Global,
     tokens: Cursor<'t>,
 ) -> Result<(Name, Cursor<'t>), SyntaxFault>
-    ensures { Gives (λ x. (x.0, left x.1)) result (outline_name (read skimmed_declaration (left tokens.entry))) }
+    ensures { GivesPlainly result (name_there false (left tokens.entry)) }
 {
     let (_, rest) = kept_before(alloc, tokens)?;
     let (name, rest) = signature(alloc, rest)?;
@@ -105,7 +103,7 @@ fn outline<'t>(
     tokens: Cursor<'t>,
     defined: bool,
 ) -> Result<(Name, Cursor<'t>), SyntaxFault>
-    ensures { Gives (λ x. (x.0, left x.1)) result (outline_name (outline_there defined (left tokens.entry))) }
+    ensures { GivesPlainly result (name_there defined (left tokens.entry)) }
 {
     if defined {
         return defined_outline(alloc, tokens);

@@ -1,12 +1,12 @@
 // Variables.
 
-ghost use Rattle.std.specs.Prelude.{◌≡◌, ◌≤◌, ℕ, length};
 ghost use Rattle.text_forms.specs.Form.{mapped};
-ghost use Rattle.text_forms.specs.Gives.{Gives, left};
+ghost use Rattle.text_forms.specs.Gives.{left};
 ghost use Rattle.text_forms.specs.Reading.{read};
-ghost use Rattle.ir_types.specs.Grammar.{memory_type, variable_word, variable_definition};
+ghost use Rattle.ir_types.specs.ItemForms.{variable_word, variable_definition};
 ghost use Rattle.ir_types.specs.Skimmed.{as_it_is};
-ghost use Rattle.ir_reader_items.specs.Parts.{item_of};
+ghost use Rattle.ir_reader_items.specs.Parts.{GivesItem, GivesItemOf};
+ghost use Rattle.ir_reader_items.specs.Lines.{GivesPlainly};
 ghost use Rattle.ir_reader_items.specs.Typed.{variable_read};
 
 use crate::extras::kept_behind_type;
@@ -18,9 +18,9 @@ use std::alloc::Global;
 use text_forms::{Cursor, SyntaxFault, TokenKind};
 
 /// `global` or `constant`: whether the variable may be written.
-#[tactic(auto, unfolding(ir_types::specs::Grammar::variable_word))]
+#[tactic(auto, unfolding(ir_types::specs::ItemForms::variable_word))]
 fn writable<'t>(tokens: Cursor<'t>) -> Result<(bool, Cursor<'t>), SyntaxFault>
-    ensures { Gives (λ x. (x.0, left x.1)) result (read variable_word (left tokens.entry)) }
+    ensures { GivesPlainly result (read variable_word (left tokens.entry)) }
 {
     match tokens.behind_word(b"global") {
         Some(rest) => Ok((true, rest)),
@@ -33,7 +33,7 @@ fn writable<'t>(tokens: Cursor<'t>) -> Result<(bool, Cursor<'t>), SyntaxFault>
 
 /// The parts of a variable.
 fn parts<'t>(alloc: Global, tokens: Cursor<'t>) -> Result<(Part<'t>, Cursor<'t>), SyntaxFault>
-    ensures { Gives (λ x. (item_of x.0, left x.1)) result (variable_read (left tokens.entry)) }
+    ensures { GivesItem result (variable_read (left tokens.entry)) }
 {
     let (token, rest) = tokens.one(TokenKind::Global)?;
     let rest = rest.mark(TokenKind::Equal)?;
@@ -59,7 +59,7 @@ pub fn variable<'t>(
     alloc: Global,
     tokens: Cursor<'t>,
 ) -> Result<(Part<'t>, Cursor<'t>), SyntaxFault>
-    ensures { (d : ℕ) → length (left tokens.entry) ≤ d → Gives (λ x. (item_of x.0, left x.1)) result (read (mapped as_it_is (variable_definition (memory_type d))) (left tokens.entry)) }
+    ensures { GivesItemOf (λ m. mapped as_it_is (variable_definition m)) (left tokens.entry) result }
 {
     parts(alloc, tokens)
 }

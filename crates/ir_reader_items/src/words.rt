@@ -2,7 +2,7 @@
 
 ghost use Rattle.std.specs.Prelude.{◌≡◌};
 ghost use Rattle.text_forms.specs.Form.{entry};
-ghost use Rattle.ir_types.specs.Grammar.{item_words};
+ghost use Rattle.ir_types.specs.Words.{item_words};
 
 use ir_types::ItemWord;
 use text_forms::find;
@@ -16,7 +16,7 @@ static ITEMS: [(&[u8], ItemWord); 5] = [
 ];
 
 /// What the word begins, of the items that begin with a word.
-#[tactic(auto, unfolding(ir_types::specs::Grammar::item_words))]
+#[tactic(auto, unfolding(ir_types::specs::Words::item_words))]
 pub fn item_word(word: &[u8]) -> Option<ItemWord>
     ensures { result ≡ entry item_words word.now }
 {

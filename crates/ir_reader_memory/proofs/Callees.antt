@@ -12,7 +12,11 @@ use Rattle.ir_types.specs.declared.call.TailKind.{TailKind}
 use Rattle.ir_types.specs.Kinds.{Call}
 use Rattle.ir_types.specs.Offsets.{Definitions}
 use Rattle.ir_types.specs.Tree.{KeptTexts, OperandTree, InstTree}
-use Rattle.ir_types.specs.Grammar.{operand_at, actual_at, bare_inst, value_type, vector_type, width, value, return_type, global_name, kept, signature, argument, between, commas, list, or_none, call_tree, call}
+use Rattle.text_forms.specs.Combined.{between, commas, list, or_none}
+use Rattle.ir_types.specs.TypeForms.{value_type, vector_type, width, return_type, global_name}
+use Rattle.ir_types.specs.ValueForms.{operand_at, value}
+use Rattle.ir_types.specs.Words.{kept}
+use Rattle.ir_types.specs.InstForms.{actual_at, bare_inst, signature, argument, call_tree, call}
 use Rattle.ir_reader_values.specs.Split.{split_each}
 use Rattle.ir_reader_values.specs.Split.{as_two}
 use Rattle.ir_reader_memory.specs.Calls.{argument_read, arguments_read, call_read}
@@ -24,6 +28,7 @@ use Rattle.ir_reader_memory.proofs.Offsets.{parted}
 abbrev actual_of : Ty → KeptTexts → OperandTree → Actual × OperandTree
 actual_of t k a = (record { ty = t; kept = k }, a)
 
+-- an argument is read part after part
 pub argument_is : (defs : Definitions) (ts : List Lexeme) → read (argument defs) ts ≡ argument_read defs ts
 unfolding argument
 argument_is defs ts =
@@ -87,6 +92,7 @@ module _ (tail : TailKind) (b : KeptTexts) (t : Ty) (s : Option Signature) (n : 
           kept_behind x.0 (read kept x.1)
           ∙ sym (ap (λ (o : Option (List Actual × List OperandTree)). parted_before x.1 o >>= λ p. read kept p.1 >>= λ a. Some (call_of p.0 a.0, a.1)) (parted x.0))
 
+-- a call is read part after part
 pub call_is : (defs : Definitions) (tail : TailKind) (ts : List Lexeme) → read (call defs tail) ts ≡ call_read defs tail ts
 unfolding call
 call_is defs tail ts =

@@ -9,7 +9,11 @@ use Rattle.ir_types.specs.Kinds.{Offset}
 use Rattle.ir_types.specs.Offsets.{Definitions}
 use Rattle.ir_types.specs.TypeNodes.{TypeNode}
 use Rattle.ir_types.specs.Tree.{OperandTree, InstTree}
-use Rattle.ir_types.specs.Grammar.{bare_inst, three_flags, inst_memory, pointer_value, index_value, width, after_mark, some, offset_tree, getelementptr}
+use Rattle.text_forms.specs.Combined.{after_mark, some}
+use Rattle.ir_types.specs.TypeForms.{inst_memory, width}
+use Rattle.ir_types.specs.FlagForms.{three_flags}
+use Rattle.ir_types.specs.InstParts.{pointer_value, index_value}
+use Rattle.ir_types.specs.InstForms.{bare_inst, offset_tree, getelementptr}
 use Rattle.ir_reader_values.specs.Split.{split_each, behind_both}
 use Rattle.ir_reader_values.specs.Split.{as_two}
 use Rattle.ir_reader_memory.specs.Offsets.{next_index, indexes_read, steps_read, getelementptr_read}
@@ -51,6 +55,7 @@ assoc : {A B C : Type 0} (o : Option A) (g : A → Option B) (h : B → Option C
 assoc None g h = refl
 assoc (Some a) g h = refl
 
+-- `getelementptr` is read part after part
 pub getelementptr_is : (defs : Definitions) (ts : List Lexeme) → read (getelementptr defs) ts ≡ getelementptr_read defs ts
 unfolding getelementptr
 getelementptr_is defs ts =

@@ -2,7 +2,8 @@
 use Rattle.std.specs.Prelude.{ℕ, codes}
 use Rattle.text_forms.specs.declared.TokenKind.TheVariants.{Number, Comma}
 use Rattle.text_forms.specs.Form.{Form, one, made}
-use Rattle.ir_types.specs.Grammar.{marked, behind, alignment_of}
+use Rattle.text_forms.specs.Combined.{marked, behind}
+use Rattle.ir_types.specs.InstParts.{alignment_of}
 
 -- , align n
 abbrev pub written_alignment : Form ℕ

@@ -11,7 +11,10 @@ use Rattle.ir_types.specs.declared.call.TailKind.{TailKind}
 use Rattle.ir_types.specs.Kinds.{Call}
 use Rattle.ir_types.specs.Offsets.{Definitions}
 use Rattle.ir_types.specs.Tree.{OperandTree, InstTree}
-use Rattle.ir_types.specs.Grammar.{bare_inst, value_type, return_type, global_name, kept, signature, argument, marked, commas, list}
+use Rattle.text_forms.specs.Combined.{marked, commas, list}
+use Rattle.ir_types.specs.TypeForms.{value_type, return_type, global_name}
+use Rattle.ir_types.specs.Words.{kept}
+use Rattle.ir_types.specs.InstForms.{bare_inst, signature, argument}
 use Rattle.ir_reader_values.specs.declared.scope.Scope.{Scope}
 use Rattle.ir_reader_values.specs.Seen.{operand_seen}
 use Rattle.ir_reader_values.specs.Operands.{value_read}

@@ -9,7 +9,11 @@ use Rattle.ir_types.specs.declared.inst.Ty.TheVariants.{Ptr}
 use Rattle.ir_types.specs.Kinds.{Offset}
 use Rattle.ir_types.specs.Offsets.{Definitions}
 use Rattle.ir_types.specs.Tree.{OperandTree, InstTree}
-use Rattle.ir_types.specs.Grammar.{bare_inst, three_flags, inst_memory, pointer_value, index_value, after_mark, marked, some}
+use Rattle.text_forms.specs.Combined.{after_mark, marked, some}
+use Rattle.ir_types.specs.TypeForms.{inst_memory}
+use Rattle.ir_types.specs.FlagForms.{three_flags}
+use Rattle.ir_types.specs.InstParts.{pointer_value, index_value}
+use Rattle.ir_types.specs.InstForms.{bare_inst}
 use Rattle.ir_reader_values.specs.declared.scope.Scope.{Scope}
 use Rattle.ir_reader_values.specs.Seen.{operand_seen}
 use Rattle.ir_reader_values.specs.Split.{as_two, split_each, behind_both}

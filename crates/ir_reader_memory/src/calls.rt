@@ -1,13 +1,14 @@
 // Calls, behind their word.
 
-ghost use Rattle.std.specs.Prelude.{◌≡◌, IfOk, ◌∷◌, [], map};
+ghost use Rattle.std.specs.Prelude.{◌≡◌, IfOk};
 ghost use Rattle.text_forms.specs.declared.TokenKind.TheVariants.{Comma};
 ghost use Rattle.text_forms.specs.Reading.{read, opens};
 ghost use Rattle.text_forms.specs.Walk.{completed};
 ghost use Rattle.text_forms.specs.Gives.{Gives, left};
 ghost use Rattle.ir_types.specs.Offsets.{Definitions};
-ghost use Rattle.ir_types.specs.Grammar.{argument, marked, list, call, call_behind};
-ghost use Rattle.ir_reader_values.specs.Seen.{operand_seen, inst_seen, definitions, Widens, Stays, OperandsUse, InstUses};
+ghost use Rattle.text_forms.specs.Combined.{marked, list};
+ghost use Rattle.ir_types.specs.InstForms.{argument, call, call_behind};
+ghost use Rattle.ir_reader_values.specs.Seen.{inst_seen, definitions, Widens, Stays, InstAdds, OperandAdds, OperandsAdd, ReadsAs, ReadsOver};
 ghost use Rattle.ir_reader_values.specs.Split.{split_each};
 ghost use Rattle.ir_reader_values.specs.Split.{as_two};
 ghost use Rattle.ir_reader_memory.specs.Calls.{actual_in, actuals_in, some_arguments_read, arguments_read, call_read};
@@ -29,9 +30,9 @@ fn argument<'t>(
     scope: &mut Scope,
 ) -> Result<((Actual, Operand), Cursor<'t>), SyntaxFault>
     ensures grows { Widens scope.old scope.new }
-    ensures reads { Gives (λ x. (actual_in scope.new x.0, left x.1)) result (read (argument (definitions scope.old)) (left tokens.entry)) }
+    ensures reads { ReadsOver actual_in argument tokens.entry scope.old result scope.new }
     ensures stays { Stays actual_in scope.new result }
-    ensures uses { IfOk result (λ x. OperandsUse scope.old (operand_seen scope.new x.0.1 ∷ []) scope.new) }
+    ensures uses { IfOk result (λ x. OperandAdds scope.old x.0.1 scope.new) }
 {
     let (ty, rest) = value_type(tokens)?;
     let (kept, rest) = kept(alloc, rest)?;
@@ -46,9 +47,9 @@ fn comma_argument<'t>(
     scope: &mut Scope,
 ) -> Result<((Actual, Operand), Cursor<'t>), SyntaxFault>
     ensures grows { Widens scope.old scope.new }
-    ensures reads { Gives (λ x. (actual_in scope.new x.0, left x.1)) result (read (marked Comma (argument (definitions scope.old))) (left tokens.entry)) }
+    ensures reads { ReadsAs (actual_in scope.new) result (marked Comma (argument (definitions scope.old))) tokens.entry }
     ensures stays { Stays actual_in scope.new result }
-    ensures uses { IfOk result (λ x. OperandsUse scope.old (operand_seen scope.new x.0.1 ∷ []) scope.new) }
+    ensures uses { IfOk result (λ x. OperandAdds scope.old x.0.1 scope.new) }
 {
     let rest = tokens.mark(TokenKind::Comma)?;
     let (found, rest) = argument(alloc, rest, scope)?;
@@ -56,7 +57,7 @@ fn comma_argument<'t>(
 }
 
 /// Whether a comma and an argument stand next.
-#[tactic(auto, unfolding(ir_types::specs::Grammar::argument, ir_types::specs::Grammar::value_type, ir_types::specs::Grammar::vector_type, ir_types::specs::Grammar::width))]
+#[tactic(auto, unfolding(ir_types::specs::InstForms::argument, ir_types::specs::TypeForms::value_type, ir_types::specs::TypeForms::vector_type, ir_types::specs::TypeForms::width))]
 fn another(tokens: Cursor<'_>) -> bool
     ensures { (defs : Definitions) → result ≡ opens (marked Comma (argument defs)) (left tokens.entry) }
 {
@@ -75,7 +76,7 @@ fn some_arguments<'t>(
     ensures grows { Widens scope.old scope.new }
     ensures reads { Gives (λ x. (actuals_in scope.new (x.0.0.items, x.0.1), left x.1)) result (some_arguments_read (definitions scope.old) (left tokens.entry)) }
     ensures stays { Stays (λ s x. actuals_in s (x.0.items, x.1)) scope.new result }
-    ensures uses { IfOk result (λ x. OperandsUse scope.old (map (operand_seen scope.new) x.0.1) scope.new) }
+    ensures uses { IfOk result (λ x. OperandsAdd scope.old x.0.1 scope.new) }
 {
     let ((actual, value), mut rest) = argument(alloc, tokens, scope)?;
     let mut actuals = Vec::new(alloc);
@@ -99,7 +100,7 @@ fn arguments<'t>(
     ensures grows { Widens scope.old scope.new }
     ensures reads { Gives (λ x. (actuals_in scope.new (x.0.0.items, x.0.1), left x.1)) result (completed (split_each as_two) (read (list (argument (definitions scope.old))) (left tokens.entry))) }
     ensures stays { Stays (λ s x. actuals_in s (x.0.items, x.1)) scope.new result }
-    ensures uses { IfOk result (λ x. OperandsUse scope.old (map (operand_seen scope.new) x.0.1) scope.new) }
+    ensures uses { IfOk result (λ x. OperandsAdd scope.old x.0.1 scope.new) }
 {
     if begins_type(tokens) {
         return some_arguments(alloc, tokens, scope);
@@ -116,7 +117,7 @@ fn enclosed_arguments<'t>(
     ensures grows { Widens scope.old scope.new }
     ensures reads { Gives (λ x. (actuals_in scope.new x.0, left x.1)) result (arguments_read (definitions scope.old) (left tokens.entry)) }
     ensures stays { Stays actuals_in scope.new result }
-    ensures uses { IfOk result (λ x. OperandsUse scope.old (map (operand_seen scope.new) x.0.1) scope.new) }
+    ensures uses { IfOk result (λ x. OperandsAdd scope.old x.0.1 scope.new) }
 {
     let rest = tokens.mark(TokenKind::LeftParen)?;
     let ((actuals, values), rest) = arguments(alloc, rest, scope)?;
@@ -133,9 +134,9 @@ fn call<'t>(
     scope: &mut Scope,
 ) -> Result<(Inst, Cursor<'t>), SyntaxFault>
     ensures grows { Widens scope.old scope.new }
-    ensures reads { Gives (λ x. (inst_seen scope.new x.0, left x.1)) result (read (call (definitions scope.old) tail) (left tokens.entry)) }
+    ensures reads { ReadsAs (inst_seen scope.new) result (call (definitions scope.old) tail) tokens.entry }
     ensures stays { Stays inst_seen scope.new result }
-    ensures uses { IfOk result (λ x. InstUses scope.old (inst_seen scope.new x.0) scope.new) }
+    ensures uses { InstAdds scope.old result scope.new }
 {
     let (before, rest) = kept(alloc, tokens)?;
     let (ty, rest) = return_type(rest)?;
@@ -162,9 +163,9 @@ pub fn call_behind<'t>(
     scope: &mut Scope,
 ) -> Result<(Inst, Cursor<'t>), SyntaxFault>
     ensures grows { Widens scope.old scope.new }
-    ensures reads { Gives (λ x. (inst_seen scope.new x.0, left x.1)) result (read (call_behind (definitions scope.old) tail) (left tokens.entry)) }
+    ensures reads { ReadsAs (inst_seen scope.new) result (call_behind (definitions scope.old) tail) tokens.entry }
     ensures stays { Stays inst_seen scope.new result }
-    ensures uses { IfOk result (λ x. InstUses scope.old (inst_seen scope.new x.0) scope.new) }
+    ensures uses { InstAdds scope.old result scope.new }
 {
     match tail {
         TailKind::Unmarked => call(alloc, tail, tokens, scope),

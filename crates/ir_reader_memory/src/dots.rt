@@ -4,7 +4,7 @@ ghost use Rattle.std.specs.Prelude.{◌≡◌};
 ghost use Rattle.text_forms.specs.declared.TokenKind.TheVariants.{Comma, Dots};
 ghost use Rattle.text_forms.specs.Reading.{read, opens};
 ghost use Rattle.text_forms.specs.Gives.{Gives, left, mark};
-ghost use Rattle.ir_types.specs.Grammar.{marked};
+ghost use Rattle.text_forms.specs.Combined.{marked};
 ghost use Rattle.ir_reader_memory.specs.Calls.{comma_dots};
 
 use text_forms::{Cursor, SyntaxFault, TokenKind};

@@ -1,14 +1,15 @@
 // Loads and stores, without the words before them.
 
-ghost use Rattle.std.specs.Prelude.{◌≡◌, List, IfOk};
+ghost use Rattle.std.specs.Prelude.{◌≡◌, List};
 ghost use Rattle.text_forms.specs.declared.TokenKind.TheVariants.{Comma, Word};
 ghost use Rattle.text_forms.specs.Reading.{read, opens};
 ghost use Rattle.text_forms.specs.Gives.{Gives, left};
 ghost use Rattle.ir_types.specs.Sizes.{value_size};
 ghost use Rattle.ir_types.specs.Types.{IsType};
-ghost use Rattle.ir_types.specs.Grammar.{alignment_of, alignment, align_or, load, store};
+ghost use Rattle.ir_types.specs.InstParts.{alignment_of, alignment, align_or};
+ghost use Rattle.ir_types.specs.InstForms.{load, store};
 ghost use Rattle.ir_reader_memory.specs.Alignments.{written_alignment};
-ghost use Rattle.ir_reader_values.specs.Seen.{inst_seen, definitions, Widens, Stays, InstUses};
+ghost use Rattle.ir_reader_values.specs.Seen.{inst_seen, Widens, Stays, InstAdds, ReadsOver};
 
 use ir_making::{applied, one_operand, two_operands};
 use ir_reader_types::value_type;
@@ -52,7 +53,7 @@ fn begins_alignment(tokens: Cursor<'_>) -> bool
 }
 
 /// [, align n].
-#[tactic(auto, unfolding(ir_types::specs::Grammar::alignment))]
+#[tactic(auto, unfolding(ir_types::specs::InstParts::alignment))]
 fn alignment<'t>(tokens: Cursor<'t>) -> Result<(Option<u64>, Cursor<'t>), SyntaxFault>
     ensures { Gives (λ x. (x.0, left x.1)) result (read alignment (left tokens.entry)) }
 {
@@ -88,16 +89,16 @@ fn align_or(ty: Ty, written: Option<u64>) -> u64
 }
 
 /// T, ptr V [, align n].
-#[tactic(auto, unfolding(ir_types::specs::Grammar::load))]
+#[tactic(auto, unfolding(ir_types::specs::InstForms::load))]
 pub fn load<'t>(
     alloc: Global,
     tokens: Cursor<'t>,
     scope: &mut Scope,
 ) -> Result<(Inst, Cursor<'t>), SyntaxFault>
     ensures grows { Widens scope.old scope.new }
-    ensures reads { Gives (λ x. (inst_seen scope.new x.0, left x.1)) result (read (load (definitions scope.old)) (left tokens.entry)) }
+    ensures reads { ReadsOver inst_seen load tokens.entry scope.old result scope.new }
     ensures stays { Stays inst_seen scope.new result }
-    ensures uses { IfOk result (λ x. InstUses scope.old (inst_seen scope.new x.0) scope.new) }
+    ensures uses { InstAdds scope.old result scope.new }
 {
     let (ty, rest) = value_type(tokens)?;
     let (pointer, rest) = comma_pointer(alloc, rest, scope)?;
@@ -108,16 +109,16 @@ pub fn load<'t>(
 }
 
 /// T V, ptr V [, align n].
-#[tactic(auto, unfolding(ir_types::specs::Grammar::store))]
+#[tactic(auto, unfolding(ir_types::specs::InstForms::store))]
 pub fn store<'t>(
     alloc: Global,
     tokens: Cursor<'t>,
     scope: &mut Scope,
 ) -> Result<(Inst, Cursor<'t>), SyntaxFault>
     ensures grows { Widens scope.old scope.new }
-    ensures reads { Gives (λ x. (inst_seen scope.new x.0, left x.1)) result (read (store (definitions scope.old)) (left tokens.entry)) }
+    ensures reads { ReadsOver inst_seen store tokens.entry scope.old result scope.new }
     ensures stays { Stays inst_seen scope.new result }
-    ensures uses { IfOk result (λ x. InstUses scope.old (inst_seen scope.new x.0) scope.new) }
+    ensures uses { InstAdds scope.old result scope.new }
 {
     let ((ty, value), rest) = typed_value(alloc, tokens, scope)?;
     let (pointer, rest) = comma_pointer(alloc, rest, scope)?;

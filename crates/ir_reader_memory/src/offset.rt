@@ -1,11 +1,11 @@
 // `getelementptr`, without its word.
 
-ghost use Rattle.std.specs.Prelude.{◌≡◌, map, IfOk, ◌∷◌, []};
-ghost use Rattle.text_forms.specs.Reading.{read, opens};
+ghost use Rattle.std.specs.Prelude.{◌≡◌, map, IfOk};
+ghost use Rattle.text_forms.specs.Reading.{opens};
 ghost use Rattle.text_forms.specs.Gives.{Gives, left};
 ghost use Rattle.ir_types.specs.Offsets.{Definitions};
-ghost use Rattle.ir_types.specs.Grammar.{getelementptr};
-ghost use Rattle.ir_reader_values.specs.Seen.{operand_seen, inst_seen, definitions, Widens, AreSteady, Stays, OperandsUse, InstUses};
+ghost use Rattle.ir_types.specs.InstForms.{getelementptr};
+ghost use Rattle.ir_reader_values.specs.Seen.{operand_seen, inst_seen, definitions, Widens, AreSteady, Stays, OperandsUse, InstAdds, OperandAdds, OperandsAdd, ReadsOver};
 ghost use Rattle.ir_reader_values.specs.View.{typed_in};
 ghost use Rattle.ir_reader_memory.specs.Offsets.{next_index, steps_in, indexes_read, steps_read};
 
@@ -24,9 +24,9 @@ fn next_index<'t>(
     scope: &mut Scope,
 ) -> Result<((u32, Operand), Cursor<'t>), SyntaxFault>
     ensures grows { Widens scope.old scope.new }
-    ensures reads { Gives (λ x. (typed_in scope.new x.0, left x.1)) result (read (next_index (definitions scope.old)) (left tokens.entry)) }
+    ensures reads { ReadsOver typed_in next_index tokens.entry scope.old result scope.new }
     ensures stays { Stays typed_in scope.new result }
-    ensures uses { IfOk result (λ x. OperandsUse scope.old (operand_seen scope.new x.0.1 ∷ []) scope.new) }
+    ensures uses { IfOk result (λ x. OperandAdds scope.old x.0.1 scope.new) }
 {
     let rest = tokens.mark(TokenKind::Comma)?;
     let (value, rest) = index_value(alloc, rest, scope)?;
@@ -34,7 +34,7 @@ fn next_index<'t>(
 }
 
 /// Whether a comma and an index stand next.
-#[tactic(auto, unfolding(ir_types::specs::Grammar::index_value, ir_types::specs::Grammar::width))]
+#[tactic(auto, unfolding(ir_types::specs::InstParts::index_value, ir_types::specs::TypeForms::width))]
 fn another(tokens: Cursor<'_>) -> bool
     ensures { (defs : Definitions) → result ≡ opens (next_index defs) (left tokens.entry) }
 {
@@ -80,7 +80,7 @@ fn steps<'t>(
     ensures grows { Widens scope.old scope.new }
     ensures reads { Gives (λ x. (steps_in scope.new x.0, left x.1)) result (steps_read (definitions scope.old) (left tokens.entry)) }
     ensures stays { Stays steps_in scope.new result }
-    ensures uses { IfOk result (λ x. OperandsUse scope.old (map (operand_seen scope.new) x.0.1) scope.new) }
+    ensures uses { IfOk result (λ x. OperandsAdd scope.old x.0.1 scope.new) }
 {
     let (pointer, rest) = comma_pointer(alloc, tokens, scope)?;
     let before = one_operand(alloc, pointer)?;
@@ -96,9 +96,9 @@ pub fn getelementptr<'t>(
     scope: &mut Scope,
 ) -> Result<(Inst, Cursor<'t>), SyntaxFault>
     ensures grows { Widens scope.old scope.new }
-    ensures reads { Gives (λ x. (inst_seen scope.new x.0, left x.1)) result (read (getelementptr (definitions scope.old)) (left tokens.entry)) }
+    ensures reads { ReadsOver inst_seen getelementptr tokens.entry scope.old result scope.new }
     ensures stays { Stays inst_seen scope.new result }
-    ensures uses { IfOk result (λ x. InstUses scope.old (inst_seen scope.new x.0) scope.new) }
+    ensures uses { InstAdds scope.old result scope.new }
 {
     let ((inbounds, (nuw, nusw)), rest) = three_flags(tokens);
     let (id, rest) = memory(alloc, rest, scope)?;

@@ -5,7 +5,10 @@ ghost use Rattle.text_forms.specs.declared.TokenKind.TheVariants.{Comma, Dots};
 ghost use Rattle.text_forms.specs.Form.{mapped, pair, optional};
 ghost use Rattle.text_forms.specs.Reading.{read, opens};
 ghost use Rattle.text_forms.specs.Gives.{Gives, left, mark};
-ghost use Rattle.ir_types.specs.Grammar.{value_type, commas, marked, dotted, dotted_list, signature};
+ghost use Rattle.text_forms.specs.Combined.{commas, marked};
+ghost use Rattle.ir_types.specs.TypeForms.{value_type};
+ghost use Rattle.ir_types.specs.InstParts.{dotted, dotted_list};
+ghost use Rattle.ir_types.specs.InstForms.{signature};
 
 use crate::dots::comma_dots;
 use ir_reader_types::{begins_type, value_type};
@@ -24,7 +27,7 @@ fn comma_type<'t>(tokens: Cursor<'t>) -> Result<(Ty, Cursor<'t>), SyntaxFault>
 }
 
 /// Whether a comma and a type stand next.
-#[tactic(auto, unfolding(ir_types::specs::Grammar::value_type, ir_types::specs::Grammar::vector_type, ir_types::specs::Grammar::width))]
+#[tactic(auto, unfolding(ir_types::specs::TypeForms::value_type, ir_types::specs::TypeForms::vector_type, ir_types::specs::TypeForms::width))]
 fn another(tokens: Cursor<'_>) -> bool
     ensures { result ≡ opens (marked Comma value_type) (left tokens.entry) }
 {
@@ -62,7 +65,7 @@ fn some_types<'t>(
 }
 
 /// Types, which may be none, and whether dots stand behind them or in their place.
-#[tactic(auto, unfolding(ir_types::specs::Grammar::value_type, ir_types::specs::Grammar::vector_type, ir_types::specs::Grammar::width))]
+#[tactic(auto, unfolding(ir_types::specs::TypeForms::value_type, ir_types::specs::TypeForms::vector_type, ir_types::specs::TypeForms::width))]
 fn dotted_types<'t>(
     alloc: Global,
     tokens: Cursor<'t>,
@@ -81,7 +84,7 @@ fn dotted_types<'t>(
 }
 
 /// [( T, .. [, ...] )].
-#[tactic(auto, unfolding(ir_types::specs::Grammar::signature))]
+#[tactic(auto, unfolding(ir_types::specs::InstForms::signature))]
 pub fn signature<'t>(
     alloc: Global,
     tokens: Cursor<'t>,

@@ -7,7 +7,7 @@ use Rattle.ir_types.specs.declared.inst.Operand.{Operand}
 use Rattle.ir_types.specs.declared.inst.Operand.TheVariants.{Local, Int, Null, Poison, Lanes, Global, OutOfRange}
 use Rattle.ir_types.specs.declared.inst.Inst.{Inst}
 use Rattle.ir_types.specs.Tree.{KeptTexts, InstTree}
-use Rattle.ir_types.specs.Grammar.{inst_attachments, is_out_of_range, with_kept, attached}
+use Rattle.ir_types.specs.InstForms.{inst_attachments, is_out_of_range, with_kept, attached}
 use Rattle.ir_reader_values.specs.declared.scope.Scope.{Scope}
 use Rattle.ir_reader_values.specs.Seen.{operand_seen, inst_seen, IsSteady}
 use Rattle.ir_reader_ops.specs.Words.{is_outside, attached_to}
@@ -22,6 +22,7 @@ outside_one s (Lanes xs) = refl
 outside_one s (Global i o) = refl
 outside_one s (OutOfRange i) = refl
 
+-- operands are seen out of range exactly where they are held so
 pub outside_seen : (s : Scope) (xs : List Operand) → list_any is_out_of_range (map (operand_seen s) xs) ≡ list_any is_outside xs
 outside_seen s [] = refl
 outside_seen s (a ∷ xs) = rw (outside_one s a, outside_seen s xs) refl
@@ -37,6 +38,7 @@ abbrev inst_or : Inst → Option (Inst × List Lexeme) → Inst
 inst_or i None = i
 inst_or i (Some x) = x.0
 
+-- an instruction that stays what it is does so with attachments
 pub attached_steady : (s : Scope) (i j : Inst) (ts us : List Lexeme) → attached_to i ts ≡ Some (j, us) → IsSteady inst_seen s i → IsSteady inst_seen s j
 attached_steady s i j ts us e stays = by (read inst_attachments ts) e
   where

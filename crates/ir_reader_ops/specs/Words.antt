@@ -8,7 +8,9 @@ use Rattle.ir_types.specs.declared.inst.Operand.TheVariants.{OutOfRange}
 use Rattle.ir_types.specs.declared.inst.Inst.{Inst}
 use Rattle.ir_types.specs.Offsets.{Definitions}
 use Rattle.ir_types.specs.Tree.{InstTree}
-use Rattle.ir_types.specs.Grammar.{word, inst_attachments, operation, terminator_words, terminator_behind, unreachable_tree, terminator}
+use Rattle.text_forms.specs.Combined.{word}
+use Rattle.ir_types.specs.Words.{terminator_words}
+use Rattle.ir_types.specs.InstForms.{inst_attachments, operation, terminator_behind, unreachable_tree, terminator}
 use Rattle.ir_reader_ops.specs.declared.inst.Place.{Place}
 use Rattle.ir_reader_ops.specs.declared.inst.Place.TheVariants.{Inside, Last}
 

@@ -2,11 +2,12 @@
 
 ghost use Rattle.std.specs.Prelude.{◌≡◌, IfOk};
 ghost use Rattle.text_forms.specs.Form.{by_word};
-ghost use Rattle.text_forms.specs.Reading.{read, opens, next_in, words_of};
+ghost use Rattle.text_forms.specs.Reading.{opens, next_in, words_of};
 ghost use Rattle.text_forms.specs.Gives.{Gives, left};
 ghost use Rattle.ir_types.specs.Offsets.{Definitions};
-ghost use Rattle.ir_types.specs.Grammar.{operation_words, operation_behind, terminator_words, terminator_behind, operation, terminator};
-ghost use Rattle.ir_reader_values.specs.Seen.{inst_seen, definitions, Widens, Stays, InstUses};
+ghost use Rattle.ir_types.specs.Words.{operation_words, terminator_words};
+ghost use Rattle.ir_types.specs.InstForms.{operation_behind, terminator_behind, operation, terminator};
+ghost use Rattle.ir_reader_values.specs.Seen.{inst_seen, definitions, Widens, Stays, InstAdds, ReadsAs, ReadsOver};
 ghost use Rattle.std.specs.List.{list_any};
 ghost use Rattle.ir_reader_ops.specs.Words.{is_outside, attached_to, bare_terminator, form_at, instruction};
 
@@ -41,9 +42,9 @@ fn bare_operation<'t>(
     scope: &mut Scope,
 ) -> Result<(Inst, Cursor<'t>), SyntaxFault>
     ensures grows { Widens scope.old scope.new }
-    ensures reads { Gives (λ x. (inst_seen scope.new x.0, left x.1)) result (read (by_word operation_words (operation_behind (definitions scope.old))) (left tokens.entry)) }
+    ensures reads { ReadsAs (inst_seen scope.new) result (by_word operation_words (operation_behind (definitions scope.old))) tokens.entry }
     ensures stays { Stays inst_seen scope.new result }
-    ensures uses { IfOk result (λ x. InstUses scope.old (inst_seen scope.new x.0) scope.new) }
+    ensures uses { InstAdds scope.old result scope.new }
 {
     let (word, rest) = tokens.one(TokenKind::Word)?;
     let Some(operation) = operation_of(word) else {
@@ -79,9 +80,9 @@ fn longer_terminator<'t>(
     scope: &mut Scope,
 ) -> Result<(Inst, Cursor<'t>), SyntaxFault>
     ensures grows { Widens scope.old scope.new }
-    ensures reads { Gives (λ x. (inst_seen scope.new x.0, left x.1)) result (read (by_word terminator_words (terminator_behind (definitions scope.old))) (left tokens.entry)) }
+    ensures reads { ReadsAs (inst_seen scope.new) result (by_word terminator_words (terminator_behind (definitions scope.old))) tokens.entry }
     ensures stays { Stays inst_seen scope.new result }
-    ensures uses { IfOk result (λ x. InstUses scope.old (inst_seen scope.new x.0) scope.new) }
+    ensures uses { InstAdds scope.old result scope.new }
 {
     let (word, rest) = tokens.one(TokenKind::Word)?;
     match terminator_of(word) {
@@ -110,9 +111,9 @@ fn bare_terminator<'t>(
     scope: &mut Scope,
 ) -> Result<(Inst, Cursor<'t>), SyntaxFault>
     ensures grows { Widens scope.old scope.new }
-    ensures reads { Gives (λ x. (inst_seen scope.new x.0, left x.1)) result (read (bare_terminator (definitions scope.old)) (left tokens.entry)) }
+    ensures reads { ReadsOver inst_seen bare_terminator tokens.entry scope.old result scope.new }
     ensures stays { Stays inst_seen scope.new result }
-    ensures uses { IfOk result (λ x. InstUses scope.old (inst_seen scope.new x.0) scope.new) }
+    ensures uses { InstAdds scope.old result scope.new }
 {
     if begins_longer(tokens) {
         return longer_terminator(alloc, tokens, scope);
@@ -142,7 +143,7 @@ fn any_outside(operands: &[Operand]) -> bool
 }
 
 /// An instruction with the attachments that stand behind it, wide where an operand is out of range.
-#[tactic(auto, unfolding(ir_types::specs::Grammar::inst_attachments))]
+#[tactic(auto, unfolding(ir_types::specs::InstForms::inst_attachments))]
 fn with_attachments<'t>(
     alloc: Global,
     inst: Inst,
@@ -158,16 +159,16 @@ fn with_attachments<'t>(
 }
 
 /// An instruction that doesn't end a block.
-#[tactic(auto, unfolding(ir_types::specs::Grammar::operation), using(crate::proofs::Attached::outside_seen))]
+#[tactic(auto, unfolding(ir_types::specs::InstForms::operation), using(crate::proofs::Attached::outside_seen))]
 fn operation<'t>(
     alloc: Global,
     tokens: Cursor<'t>,
     scope: &mut Scope,
 ) -> Result<(Inst, Cursor<'t>), SyntaxFault>
     ensures grows { Widens scope.old scope.new }
-    ensures reads { Gives (λ x. (inst_seen scope.new x.0, left x.1)) result (read (operation (definitions scope.old)) (left tokens.entry)) }
+    ensures reads { ReadsOver inst_seen operation tokens.entry scope.old result scope.new }
     ensures stays { Stays inst_seen scope.new result }
-    ensures uses { IfOk result (λ x. InstUses scope.old (inst_seen scope.new x.0) scope.new) }
+    ensures uses { InstAdds scope.old result scope.new }
 {
     let (inst, rest) = bare_operation(alloc, tokens, scope)?;
     let (inst, rest) = with_attachments(alloc, inst, rest)?;
@@ -175,16 +176,16 @@ fn operation<'t>(
 }
 
 /// A terminator.
-#[tactic(auto, unfolding(ir_types::specs::Grammar::terminator), using(crate::proofs::Attached::outside_seen))]
+#[tactic(auto, unfolding(ir_types::specs::InstForms::terminator), using(crate::proofs::Attached::outside_seen))]
 fn terminator<'t>(
     alloc: Global,
     tokens: Cursor<'t>,
     scope: &mut Scope,
 ) -> Result<(Inst, Cursor<'t>), SyntaxFault>
     ensures grows { Widens scope.old scope.new }
-    ensures reads { Gives (λ x. (inst_seen scope.new x.0, left x.1)) result (read (terminator (definitions scope.old)) (left tokens.entry)) }
+    ensures reads { ReadsOver inst_seen terminator tokens.entry scope.old result scope.new }
     ensures stays { Stays inst_seen scope.new result }
-    ensures uses { IfOk result (λ x. InstUses scope.old (inst_seen scope.new x.0) scope.new) }
+    ensures uses { InstAdds scope.old result scope.new }
 {
     let (inst, rest) = bare_terminator(alloc, tokens, scope)?;
     let (inst, rest) = with_attachments(alloc, inst, rest)?;
@@ -203,9 +204,9 @@ pub fn inst_at<'t>(
     scope: &mut Scope,
 ) -> Result<(Inst, Cursor<'t>), SyntaxFault>
     ensures grows { Widens scope.old scope.new }
-    ensures reads { Gives (λ x. (inst_seen scope.new x.0, left x.1)) result (read (form_at (definitions scope.old) place) (left tokens.entry)) }
+    ensures reads { ReadsAs (inst_seen scope.new) result (form_at (definitions scope.old) place) tokens.entry }
     ensures stays { Stays inst_seen scope.new result }
-    ensures uses { IfOk result (λ x. InstUses scope.old (inst_seen scope.new x.0) scope.new) }
+    ensures uses { InstAdds scope.old result scope.new }
 {
     match place {
         Place::Inside => operation(alloc, tokens, scope),
@@ -227,9 +228,9 @@ pub fn read_inst<'t>(
     scope: &mut Scope,
 ) -> Result<(Inst, Cursor<'t>), SyntaxFault>
     ensures grows { Widens scope.old scope.new }
-    ensures reads { Gives (λ x. (inst_seen scope.new x.0, left x.1)) result (read (instruction (definitions scope.old)) (left tokens.entry)) }
+    ensures reads { ReadsOver inst_seen instruction tokens.entry scope.old result scope.new }
     ensures stays { Stays inst_seen scope.new result }
-    ensures uses { IfOk result (λ x. InstUses scope.old (inst_seen scope.new x.0) scope.new) }
+    ensures uses { InstAdds scope.old result scope.new }
 {
     if begins_instruction(Place::Inside, tokens) {
         return inst_at(alloc, Place::Inside, tokens, scope);

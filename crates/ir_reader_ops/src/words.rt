@@ -2,7 +2,7 @@
 
 ghost use Rattle.std.specs.Prelude.{◌≡◌};
 ghost use Rattle.text_forms.specs.Form.{entry};
-ghost use Rattle.ir_types.specs.Grammar.{operation_words, terminator_words};
+ghost use Rattle.ir_types.specs.Words.{operation_words, terminator_words};
 
 use ir_types::{BinOp, Operation, TailKind, Terminator};
 use text_forms::find;
@@ -48,7 +48,7 @@ static TERMINATORS: [(&[u8], Terminator); 3] = [
 ];
 
 /// What the word begins, of the instructions that don't end a block.
-#[tactic(auto, unfolding(ir_types::specs::Grammar::operation_words))]
+#[tactic(auto, unfolding(ir_types::specs::Words::operation_words))]
 pub fn operation_of(word: &[u8]) -> Option<Operation>
     ensures { result ≡ entry operation_words word.now }
 {
@@ -56,7 +56,7 @@ pub fn operation_of(word: &[u8]) -> Option<Operation>
 }
 
 /// The terminator that the word begins, of those that have more behind their word.
-#[tactic(auto, unfolding(ir_types::specs::Grammar::terminator_words))]
+#[tactic(auto, unfolding(ir_types::specs::Words::terminator_words))]
 pub fn terminator_of(word: &[u8]) -> Option<Terminator>
     ensures { result ≡ entry terminator_words word.now }
 {

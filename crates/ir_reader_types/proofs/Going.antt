@@ -14,7 +14,7 @@ use Rattle.ir_types.specs.declared.memory_type.TypeId.{TypeId}
 use Rattle.ir_types.specs.declared.memory_type.MemTy.{MemTy}
 use Rattle.ir_types.specs.TypeNodes.{TypeNode, array, opening, closing, nodes_from, all_nodes, type_nodes}
 use Rattle.ir_types.specs.Types.{IsBefore, AreTypes}
-use Rattle.ir_types.specs.Grammar.{type_parts}
+use Rattle.ir_types.specs.TypeForms.{type_parts}
 use Rattle.ir_types.proofs.Decides.{parts_decide}
 use Rattle.ir_types.proofs.NameAt.{extends_refl}
 use Rattle.ir_reader_types.specs.Frames.{Frame, in_array, in_struct, around_of, closed, frame_nodes, opened_nodes, arounds, goes_on, AreBefore, end_nodes}

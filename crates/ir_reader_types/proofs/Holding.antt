@@ -21,7 +21,7 @@ use Rattle.ir_types.specs.declared.memory_type.MemTy.{MemTy}
 use Rattle.ir_types.specs.declared.memory_type.MemTy.TheVariants.{One, Array, Struct, Named}
 use Rattle.ir_types.specs.TypeNodes.{TypeNode, nodes_from}
 use Rattle.ir_types.specs.Types.{IsBefore, IsTypeAt}
-use Rattle.ir_types.specs.Grammar.{type_parts}
+use Rattle.ir_types.specs.TypeForms.{type_parts}
 use Rattle.ir_reader_types.specs.TypeTable.{names_of}
 use Rattle.ir_reader_types.specs.Frames.{Frame, in_array, in_struct, around_of, innermost, closed, goes_on, AreBefore, Holds, is_refusal}
 use Rattle.ir_reader_types.specs.Levels.{Adds, Closes}

@@ -5,7 +5,6 @@ pub mod FirstPlaces
 pub mod NodeLists
 pub mod Going
 pub mod Holding
-pub mod Openings
 pub mod LookUps
 pub mod Growth
 pub mod Enlarged

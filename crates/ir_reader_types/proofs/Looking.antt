@@ -10,7 +10,7 @@ use Rattle.text_forms.specs.Reading.{read}
 use Rattle.text_forms.specs.Nested.{concat}
 use Rattle.text_forms.specs.Machine.{next}
 use Rattle.text_forms.proofs.Parts.{some_is}
-use Rattle.ir_types.specs.Grammar.{type_parts}
+use Rattle.ir_types.specs.TypeForms.{type_parts}
 use Rattle.ir_types.specs.declared.name.Name.{Name}
 use Rattle.ir_types.specs.declared.memory_type.TypeId.{TypeId}
 use Rattle.ir_types.specs.declared.memory_type.TypeName.{TypeName}

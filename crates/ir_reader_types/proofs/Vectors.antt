@@ -7,7 +7,8 @@ use Rattle.text_forms.specs.Reading.{◌>>=◌, read}
 use Rattle.text_forms.specs.Gives.{mark}
 use Rattle.ir_types.specs.declared.inst.Ty.{Ty}
 use Rattle.ir_types.specs.declared.inst.Ty.TheVariants.{Vector}
-use Rattle.ir_types.specs.Grammar.{behind, width, lanes_of, vector_of, vector_type}
+use Rattle.text_forms.specs.Combined.{behind}
+use Rattle.ir_types.specs.TypeForms.{width, lanes_of, vector_of, vector_type}
 use Rattle.ir_reader_types.specs.Vectors.{vector_read}
 
 -- the digits of the lanes, and the width

@@ -6,7 +6,6 @@ use Rattle.text_forms.specs.declared.Around.TheVariants.{InArray, InStruct}
 use Rattle.text_forms.specs.declared.cursor.SyntaxFault.{SyntaxFault}
 use Rattle.text_forms.specs.declared.cursor.SyntaxFault.TheVariants.{NoReading, Memory}
 use Rattle.text_forms.specs.Form.{Lexeme}
-use Rattle.text_forms.specs.Reading.{◌>>=◌, read}
 use Rattle.text_forms.specs.Nested.{concat}
 use Rattle.text_forms.specs.Machine.{whole}
 use Rattle.ir_types.specs.declared.name.Name.{Name}
@@ -17,7 +16,7 @@ use Rattle.ir_types.specs.declared.memory_type.MemTy.TheVariants.{Array, Struct}
 use Rattle.ir_types.specs.TypeNodes.{TypeNode, array, opening, closing, type_nodes}
 use Rattle.ir_reader_types.specs.TypeTable.{names_of, LooksUpAll}
 use Rattle.ir_types.specs.Types.{IsBefore, AreTypes}
-use Rattle.ir_types.specs.Grammar.{type_parts, memory_type}
+use Rattle.ir_types.specs.TypeForms.{type_parts}
 
 -- what a type that is read stands in
 pub data Frame : Type 0 where
@@ -109,7 +108,3 @@ is_refusal Memory = false
 abbrev pub end_nodes : Around → List TypeNode
 end_nodes InArray = []
 end_nodes (InStruct p) = closing ∷ []
-
--- what is behind a memory type that is nested at most so deep
-abbrev pub behind_type : ℕ → List Lexeme → Option (List Lexeme)
-behind_type d ts = read (memory_type d) ts >>= λ x. Some x.1

@@ -6,7 +6,8 @@ use Rattle.text_forms.specs.Reading.{◌>>=◌, read}
 use Rattle.text_forms.specs.Gives.{mark}
 use Rattle.ir_types.specs.declared.inst.Ty.{Ty}
 use Rattle.ir_types.specs.declared.inst.Ty.TheVariants.{Vector}
-use Rattle.ir_types.specs.Grammar.{behind, width, lanes_of}
+use Rattle.text_forms.specs.Combined.{behind}
+use Rattle.ir_types.specs.TypeForms.{width, lanes_of}
 
 abbrev pub vector_read : List Lexeme → Option (Ty × List Lexeme)
 vector_read ts =

@@ -1,17 +1,17 @@
 // The beginning of a memory type, and what is behind one in an array or a struct.
 
-ghost use Rattle.std.specs.Prelude.{List, ◌≡◌, ◌≤◌, ℕ, suc, ◌∷◌, [], length, IfOk};
+ghost use Rattle.std.specs.Prelude.{List, ◌≡◌, ◌∷◌, [], IfOk};
 ghost use Rattle.text_forms.specs.declared.TokenKind.TheVariants.{Number};
 ghost use Rattle.text_forms.specs.Form.{one, made, mapped, pair, optional};
-ghost use Rattle.text_forms.specs.Reading.{read, opens, next_in};
+ghost use Rattle.text_forms.specs.Reading.{read, opens};
 ghost use Rattle.text_forms.specs.Gives.{Gives, left};
-ghost use Rattle.text_forms.specs.Nested.{struct_head, struct_end, struct_begins};
+ghost use Rattle.text_forms.specs.Nested.{struct_head, struct_end};
 ghost use Rattle.text_forms.specs.Machine.{begun, head, next};
 ghost use Rattle.text_forms.specs.View.{Extends};
 ghost use Rattle.ir_types.specs.Types.{IsType};
 ghost use Rattle.ir_types.specs.declared.name.Name.{Name};
 ghost use Rattle.ir_types.specs.TypeNodes.{array, opening, closing, nodes_from, names_used};
-ghost use Rattle.ir_types.specs.Grammar.{elements_of, array_begin, memory_leaf, type_parts, memory_type};
+ghost use Rattle.ir_types.specs.TypeForms.{elements_of, array_begin, memory_leaf, type_parts};
 ghost use Rattle.ir_reader_types.specs.TypeTable.{names_of, LooksUpSome, LooksUpAll};
 ghost use Rattle.ir_reader_types.specs.Heads.{IsAlone, BeginsAlone, begun_nodes, next_nodes};
 
@@ -58,7 +58,7 @@ fn elements<'t>(tokens: Cursor<'t>) -> Result<(u64, Cursor<'t>), SyntaxFault>
 }
 
 /// `[ n x`.
-#[tactic(auto, unfolding(ir_types::specs::Grammar::array_begin))]
+#[tactic(auto, unfolding(ir_types::specs::TypeForms::array_begin))]
 fn array_begin<'t>(tokens: Cursor<'t>) -> Result<(u64, Cursor<'t>), SyntaxFault>
     ensures { Gives (λ x. (array x.0 ∷ [], left x.1)) result (read array_begin (left tokens.entry)) }
 {
@@ -69,7 +69,7 @@ fn array_begin<'t>(tokens: Cursor<'t>) -> Result<(u64, Cursor<'t>), SyntaxFault>
 }
 
 /// T | %name.
-#[tactic(auto, unfolding(ir_types::specs::Grammar::memory_leaf), using(crate::proofs::LookUps::looks_up_one, crate::proofs::LookUps::looks_up_none))]
+#[tactic(auto, unfolding(ir_types::specs::TypeForms::memory_leaf), using(crate::proofs::LookUps::looks_up_one, crate::proofs::LookUps::looks_up_none))]
 fn leaf<'t>(
     alloc: Global,
     tokens: Cursor<'t>,
@@ -91,7 +91,7 @@ fn leaf<'t>(
 }
 
 /// Whether a type that stands alone is next.
-#[tactic(auto, unfolding(ir_types::specs::Grammar::memory_leaf, ir_types::specs::Grammar::local_name, ir_types::specs::Grammar::value_type, ir_types::specs::Grammar::vector_type, ir_types::specs::Grammar::width))]
+#[tactic(auto, unfolding(ir_types::specs::TypeForms::memory_leaf, ir_types::specs::TypeForms::local_name, ir_types::specs::TypeForms::value_type, ir_types::specs::TypeForms::vector_type, ir_types::specs::TypeForms::width))]
 fn begins_leaf(tokens: Cursor<'_>) -> bool
     ensures { result ≡ opens memory_leaf (left tokens.entry) }
 {
@@ -99,35 +99,15 @@ fn begins_leaf(tokens: Cursor<'_>) -> bool
 }
 
 /// Whether an array is next.
-#[tactic(auto, unfolding(ir_types::specs::Grammar::array_begin))]
+#[tactic(auto, unfolding(ir_types::specs::TypeForms::array_begin))]
 fn begins_array(tokens: Cursor<'_>) -> bool
     ensures { result ≡ opens array_begin (left tokens.entry) }
 {
     tokens.is_next(TokenKind::LeftBracket)
 }
 
-/// Whether a struct is next: `{`, or `<` and `{`.
-fn begins_struct(tokens: Cursor<'_>) -> bool
-    ensures { result ≡ next_in struct_begins (left tokens.entry) }
-{
-    match tokens.split_first() {
-        Some((TokenKind::LeftBrace, _, _)) => true,
-        Some((TokenKind::Less, _, rest)) => rest.is_next(TokenKind::LeftBrace),
-        _ => false,
-    }
-}
-
-/// Whether a memory type is next.
-#[tactic(auto, using(crate::proofs::Openings::opens_deeper, crate::proofs::Openings::opens_enough))]
-pub fn begins_memory_type(tokens: Cursor<'_>) -> bool
-    ensures nested { (d : ℕ) → result ≡ opens (memory_type (suc d)) (left tokens.entry) }
-    ensures enough { (d : ℕ) → length (left tokens.entry) ≤ d → result ≡ opens (memory_type d) (left tokens.entry) }
-{
-    begins_leaf(tokens) || begins_array(tokens) || begins_struct(tokens)
-}
-
 /// `{`, or `<{` where it is packed.
-#[tactic(auto, unfolding(ir_types::specs::Grammar::type_parts))]
+#[tactic(auto, unfolding(ir_types::specs::TypeForms::type_parts))]
 fn struct_head<'t>(tokens: Cursor<'t>, packed: bool) -> Result<Cursor<'t>, SyntaxFault>
     ensures { Gives (λ rest. (opening packed ∷ [], left rest)) result (read (struct_head type_parts packed) (left tokens.entry)) }
 {
@@ -140,7 +120,7 @@ fn struct_head<'t>(tokens: Cursor<'t>, packed: bool) -> Result<Cursor<'t>, Synta
 }
 
 /// `}`, or `}>` where it is packed.
-#[tactic(auto, unfolding(ir_types::specs::Grammar::type_parts))]
+#[tactic(auto, unfolding(ir_types::specs::TypeForms::type_parts))]
 fn struct_end<'t>(tokens: Cursor<'t>, packed: bool) -> Result<Cursor<'t>, SyntaxFault>
     ensures { Gives (λ rest. (closing ∷ [], left rest)) result (read (struct_end type_parts packed) (left tokens.entry)) }
 {
@@ -172,7 +152,7 @@ fn struct_begin<'t>(
 }
 
 /// The beginning of a memory type.
-#[tactic(auto, unfolding(ir_types::specs::Grammar::type_parts))]
+#[tactic(auto, unfolding(ir_types::specs::TypeForms::type_parts))]
 pub fn head<'t>(
     alloc: Global,
     tokens: Cursor<'t>,

@@ -12,8 +12,7 @@ mod tables;
 mod type_names;
 mod types;
 
-pub use heads::begins_memory_type;
-pub use memory::{memory_type, skip_type};
+pub use memory::memory_type;
 pub use names::{block_label, global, local, name_before, name_behind};
 pub use numbers::{number_of_32_bits, number_of_64_bits};
 pub use symbol_names::SymbolNames;

@@ -10,9 +10,9 @@ ghost use Rattle.ir_types.specs.declared.memory_type.MemTy.{MemTy};
 ghost use Rattle.ir_types.specs.declared.memory_type.TypeName.{TypeName};
 ghost use Rattle.ir_types.specs.TypeNodes.{type_nodes};
 ghost use Rattle.ir_types.specs.Types.{AreTypes};
-ghost use Rattle.ir_types.specs.Grammar.{memory_type};
+ghost use Rattle.ir_types.specs.TypeForms.{memory_type};
 ghost use Rattle.ir_reader_types.specs.TypeTable.{names_of, LooksUpSome, LooksUpAll};
-ghost use Rattle.ir_reader_types.specs.Frames.{innermost, goes_on, Holds, Looked, is_refusal, behind_type};
+ghost use Rattle.ir_reader_types.specs.Frames.{innermost, goes_on, Holds, Looked, is_refusal};
 
 use crate::heads::{Begun, head, next};
 use crate::stack::Stack;
@@ -130,18 +130,4 @@ pub fn memory_type<'t>(
         done = now;
         rest = after;
     }
-}
-
-/// What is behind a memory type.
-///
-/// # Errors
-///
-/// Those of `memory_type`.
-pub fn skip_type<'t>(alloc: Global, tokens: Cursor<'t>) -> Result<Cursor<'t>, SyntaxFault>
-    ensures { (d : ℕ) → length (left tokens.entry) ≤ d → Gives (λ rest. left rest) result (behind_type d (left tokens.entry)) }
-{
-    let mut types = Vec::new(alloc);
-    let mut names = TypeNames::new(alloc);
-    let (_, rest) = memory_type(alloc, tokens, &mut types, &mut names)?;
-    Ok(rest)
 }

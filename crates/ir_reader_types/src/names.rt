@@ -4,7 +4,7 @@ ghost use Rattle.std.specs.Prelude.{◌≡◌, IfOk};
 ghost use Rattle.text_forms.specs.Reading.{read};
 ghost use Rattle.text_forms.specs.Gives.{Gives, left};
 ghost use Rattle.ir_types.specs.Written.{numbered_name, number_of, name_of, name_behind, name_before};
-ghost use Rattle.ir_types.specs.Grammar.{local_name, global_name, label};
+ghost use Rattle.ir_types.specs.TypeForms.{local_name, global_name, label};
 
 use crate::numbers::number_of_32_bits;
 use ir_types::Name;
@@ -57,7 +57,7 @@ pub fn name_before(alloc: Global, token: &[u8]) -> Result<Option<Name>, AllocErr
 }
 
 /// The name of a local.
-#[tactic(auto, unfolding(ir_types::specs::Grammar::local_name))]
+#[tactic(auto, unfolding(ir_types::specs::TypeForms::local_name))]
 pub fn local<'t>(alloc: Global, tokens: Cursor<'t>) -> Result<(Name, Cursor<'t>), SyntaxFault>
     ensures { Gives (λ x. (x.0, left x.1)) result (read local_name (left tokens.entry)) }
 {
@@ -69,7 +69,7 @@ pub fn local<'t>(alloc: Global, tokens: Cursor<'t>) -> Result<(Name, Cursor<'t>)
 }
 
 /// The name of a symbol.
-#[tactic(auto, unfolding(ir_types::specs::Grammar::global_name))]
+#[tactic(auto, unfolding(ir_types::specs::TypeForms::global_name))]
 pub fn global<'t>(alloc: Global, tokens: Cursor<'t>) -> Result<(Name, Cursor<'t>), SyntaxFault>
     ensures { Gives (λ x. (x.0, left x.1)) result (read global_name (left tokens.entry)) }
 {
@@ -81,7 +81,7 @@ pub fn global<'t>(alloc: Global, tokens: Cursor<'t>) -> Result<(Name, Cursor<'t>
 }
 
 /// The name of a block, before a colon.
-#[tactic(auto, unfolding(ir_types::specs::Grammar::label))]
+#[tactic(auto, unfolding(ir_types::specs::TypeForms::label))]
 pub fn block_label<'t>(alloc: Global, tokens: Cursor<'t>) -> Result<(Name, Cursor<'t>), SyntaxFault>
     ensures { Gives (λ x. (x.0, left x.1)) result (read label (left tokens.entry)) }
 {

@@ -10,7 +10,7 @@ ghost use Rattle.ir_types.specs.Types.{AreTypes};
 ghost use Rattle.ir_types.specs.TypeNodes.{type_nodes, names_used};
 ghost use Rattle.ir_types.specs.Tree.{global};
 ghost use Rattle.ir_types.specs.Sizes.{AreExtents};
-ghost use Rattle.ir_types.specs.Grammar.{inst_memory};
+ghost use Rattle.ir_types.specs.TypeForms.{inst_memory};
 ghost use Rattle.ir_types.specs.Offsets.{offset_of};
 ghost use Rattle.ir_sizes.specs.Stepping.{index_pair, IsIndex};
 ghost use Rattle.ir_sizes.specs.Prepared.{AreSteps};

@@ -5,8 +5,10 @@ ghost use Rattle.text_forms.specs.Form.{one, made};
 ghost use Rattle.text_forms.specs.Reading.{read, opens};
 ghost use Rattle.text_forms.specs.Gives.{Gives, left};
 ghost use Rattle.text_forms.specs.declared.TokenKind.TheVariants.{Number};
-ghost use Rattle.ir_types.specs.Types.{IsOneOf, IsType, widths};
-ghost use Rattle.ir_types.specs.Grammar.{behind, width, width_of, lane_counts, lanes_of, vector_type, value_type, return_type};
+ghost use Rattle.ir_types.specs.Types.{IsOneOf, IsType, widths, lane_counts};
+ghost use Rattle.text_forms.specs.Combined.{behind};
+ghost use Rattle.ir_types.specs.TypeForms.{width, lanes_of, vector_type, value_type, return_type};
+ghost use Rattle.ir_types.specs.ValueForms.{width_of};
 ghost use Rattle.ir_reader_types.specs.Vectors.{vector_read};
 
 use crate::numbers::number_of_32_bits;
@@ -14,7 +16,7 @@ use ir_types::Ty;
 use text_forms::{Cursor, SyntaxFault, TokenKind};
 
 /// iN.
-#[tactic(auto, unfolding(ir_types::specs::Grammar::width))]
+#[tactic(auto, unfolding(ir_types::specs::TypeForms::width))]
 pub fn width<'t>(tokens: Cursor<'t>) -> Result<(u32, Cursor<'t>), SyntaxFault>
     ensures reads { Gives (λ x. (x.0, left x.1)) result (read width (left tokens.entry)) }
     ensures narrow { IfOk result (λ x. x.0 ≤ 64) }
@@ -39,7 +41,7 @@ pub fn width<'t>(tokens: Cursor<'t>) -> Result<(u32, Cursor<'t>), SyntaxFault>
 }
 
 /// Whether a width stands next.
-#[tactic(auto, unfolding(ir_types::specs::Grammar::width))]
+#[tactic(auto, unfolding(ir_types::specs::TypeForms::width))]
 pub fn begins_width(tokens: Cursor<'_>) -> bool
     ensures { result ≡ opens width (left tokens.entry) }
 {
@@ -118,7 +120,7 @@ fn vector_type<'t>(tokens: Cursor<'t>) -> Result<(Ty, Cursor<'t>), SyntaxFault>
 }
 
 /// Whether the type of a vector stands next: `<` and a number.
-#[tactic(auto, unfolding(ir_types::specs::Grammar::vector_type))]
+#[tactic(auto, unfolding(ir_types::specs::TypeForms::vector_type))]
 fn begins_vector(tokens: Cursor<'_>) -> bool
     ensures { result ≡ opens vector_type (left tokens.entry) }
 {
@@ -129,7 +131,7 @@ fn begins_vector(tokens: Cursor<'_>) -> bool
 }
 
 /// iN | ptr | < n x iN >.
-#[tactic(auto, unfolding(ir_types::specs::Grammar::value_type))]
+#[tactic(auto, unfolding(ir_types::specs::TypeForms::value_type))]
 pub fn value_type<'t>(tokens: Cursor<'t>) -> Result<(Ty, Cursor<'t>), SyntaxFault>
     ensures reads { Gives (λ x. (x.0, left x.1)) result (read value_type (left tokens.entry)) }
     ensures narrow { IfOk result (λ x. width_of x.0 ≤ 64) }
@@ -146,7 +148,7 @@ pub fn value_type<'t>(tokens: Cursor<'t>) -> Result<(Ty, Cursor<'t>), SyntaxFaul
 }
 
 /// Whether a type of values stands next.
-#[tactic(auto, unfolding(ir_types::specs::Grammar::value_type, ir_types::specs::Grammar::vector_type, ir_types::specs::Grammar::width))]
+#[tactic(auto, unfolding(ir_types::specs::TypeForms::value_type, ir_types::specs::TypeForms::vector_type, ir_types::specs::TypeForms::width))]
 pub fn begins_type(tokens: Cursor<'_>) -> bool
     ensures { result ≡ opens value_type (left tokens.entry) }
 {
@@ -154,7 +156,7 @@ pub fn begins_type(tokens: Cursor<'_>) -> bool
 }
 
 /// T | void.
-#[tactic(auto, unfolding(ir_types::specs::Grammar::return_type))]
+#[tactic(auto, unfolding(ir_types::specs::TypeForms::return_type))]
 pub fn return_type<'t>(tokens: Cursor<'t>) -> Result<(Ty, Cursor<'t>), SyntaxFault>
     ensures { Gives (λ x. (x.0, left x.1)) result (read return_type (left tokens.entry)) }
 {

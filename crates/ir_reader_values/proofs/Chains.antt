@@ -13,6 +13,7 @@ pub alike : {A B : Type 0} (o : Option A) (f g : A → Option B) → ((a : A) �
 alike None f g h = refl
 alike (Some a) f g h = h a
 
+-- what is made of what is read is completed as that is
 pub completed_mapped : {A B C : Type 0} (f : B → Option C) (h : A → B) (g : Form A) (ts : List Lexeme) → completed f (read (mapped h g) ts) ≡ completed (λ a. f (h a)) (read g ts)
 completed_mapped {A} f h g ts = by (read g ts)
   where
@@ -20,6 +21,7 @@ completed_mapped {A} f h g ts = by (read g ts)
     by None = refl
     by (Some x) = refl
 
+-- two ways to complete that are alike complete alike
 pub completed_alike : {A B R : Type 0} (f g : A → Option B) (r : Option (A × R)) → ((a : A) → f a ≡ g a) → completed f r ≡ completed g r
 completed_alike f g None h = refl
 completed_alike f g (Some x) h = ap (λ (o : Option _). o >>= λ b. Some (b, x.1)) (h x.0)
@@ -104,6 +106,7 @@ then_closes : {B : Type 0} (c : TokenKind) (us : List Lexeme) (q : Option B) →
 then_closes c us None = refl
 then_closes c us (Some b) = refl
 
+-- what stands between two marks is read and completed part after part
 pub between_is : {A B : Type 0} (o c : TokenKind) (f : A → Option B) (g : Form A) (ts : List Lexeme) → between_read o c f (read g) ts ≡ completed f (read (between o c g) ts)
 between_is {A} {B} o c f g ts = by (read (mark o) ts)
   where

@@ -11,7 +11,10 @@ use Rattle.ir_types.specs.declared.inst.Ty.{Ty}
 use Rattle.ir_types.specs.declared.inst.Ty.TheVariants.{Int, Ptr}
 use Rattle.ir_types.specs.Offsets.{Definitions}
 use Rattle.ir_types.specs.Tree.{OperandTree}
-use Rattle.ir_types.specs.Grammar.{WrittenValue, lane_at, is_int, operand_at, width, value_type, value, after_mark, two_values, typed_value, both_at, typed_pair, pointer_value, index_value}
+use Rattle.text_forms.specs.Combined.{after_mark}
+use Rattle.ir_types.specs.TypeForms.{width, value_type}
+use Rattle.ir_types.specs.ValueForms.{WrittenValue, lane_at, is_int, operand_at, value}
+use Rattle.ir_types.specs.InstParts.{two_values, typed_value, both_at, typed_pair, pointer_value, index_value}
 use Rattle.ir_reader_values.specs.declared.lanes.Lane.{Lane}
 use Rattle.ir_reader_values.specs.View.{typed_lane_in, lanes_in}
 use Rattle.ir_reader_values.specs.Operands.{lanes_of_width, typed_value_read, typed_pair_read, pointer_read, index_read}
@@ -35,14 +38,17 @@ pub by_first : {A B C D : Type 0} (f : A → B → Option C) (m : A → C → D)
     → completed (λ x. f x.0 x.1 >>= λ c. Some (m x.0 c)) (read (pair g h) ts) ≡ (read g ts >>= λ a. completed (f a.0) (read h a.1) >>= λ c. Some (m a.0 c.0, c.1))
 by_first f m g h ts = first_apart (λ x. f x.0 x.1 >>= λ c. Some (m x.0 c)) g h ts ∙ alike (read g ts) _ _ (λ a. then_made (f a.0) (m a.0) (read h a.1))
 
+-- a type and a value are read one after the other
 pub typed_value_is : (defs : Definitions) (ts : List Lexeme) → read (typed_value defs) ts ≡ typed_value_read defs ts
 unfolding typed_value
 typed_value_is defs ts = by_first (operand_at defs) (λ t a. (t, a)) value_type value ts
 
+-- so are a width and a value
 pub index_is : (defs : Definitions) (ts : List Lexeme) → read (index_value defs) ts ≡ index_read defs ts
 unfolding index_value
 index_is defs ts = by_first (λ w. operand_at defs (Int w)) (λ w a. (w, a)) width value ts
 
+-- so are `ptr` and a value
 pub pointer_is : (defs : Definitions) (ts : List Lexeme) → read (pointer_value defs) ts ≡ pointer_read defs ts
 unfolding pointer_value
 pointer_is defs ts = behind_apart (operand_at defs Ptr) (exactly Word (codes "ptr")) value ts
@@ -50,6 +56,7 @@ pointer_is defs ts = behind_apart (operand_at defs Ptr) (exactly Word (codes "pt
 abbrev second_at : Definitions → Ty → OperandTree → WrittenValue → Option (Ty × (OperandTree × OperandTree))
 second_at defs t a x = operand_at defs t x >>= λ b. Some (t, (a, b))
 
+-- so are a type and two values
 pub typed_pair_is : (defs : Definitions) (ts : List Lexeme) → read (typed_pair defs) ts ≡ typed_pair_read defs ts
 unfolding typed_pair
 typed_pair_is defs ts =

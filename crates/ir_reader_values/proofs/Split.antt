@@ -81,6 +81,7 @@ gathered_fails {A} {B} {C} k step f ts whole n o e before = by (read k ts) refl 
     by None d e = sym before ∙ ap (λ (r : Option _). gathered f (completed (split_each step) r)) (many_step k ts n o ∙ ap (then_more k) d)
     by (Some x) d e = sym before ∙ ap (λ (r : Option _). gathered f (completed (split_each step) r)) (many_step k ts n o ∙ ap (then_more k) d) ∙ refused step f x.0 (read (many k) x.1) (nothing_made (step x.0) x.1 e)
 
+-- an element that stands there is not read
 pub split_fails : {A B C : Type 0} (f : Form A) (step : A → Option (B × C)) (bs : List B) (cs : List C) (ts : List Lexeme) (whole : Both B C) → nullable f ≡ false → opens f ts ≡ true → completed step (read f ts) ≡ None
     → behind_both bs cs (completed (split_each step) (read (many f) ts)) ≡ whole → whole ≡ None
 split_fails f step bs cs ts whole n o e before = gathered_fails f step (put_behind bs cs) ts whole n o e before

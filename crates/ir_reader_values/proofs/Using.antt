@@ -13,7 +13,7 @@ use Rattle.ir_types.specs.Offsets.{offset_of}
 use Rattle.ir_types.specs.Tree.{OperandTree, number, lanes, global, out_of_range}
 use Rattle.ir_types.specs.Written.{number_at, fits_width}
 use Rattle.ir_types.specs.Used.{symbols_of}
-use Rattle.ir_types.specs.Grammar.{WrittenLane, WrittenValue, named, digits, yes, no, null_word, poison_word, zeros, splat, lane_list, symbol, stepped, width_of, lane_at, lane_fits, is_int, index_of, index_fits, if_in_range, zeros_at, splat_at, lanes_at, operand_at}
+use Rattle.ir_types.specs.ValueForms.{WrittenLane, WrittenValue, named, digits, yes, no, null_word, poison_word, zeros, splat, lane_list, symbol, stepped, width_of, lane_at, lane_fits, is_int, index_of, index_fits, if_in_range, zeros_at, splat_at, lanes_at, operand_at}
 use Rattle.ir_reader_types.specs.TypeTable.{missing_entry}
 use Rattle.ir_reader_types.specs.Tables.{TableLists, definitions_of}
 use Rattle.ir_reader_types.specs.Uses.{Uses}

@@ -8,9 +8,11 @@ use Rattle.ir_reader_types.proofs.Growth.{grows_refl, grows_trans}
 use Rattle.ir_reader_values.specs.declared.scope.Scope.{Scope}
 use Rattle.ir_reader_values.specs.Seen.{definitions, Widens, IsSteady}
 
+-- a scope widens itself
 pub widens_refl : (s : Scope) → Widens s s
 widens_refl s = record { names = extends_refl s.names; tables = grows_refl s.tables; definitions = refl }
 
+-- what widens one that widens another widens that
 pub widens_trans : (a b c : Scope) → Widens a b → Widens b c → Widens a c
 widens_trans a b c p q = record {
   names = extends_trans a.names b.names c.names p.names q.names;

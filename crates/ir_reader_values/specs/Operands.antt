@@ -9,7 +9,8 @@ use Rattle.ir_types.specs.declared.inst.Ty.{Ty}
 use Rattle.ir_types.specs.declared.inst.Ty.TheVariants.{Int, Ptr}
 use Rattle.ir_types.specs.Offsets.{Definitions}
 use Rattle.ir_types.specs.Tree.{OperandTree}
-use Rattle.ir_types.specs.Grammar.{WrittenLane, lane_at, is_int, operand_at, width, value_type, value}
+use Rattle.ir_types.specs.TypeForms.{width, value_type}
+use Rattle.ir_types.specs.ValueForms.{WrittenLane, lane_at, is_int, operand_at, value}
 
 -- lanes at the type of a vector of this width
 abbrev pub lanes_of_width : ℕ → List (Ty × WrittenLane) → Option (List (Option ℕ))

@@ -1,17 +1,21 @@
 -- What the places in a function stand for while it is read: those among its own names, and those in the module's tables.
-use Rattle.std.specs.Prelude.{◌≡◌, ℕ, List, [], map, Result, Ok, Err}
+use Rattle.std.specs.Prelude.{◌≡◌, ℕ, List, [], ◌∷◌, map, Result, Ok, Err, IfOk}
+use Rattle.text_forms.specs.declared.cursor.Cursor.{Cursor}
 use Rattle.text_forms.specs.declared.cursor.SyntaxFault.{SyntaxFault}
 use Rattle.text_forms.specs.View.{Extends}
+use Rattle.text_forms.specs.Form.{Form}
+use Rattle.text_forms.specs.Reading.{read}
+use Rattle.text_forms.specs.Gives.{Gives, left}
 use Rattle.ir_types.specs.declared.name.Name.{Name}
 use Rattle.ir_types.specs.declared.name.ValueId.{ValueId}
 use Rattle.ir_types.specs.declared.memory_type.TypeId.{TypeId}
 use Rattle.ir_types.specs.declared.inst.Operand.{Operand}
 use Rattle.ir_types.specs.declared.inst.Inst.{Inst}
 use Rattle.ir_types.specs.Names.{name_at}
-use Rattle.ir_types.specs.TypeNodes.{TypeNode}
+use Rattle.ir_types.specs.TypeNodes.{TypeNode, names_used}
 use Rattle.ir_types.specs.Offsets.{Definitions}
 use Rattle.ir_types.specs.Denotes.{name_in, operand_in, inst_in}
-use Rattle.ir_types.specs.Tree.{OperandTree, InstTree}
+use Rattle.ir_types.specs.Tree.{OperandTree, InstTree, global}
 use Rattle.ir_types.specs.Used.{types_in}
 use Rattle.ir_reader_types.specs.Tables.{tables_in, nodes_there, definitions_of, Grows}
 use Rattle.ir_reader_types.specs.Uses.{Uses}
@@ -67,3 +71,31 @@ AreSteady view s xs = (later : Scope) → Widens s later → map (view later) xs
 abbrev pub Stays : {X Y Z : Type 0} → (Scope → X → Y) → Scope → Result (X × Z) SyntaxFault → Type 0
 Stays view s (Ok x) = IsSteady view s x.0
 Stays view s (Err e) = Unit {0}
+
+-- the result, seen by view, is what the form reads of these tokens
+abbrev pub ReadsAs : {X Y : Type 0} → (X → Y) → Result (X × Cursor) SyntaxFault → Form Y → Cursor → Type 0
+ReadsAs view r form tokens = Gives (λ x. (view x.0, left x.1)) r (read form (left tokens))
+
+-- the result, seen by view in the new scope, is what the form over the old definitions reads of these tokens
+abbrev pub ReadsOver : {X Y : Type 0} → (Scope → X → Y) → (Definitions → Form Y) → Cursor → Scope → Result (X × Cursor) SyntaxFault → Scope → Type 0
+ReadsOver view form tokens old r new = Gives (λ x. (view new x.0, left x.1)) r (read (form (definitions old)) (left tokens))
+
+-- the new tables have what this operand, seen in them, uses
+abbrev pub OperandAdds : Scope → Operand → Scope → Type 0
+OperandAdds old a new = OperandsUse old (operand_seen new a ∷ []) new
+
+-- they have what these do
+abbrev pub OperandsAdd : Scope → List Operand → Scope → Type 0
+OperandsAdd old operands new = OperandsUse old (map (operand_seen new) operands) new
+
+-- they have what the instruction that was read uses
+abbrev pub InstAdds : {Z : Type 0} → Scope → Result (Inst × Z) SyntaxFault → Scope → Type 0
+InstAdds old r new = IfOk r (λ x. InstUses old (inst_seen new x.0) new)
+
+-- they have what a memory type uses
+abbrev pub TypeAdds : Scope → TypeId → Scope → Type 0
+TypeAdds old id new = Uses old.tables (names_used (nodes_seen new id)) [] new.tables
+
+-- they have this symbol
+abbrev pub SymbolAdds : Scope → ℕ → Scope → Type 0
+SymbolAdds old id new = OperandsUse old (global (symbol_seen new id) 0 ∷ []) new

@@ -1,11 +1,14 @@
 -- What the code keeps of what it has read, as values of the grammar.
-use Rattle.std.specs.Prelude.{◌≤◌, ℕ, List, [], ◌∷◌, map, Option, Some, None, All}
+use Rattle.std.specs.Prelude.{◌≡◌, ◌≤◌, ℕ, List, [], ◌∷◌, map, Option, Some, None, true, false, MatchOption, All}
+use Rattle.text_forms.specs.declared.cursor.Cursor.{Cursor}
+use Rattle.text_forms.specs.Reading.{read, opens}
+use Rattle.text_forms.specs.Gives.{left}
 use Rattle.ir_types.specs.declared.name.Name.{Name}
 use Rattle.ir_types.specs.declared.inst.Ty.{Ty}
 use Rattle.ir_types.specs.declared.inst.Operand.{Operand}
 use Rattle.ir_types.specs.TypeNodes.{names_used}
 use Rattle.ir_types.specs.Tree.{OperandTree, lanes, global, out_of_range}
-use Rattle.ir_types.specs.Grammar.{WrittenLane, lane_digits, lane_true, lane_false, lane_poison, WrittenValue, named, digits, yes, no, null_word, poison_word, zeros, splat, lane_list, symbol, stepped}
+use Rattle.ir_types.specs.ValueForms.{WrittenLane, lane_digits, lane_true, lane_false, lane_poison, WrittenValue, named, digits, yes, no, null_word, poison_word, zeros, splat, lane_list, symbol, stepped, constant_word}
 use Rattle.ir_reader_types.specs.Uses.{Uses}
 use Rattle.ir_reader_values.specs.declared.constant.WrittenIndex.{WrittenIndex}
 use Rattle.ir_reader_values.specs.declared.lanes.Lane.{Lane}
@@ -13,7 +16,7 @@ use Rattle.ir_reader_values.specs.declared.lanes.Lane.TheVariants as lane
 use Rattle.ir_reader_values.specs.declared.scope.Scope.{Scope}
 use Rattle.ir_reader_values.specs.declared.value.Written.{Written}
 use Rattle.ir_reader_values.specs.declared.value.Written.TheVariants as written
-use Rattle.ir_reader_values.specs.Seen.{nodes_seen, symbol_seen, name_seen, operand_seen}
+use Rattle.ir_reader_values.specs.Seen.{nodes_seen, symbol_seen, name_seen, operand_seen, OperandsUse}
 
 -- a constant lane as it is written
 abbrev pub lane_in : Lane → WrittenLane
@@ -88,3 +91,15 @@ symbol_written w = []
 -- the new tables have what a written value uses
 abbrev pub WrittenUses : Scope → WrittenValue → Scope → Type 0
 WrittenUses old w new = Uses old.tables (types_written w) (symbol_written w) new.tables
+
+-- a word is read, in every scope the same value, or no such word stands there
+abbrev pub IsWordRead : Option (Written × Cursor) → Cursor → Type 0
+IsWordRead r tokens = MatchOption r (opens constant_word (left tokens) ≡ false) (λ x. (opens constant_word (left tokens) ≡ true) × (((scope : Scope) → read constant_word (left tokens) ≡ Some (written_in scope x.0, left x.1)) × AreIndexed x.0))
+
+-- the new tables have what two operands behind their type use
+abbrev pub PairAdds : Scope → Ty × (Operand × Operand) → Scope → Type 0
+PairAdds old x new = OperandsUse old (operand_seen new x.1.0 ∷ operand_seen new x.1.1 ∷ []) new
+
+-- they have what three operands do, each behind its type
+abbrev pub ThreeAdd : Scope → (Ty × Operand) × ((Ty × Operand) × (Ty × Operand)) → Scope → Type 0
+ThreeAdd old x new = OperandsUse old (operand_seen new x.0.1 ∷ operand_seen new x.1.0.1 ∷ operand_seen new x.1.1.1 ∷ []) new

@@ -8,8 +8,10 @@ ghost use Rattle.text_forms.specs.Gives.{Gives, left};
 ghost use Rattle.ir_types.specs.TypeNodes.{names_used};
 ghost use Rattle.ir_types.specs.Tree.{global};
 ghost use Rattle.ir_reader_types.specs.Uses.{Uses};
-ghost use Rattle.ir_types.specs.Grammar.{global_name, inst_memory, after_mark, behind, some, comma_index, stepped, constant_offset};
-ghost use Rattle.ir_reader_values.specs.Seen.{nodes_seen, symbol_seen, Widens, Stays, OperandsUse};
+ghost use Rattle.text_forms.specs.Combined.{after_mark, behind, some};
+ghost use Rattle.ir_types.specs.TypeForms.{global_name, inst_memory};
+ghost use Rattle.ir_types.specs.ValueForms.{comma_index, stepped, constant_offset};
+ghost use Rattle.ir_reader_values.specs.Seen.{nodes_seen, symbol_seen, Widens, Stays, ReadsAs, SymbolAdds, TypeAdds};
 ghost use Rattle.ir_reader_values.specs.View.{index_in, HasWidth, written_in, AreIndexed, WrittenUses};
 
 use crate::flags::three_flags;
@@ -38,9 +40,9 @@ pub fn memory<'t>(
     scope: &mut Scope,
 ) -> Result<(TypeId, Cursor<'t>), SyntaxFault>
     ensures grows { Widens scope.old scope.new }
-    ensures reads { Gives (λ x. (nodes_seen scope.new x.0, left x.1)) result (read inst_memory (left tokens.entry)) }
+    ensures reads { ReadsAs (nodes_seen scope.new) result inst_memory tokens.entry }
     ensures stays { Stays nodes_seen scope.new result }
-    ensures uses { IfOk result (λ x. Uses scope.old.tables (names_used (nodes_seen scope.new x.0)) [] scope.new.tables) }
+    ensures uses { IfOk result (λ x. TypeAdds scope.old x.0 scope.new) }
 {
     let (id, rest) = scope.tables.memory_type(alloc, tokens)?;
     Ok((id, rest))
@@ -54,9 +56,9 @@ pub fn symbol<'t>(
     scope: &mut Scope,
 ) -> Result<(u32, Cursor<'t>), SyntaxFault>
     ensures grows { Widens scope.old scope.new }
-    ensures reads { Gives (λ x. (symbol_seen scope.new x.0, left x.1)) result (read global_name (left tokens.entry)) }
+    ensures reads { ReadsAs (symbol_seen scope.new) result global_name tokens.entry }
     ensures stays { Stays symbol_seen scope.new result }
-    ensures uses { IfOk result (λ x. OperandsUse scope.old (global (symbol_seen scope.new x.0) 0 ∷ []) scope.new) }
+    ensures uses { IfOk result (λ x. SymbolAdds scope.old x.0 scope.new) }
 {
     let (name, rest) = global(alloc, tokens)?;
     let id = scope.tables.symbol(name)?;
@@ -70,9 +72,9 @@ fn comma_symbol<'t>(
     scope: &mut Scope,
 ) -> Result<(u32, Cursor<'t>), SyntaxFault>
     ensures grows { Widens scope.old scope.new }
-    ensures reads { Gives (λ x. (symbol_seen scope.new x.0, left x.1)) result (read (after_mark Comma (behind (codes "ptr") global_name)) (left tokens.entry)) }
+    ensures reads { ReadsAs (symbol_seen scope.new) result (after_mark Comma (behind (codes "ptr") global_name)) tokens.entry }
     ensures stays { Stays symbol_seen scope.new result }
-    ensures uses { IfOk result (λ x. OperandsUse scope.old (global (symbol_seen scope.new x.0) 0 ∷ []) scope.new) }
+    ensures uses { IfOk result (λ x. SymbolAdds scope.old x.0 scope.new) }
 {
     let rest = tokens.mark(TokenKind::Comma)?;
     let rest = rest.word(b"ptr")?;
@@ -81,7 +83,7 @@ fn comma_symbol<'t>(
 
 /// iN number behind a comma.
 fn comma_index<'t>(tokens: Cursor<'t>) -> Result<(WrittenIndex<'t>, Cursor<'t>), SyntaxFault>
-    ensures reads { Gives (λ x. (index_in x.0, left x.1)) result (read comma_index (left tokens.entry)) }
+    ensures reads { ReadsAs index_in result comma_index tokens.entry }
     ensures within { IfOk result (λ x. HasWidth x.0) }
 {
     let rest = tokens.mark(TokenKind::Comma)?;
@@ -110,14 +112,14 @@ fn indexes<'t>(
 }
 
 /// ( M, ptr @name, iN number, .. ).
-#[tactic(auto, unfolding(ir_types::specs::Grammar::constant_offset))]
+#[tactic(auto, unfolding(ir_types::specs::ValueForms::constant_offset))]
 pub fn constant_offset<'t>(
     alloc: Global,
     tokens: Cursor<'t>,
     scope: &mut Scope,
 ) -> Result<(Written<'t>, Cursor<'t>), SyntaxFault>
     ensures grows { Widens scope.old scope.new }
-    ensures reads { Gives (λ x. (written_in scope.new x.0, left x.1)) result (read (mapped stepped constant_offset) (left tokens.entry)) }
+    ensures reads { ReadsAs (written_in scope.new) result (mapped stepped constant_offset) tokens.entry }
     ensures stays { Stays written_in scope.new result }
     ensures indexed { IfOk result (λ x. AreIndexed x.0) }
     ensures uses { IfOk result (λ x. WrittenUses scope.old (written_in scope.new x.0) scope.new) }

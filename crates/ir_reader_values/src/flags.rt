@@ -3,7 +3,7 @@
 ghost use Rattle.std.specs.Prelude.{◌≡◌, Some};
 ghost use Rattle.text_forms.specs.Reading.{read};
 ghost use Rattle.text_forms.specs.Gives.{left};
-ghost use Rattle.ir_types.specs.Grammar.{one_flag, two_flags, three_flags};
+ghost use Rattle.ir_types.specs.FlagForms.{one_flag, two_flags, three_flags};
 
 use text_forms::Cursor;
 
@@ -35,7 +35,7 @@ pub fn two_flags<'t>(tokens: Cursor<'t>, first: &[u8], second: &[u8]) -> ((bool,
 }
 
 /// Whether `inbounds`, `nuw` and `nusw` stand there, and what is behind them.
-#[tactic(auto, unfolding(ir_types::specs::Grammar::three_flags))]
+#[tactic(auto, unfolding(ir_types::specs::FlagForms::three_flags))]
 pub fn three_flags<'t>(tokens: Cursor<'t>) -> ((bool, (bool, bool)), Cursor<'t>)
     ensures { read three_flags (left tokens.entry) ≡ Some (result.0, left result.1) }
 {

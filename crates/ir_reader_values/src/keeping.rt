@@ -5,7 +5,7 @@ ghost use Rattle.text_forms.specs.Gives.{Gives, left};
 ghost use Rattle.text_forms.specs.Kept.{attachments};
 ghost use Rattle.text_forms.specs.Nested.{joined};
 ghost use Rattle.text_forms.specs.Reading.{read};
-ghost use Rattle.ir_types.specs.Grammar.{excluded_words, kept};
+ghost use Rattle.ir_types.specs.Words.{excluded_words, kept};
 
 use ir_types::Kept;
 use kept_runs::{keep_attachments, keep_run};
@@ -138,7 +138,7 @@ static EXCLUDED_WORDS: [&[u8]; 120] = [
 ];
 
 /// The words that no kept run has outside parentheses, but for `align` and `cc`, behind which a number may stand.
-#[tactic(auto, unfolding(ir_types::specs::Grammar::type_words, ir_types::specs::Grammar::value_words, ir_types::specs::Grammar::item_words, ir_types::specs::Grammar::operation_words, ir_types::specs::Grammar::terminator_words, ir_types::specs::Grammar::instruction_words, text_forms::specs::LeftOut::left_out_words, ir_types::specs::Grammar::excluded_words))]
+#[tactic(auto, unfolding(ir_types::specs::TypeForms::type_words, ir_types::specs::Words::value_words, ir_types::specs::Words::item_words, ir_types::specs::Words::operation_words, ir_types::specs::Words::terminator_words, ir_types::specs::Words::instruction_words, text_forms::specs::LeftOut::left_out_words, ir_types::specs::Words::excluded_words))]
 pub fn excluded_words() -> &'static [&'static [u8]]
     ensures { map (λ w. w.now) result.now ≡ excluded_words }
 {
@@ -150,7 +150,7 @@ pub fn excluded_words() -> &'static [&'static [u8]]
 /// # Errors
 ///
 /// Where a piece of it is not complete, or there is no room.
-#[tactic(auto, unfolding(ir_types::specs::Grammar::kept))]
+#[tactic(auto, unfolding(ir_types::specs::Words::kept))]
 pub fn kept<'t>(alloc: Global, tokens: Cursor<'t>) -> Result<(Kept, Cursor<'t>), SyntaxFault>
     ensures { Gives (λ x. (x.0, left x.1)) result (read kept (left tokens.entry)) }
 {
@@ -160,7 +160,7 @@ pub fn kept<'t>(alloc: Global, tokens: Cursor<'t>) -> Result<(Kept, Cursor<'t>),
 }
 
 /// What attachments and a run behind them keep.
-#[tactic(auto, unfolding(ir_types::specs::Grammar::kept))]
+#[tactic(auto, unfolding(ir_types::specs::Words::kept))]
 pub fn kept_before<'t>(alloc: Global, tokens: Cursor<'t>) -> Result<(Kept, Cursor<'t>), SyntaxFault>
     ensures { Gives (λ x. (x.0, left x.1)) result (read (joined attachments kept) (left tokens.entry)) }
 {
@@ -171,7 +171,7 @@ pub fn kept_before<'t>(alloc: Global, tokens: Cursor<'t>) -> Result<(Kept, Curso
 }
 
 /// What a run and attachments behind it keep.
-#[tactic(auto, unfolding(ir_types::specs::Grammar::kept))]
+#[tactic(auto, unfolding(ir_types::specs::Words::kept))]
 pub fn kept_behind<'t>(alloc: Global, tokens: Cursor<'t>) -> Result<(Kept, Cursor<'t>), SyntaxFault>
     ensures { Gives (λ x. (x.0, left x.1)) result (read (joined kept attachments) (left tokens.entry)) }
 {

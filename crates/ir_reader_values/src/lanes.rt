@@ -4,8 +4,10 @@ ghost use Rattle.std.specs.Prelude.{◌≡◌};
 ghost use Rattle.text_forms.specs.declared.TokenKind.TheVariants.{Comma, LeftParen, RightParen, Less, Greater};
 ghost use Rattle.text_forms.specs.Reading.{read, opens};
 ghost use Rattle.text_forms.specs.Gives.{Gives, left};
-ghost use Rattle.ir_types.specs.Grammar.{lane, typed_lane, commas, marked, between};
+ghost use Rattle.text_forms.specs.Combined.{commas, marked, between};
+ghost use Rattle.ir_types.specs.ValueForms.{lane, typed_lane};
 ghost use Rattle.ir_reader_values.specs.View.{lane_in, typed_lane_in, lanes_in};
+ghost use Rattle.ir_reader_values.specs.Seen.{ReadsAs};
 
 use ir_reader_types::{begins_type, value_type};
 use ir_types::Ty;
@@ -24,9 +26,9 @@ pub enum Lane<'t> {
 }
 
 /// number | true | false | poison.
-#[tactic(auto, unfolding(ir_types::specs::Grammar::lane))]
+#[tactic(auto, unfolding(ir_types::specs::ValueForms::lane))]
 fn written_lane<'t>(tokens: Cursor<'t>) -> Result<(Lane<'t>, Cursor<'t>), SyntaxFault>
-    ensures { Gives (λ x. (lane_in x.0, left x.1)) result (read lane (left tokens.entry)) }
+    ensures { ReadsAs lane_in result lane tokens.entry }
 {
     if tokens.is_next(TokenKind::Number) {
         let (digits, rest) = tokens.one(TokenKind::Number)?;
@@ -43,9 +45,9 @@ fn written_lane<'t>(tokens: Cursor<'t>) -> Result<(Lane<'t>, Cursor<'t>), Syntax
 }
 
 /// T V of a lane.
-#[tactic(auto, unfolding(ir_types::specs::Grammar::typed_lane))]
+#[tactic(auto, unfolding(ir_types::specs::ValueForms::typed_lane))]
 fn typed_lane<'t>(tokens: Cursor<'t>) -> Result<((Ty, Lane<'t>), Cursor<'t>), SyntaxFault>
-    ensures { Gives (λ x. (typed_lane_in x.0, left x.1)) result (read typed_lane (left tokens.entry)) }
+    ensures { ReadsAs typed_lane_in result typed_lane tokens.entry }
 {
     let (ty, rest) = value_type(tokens)?;
     let (lane, rest) = written_lane(rest)?;
@@ -54,14 +56,14 @@ fn typed_lane<'t>(tokens: Cursor<'t>) -> Result<((Ty, Lane<'t>), Cursor<'t>), Sy
 
 /// A lane behind a comma.
 fn comma_lane<'t>(tokens: Cursor<'t>) -> Result<((Ty, Lane<'t>), Cursor<'t>), SyntaxFault>
-    ensures { Gives (λ x. (typed_lane_in x.0, left x.1)) result (read (marked Comma typed_lane) (left tokens.entry)) }
+    ensures { ReadsAs typed_lane_in result (marked Comma typed_lane) tokens.entry }
 {
     let rest = tokens.mark(TokenKind::Comma)?;
     typed_lane(rest)
 }
 
 /// Whether a comma and a lane stand next.
-#[tactic(auto, unfolding(ir_types::specs::Grammar::typed_lane, ir_types::specs::Grammar::value_type, ir_types::specs::Grammar::vector_type, ir_types::specs::Grammar::width))]
+#[tactic(auto, unfolding(ir_types::specs::ValueForms::typed_lane, ir_types::specs::TypeForms::value_type, ir_types::specs::TypeForms::vector_type, ir_types::specs::TypeForms::width))]
 fn another(tokens: Cursor<'_>) -> bool
     ensures { result ≡ opens (marked Comma typed_lane) (left tokens.entry) }
 {
@@ -94,7 +96,7 @@ pub fn lane_list<'t>(
     alloc: Global,
     tokens: Cursor<'t>,
 ) -> Result<(Items<(Ty, Lane<'t>)>, Cursor<'t>), SyntaxFault>
-    ensures { Gives (λ x. (lanes_in x.0, left x.1)) result (read (between Less Greater (commas typed_lane)) (left tokens.entry)) }
+    ensures { ReadsAs lanes_in result (between Less Greater (commas typed_lane)) tokens.entry }
 {
     let rest = tokens.mark(TokenKind::Less)?;
     let (lanes, rest) = some_lanes(alloc, rest)?;
@@ -104,7 +106,7 @@ pub fn lane_list<'t>(
 
 /// ( T V ).
 pub fn lane_in_parens<'t>(tokens: Cursor<'t>) -> Result<((Ty, Lane<'t>), Cursor<'t>), SyntaxFault>
-    ensures { Gives (λ x. (typed_lane_in x.0, left x.1)) result (read (between LeftParen RightParen typed_lane) (left tokens.entry)) }
+    ensures { ReadsAs typed_lane_in result (between LeftParen RightParen typed_lane) tokens.entry }
 {
     let rest = tokens.mark(TokenKind::LeftParen)?;
     let (lane, rest) = typed_lane(rest)?;

@@ -1,20 +1,19 @@
 // Written values as operands at their types.
 
-ghost use Rattle.std.specs.Prelude.{◌≡◌, ◌≤◌, Some, replicate, map, All, IfOk, ◌∷◌, []};
+ghost use Rattle.std.specs.Prelude.{◌≡◌, ◌≤◌, Some, replicate, map, All, IfOk};
 ghost use Rattle.std.specs.List.{list_all};
 ghost use Rattle.text_forms.specs.Form.{made};
-ghost use Rattle.text_forms.specs.Reading.{read};
-ghost use Rattle.text_forms.specs.Gives.{Gives, left};
+ghost use Rattle.text_forms.specs.Gives.{Gives};
 ghost use Rattle.ir_types.specs.Types.{IsType};
 ghost use Rattle.ir_types.specs.Written.{number_at, fits_width};
 ghost use Rattle.ir_sizes.specs.Stepping.{index_pair, IsIndex};
 ghost use Rattle.ir_types.specs.Offsets.{offset_of};
 ghost use Rattle.ir_types.specs.Tree.{lanes as lane_operand, number};
 ghost use Rattle.ir_reader_types.specs.Tables.{nodes_there};
-ghost use Rattle.ir_types.specs.Grammar.{width_of, lane_at, lane_fits, is_int, index_of, index_fits, if_in_range, zeros_at, splat_at, lanes_at, operand_at, stepped, value};
+ghost use Rattle.ir_types.specs.ValueForms.{width_of, lane_at, lane_fits, is_int, index_of, index_fits, if_in_range, zeros_at, splat_at, lanes_at, operand_at, stepped, value};
 ghost use Rattle.ir_reader_values.specs.Operands.{lanes_of_width};
 ghost use Rattle.ir_reader_values.specs.declared.scope.Scope.{Scope};
-ghost use Rattle.ir_reader_values.specs.Seen.{nodes_seen, symbol_seen, operand_seen, definitions, Widens, Stays, OperandsUse};
+ghost use Rattle.ir_reader_values.specs.Seen.{nodes_seen, symbol_seen, operand_seen, definitions, Widens, Stays, OperandAdds, ReadsAs};
 ghost use Rattle.ir_reader_values.specs.View.{lane_in, lanes_in, index_in, HasWidth, lanes_held, written_in, AreIndexed};
 
 use crate::constant::WrittenIndex;
@@ -314,9 +313,9 @@ pub fn value_at<'t>(
 ) -> Result<(Operand, Cursor<'t>), SyntaxFault>
     requires { IsType ty }
     ensures grows { Widens scope.old scope.new }
-    ensures reads { Gives (λ x. (operand_seen scope.new x.0, left x.1)) result (read (made (operand_at (definitions scope.old) ty) value) (left tokens.entry)) }
+    ensures reads { ReadsAs (operand_seen scope.new) result (made (operand_at (definitions scope.old) ty) value) tokens.entry }
     ensures stays { Stays operand_seen scope.new result }
-    ensures uses { IfOk result (λ x. OperandsUse scope.old (operand_seen scope.new x.0 ∷ []) scope.new) }
+    ensures uses { IfOk result (λ x. OperandAdds scope.old x.0 scope.new) }
 {
     let (written, rest) = written_value(alloc, tokens, scope)?;
     let operand = operand(alloc, ty, &written, tokens, scope)?;

@@ -1,13 +1,13 @@
 // Values behind their types.
 
-ghost use Rattle.std.specs.Prelude.{◌≡◌, List, IfOk, ◌∷◌, []};
+ghost use Rattle.std.specs.Prelude.{◌≡◌, List, IfOk};
 ghost use Rattle.text_forms.specs.declared.TokenKind.TheVariants.{Comma};
-ghost use Rattle.text_forms.specs.Reading.{read};
-ghost use Rattle.text_forms.specs.Gives.{Gives, left};
 ghost use Rattle.ir_types.specs.Types.{IsType, IsOneOf, widths};
-ghost use Rattle.ir_types.specs.Grammar.{typed_value, comma_typed, three_values, typed_pair, pointer_value, index_value, after_mark};
-ghost use Rattle.ir_reader_values.specs.Seen.{operand_seen, definitions, Widens, Stays, OperandsUse};
-ghost use Rattle.ir_reader_values.specs.View.{typed_in, pair_in, three_in};
+ghost use Rattle.text_forms.specs.Combined.{after_mark};
+ghost use Rattle.ir_types.specs.InstParts.{typed_value, comma_typed, typed_pair, pointer_value, index_value};
+ghost use Rattle.ir_types.specs.InstForms.{three_values};
+ghost use Rattle.ir_reader_values.specs.Seen.{operand_seen, definitions, Widens, Stays, OperandAdds, ReadsAs, ReadsOver};
+ghost use Rattle.ir_reader_values.specs.View.{typed_in, pair_in, three_in, PairAdds, ThreeAdd};
 
 use crate::operand::value_at;
 use crate::scope::Scope;
@@ -27,10 +27,10 @@ pub fn typed_value<'t>(
     scope: &mut Scope,
 ) -> Result<((Ty, Operand), Cursor<'t>), SyntaxFault>
     ensures grows { Widens scope.old scope.new }
-    ensures reads { Gives (λ x. (typed_in scope.new x.0, left x.1)) result (read (typed_value (definitions scope.old)) (left tokens.entry)) }
+    ensures reads { ReadsOver typed_in typed_value tokens.entry scope.old result scope.new }
     ensures stays { Stays typed_in scope.new result }
     ensures written { IfOk result (λ x. IsType x.0.0) }
-    ensures uses { IfOk result (λ x. OperandsUse scope.old (operand_seen scope.new x.0.1 ∷ []) scope.new) }
+    ensures uses { IfOk result (λ x. OperandAdds scope.old x.0.1 scope.new) }
 {
     let (ty, rest) = value_type(tokens)?;
     let (operand, rest) = value_at(alloc, ty, rest, scope)?;
@@ -44,9 +44,9 @@ pub fn comma_typed<'t>(
     scope: &mut Scope,
 ) -> Result<((Ty, Operand), Cursor<'t>), SyntaxFault>
     ensures grows { Widens scope.old scope.new }
-    ensures reads { Gives (λ x. (typed_in scope.new x.0, left x.1)) result (read (comma_typed (definitions scope.old)) (left tokens.entry)) }
+    ensures reads { ReadsOver typed_in comma_typed tokens.entry scope.old result scope.new }
     ensures stays { Stays typed_in scope.new result }
-    ensures uses { IfOk result (λ x. OperandsUse scope.old (operand_seen scope.new x.0.1 ∷ []) scope.new) }
+    ensures uses { IfOk result (λ x. OperandAdds scope.old x.0.1 scope.new) }
 {
     let rest = tokens.mark(TokenKind::Comma)?;
     typed_value(alloc, rest, scope)
@@ -59,9 +59,9 @@ pub fn three_values<'t>(
     scope: &mut Scope,
 ) -> Result<(ThreeValues, Cursor<'t>), SyntaxFault>
     ensures grows { Widens scope.old scope.new }
-    ensures reads { Gives (λ x. (three_in scope.new x.0, left x.1)) result (read (three_values (definitions scope.old)) (left tokens.entry)) }
+    ensures reads { ReadsOver three_in three_values tokens.entry scope.old result scope.new }
     ensures stays { Stays three_in scope.new result }
-    ensures uses { IfOk result (λ x. OperandsUse scope.old (operand_seen scope.new x.0.0.1 ∷ operand_seen scope.new x.0.1.0.1 ∷ operand_seen scope.new x.0.1.1.1 ∷ []) scope.new) }
+    ensures uses { IfOk result (λ x. ThreeAdd scope.old x.0 scope.new) }
 {
     let (first, rest) = typed_value(alloc, tokens, scope)?;
     let (second, rest) = comma_typed(alloc, rest, scope)?;
@@ -77,9 +77,9 @@ pub fn typed_pair<'t>(
     scope: &mut Scope,
 ) -> Result<((Ty, (Operand, Operand)), Cursor<'t>), SyntaxFault>
     ensures grows { Widens scope.old scope.new }
-    ensures reads { Gives (λ x. (pair_in scope.new x.0, left x.1)) result (read (typed_pair (definitions scope.old)) (left tokens.entry)) }
+    ensures reads { ReadsOver pair_in typed_pair tokens.entry scope.old result scope.new }
     ensures stays { Stays pair_in scope.new result }
-    ensures uses { IfOk result (λ x. OperandsUse scope.old (operand_seen scope.new x.0.1.0 ∷ operand_seen scope.new x.0.1.1 ∷ []) scope.new) }
+    ensures uses { IfOk result (λ x. PairAdds scope.old x.0 scope.new) }
 {
     let (ty, rest) = value_type(tokens)?;
     let (first, rest) = value_at(alloc, ty, rest, scope)?;
@@ -96,9 +96,9 @@ pub fn pointer_value<'t>(
     scope: &mut Scope,
 ) -> Result<(Operand, Cursor<'t>), SyntaxFault>
     ensures grows { Widens scope.old scope.new }
-    ensures reads { Gives (λ x. (operand_seen scope.new x.0, left x.1)) result (read (pointer_value (definitions scope.old)) (left tokens.entry)) }
+    ensures reads { ReadsOver operand_seen pointer_value tokens.entry scope.old result scope.new }
     ensures stays { Stays operand_seen scope.new result }
-    ensures uses { IfOk result (λ x. OperandsUse scope.old (operand_seen scope.new x.0 ∷ []) scope.new) }
+    ensures uses { IfOk result (λ x. OperandAdds scope.old x.0 scope.new) }
 {
     let rest = tokens.word(b"ptr")?;
     value_at(alloc, Ty::Ptr, rest, scope)
@@ -111,9 +111,9 @@ pub fn comma_pointer<'t>(
     scope: &mut Scope,
 ) -> Result<(Operand, Cursor<'t>), SyntaxFault>
     ensures grows { Widens scope.old scope.new }
-    ensures reads { Gives (λ x. (operand_seen scope.new x.0, left x.1)) result (read (after_mark Comma (pointer_value (definitions scope.old))) (left tokens.entry)) }
+    ensures reads { ReadsAs (operand_seen scope.new) result (after_mark Comma (pointer_value (definitions scope.old))) tokens.entry }
     ensures stays { Stays operand_seen scope.new result }
-    ensures uses { IfOk result (λ x. OperandsUse scope.old (operand_seen scope.new x.0 ∷ []) scope.new) }
+    ensures uses { IfOk result (λ x. OperandAdds scope.old x.0 scope.new) }
 {
     let rest = tokens.mark(TokenKind::Comma)?;
     pointer_value(alloc, rest, scope)
@@ -127,10 +127,10 @@ pub fn index_value<'t>(
     scope: &mut Scope,
 ) -> Result<((u32, Operand), Cursor<'t>), SyntaxFault>
     ensures grows { Widens scope.old scope.new }
-    ensures reads { Gives (λ x. (typed_in scope.new x.0, left x.1)) result (read (index_value (definitions scope.old)) (left tokens.entry)) }
+    ensures reads { ReadsOver typed_in index_value tokens.entry scope.old result scope.new }
     ensures stays { Stays typed_in scope.new result }
     ensures written { IfOk result (λ x. IsOneOf widths x.0.0) }
-    ensures uses { IfOk result (λ x. OperandsUse scope.old (operand_seen scope.new x.0.1 ∷ []) scope.new) }
+    ensures uses { IfOk result (λ x. OperandAdds scope.old x.0.1 scope.new) }
 {
     let (width, rest) = width(tokens)?;
     let (operand, rest) = value_at(alloc, Ty::Int(width), rest, scope)?;
@@ -144,9 +144,9 @@ pub fn comma_index<'t>(
     scope: &mut Scope,
 ) -> Result<((u32, Operand), Cursor<'t>), SyntaxFault>
     ensures grows { Widens scope.old scope.new }
-    ensures reads { Gives (λ x. (typed_in scope.new x.0, left x.1)) result (read (after_mark Comma (index_value (definitions scope.old))) (left tokens.entry)) }
+    ensures reads { ReadsAs (typed_in scope.new) result (after_mark Comma (index_value (definitions scope.old))) tokens.entry }
     ensures stays { Stays typed_in scope.new result }
-    ensures uses { IfOk result (λ x. OperandsUse scope.old (operand_seen scope.new x.0.1 ∷ []) scope.new) }
+    ensures uses { IfOk result (λ x. OperandAdds scope.old x.0.1 scope.new) }
 {
     let rest = tokens.mark(TokenKind::Comma)?;
     let (value, rest) = index_value(alloc, rest, scope)?;

@@ -3,11 +3,13 @@
 ghost use Rattle.std.specs.Prelude.{◌≡◌, Some, true, false, MatchOption, IfSome, IfOk};
 ghost use Rattle.text_forms.specs.declared.TokenKind.TheVariants.{Comma};
 ghost use Rattle.text_forms.specs.Reading.{read, opens};
-ghost use Rattle.text_forms.specs.Gives.{Gives, left};
-ghost use Rattle.ir_types.specs.Grammar.{local_name, constant_word, value, after_mark};
+ghost use Rattle.text_forms.specs.Gives.{left};
+ghost use Rattle.text_forms.specs.Combined.{after_mark};
+ghost use Rattle.ir_types.specs.TypeForms.{local_name};
+ghost use Rattle.ir_types.specs.ValueForms.{constant_word, value};
 ghost use Rattle.ir_reader_values.specs.declared.scope.Scope.{Scope};
-ghost use Rattle.ir_reader_values.specs.Seen.{name_seen, Widens, Stays};
-ghost use Rattle.ir_reader_values.specs.View.{written_in, AreIndexed, WrittenUses};
+ghost use Rattle.ir_reader_values.specs.Seen.{name_seen, Widens, Stays, ReadsAs};
+ghost use Rattle.ir_reader_values.specs.View.{written_in, AreIndexed, WrittenUses, IsWordRead};
 
 use crate::constant::{WrittenIndex, constant_offset, symbol};
 use crate::lanes::{Lane, lane_in_parens, lane_list};
@@ -47,7 +49,7 @@ pub fn local_id<'t>(
     scope: &mut Scope,
 ) -> Result<(ValueId, Cursor<'t>), SyntaxFault>
     ensures grows { Widens scope.old scope.new }
-    ensures reads { Gives (λ x. (name_seen scope.new x.0, left x.1)) result (read local_name (left tokens.entry)) }
+    ensures reads { ReadsAs (name_seen scope.new) result local_name tokens.entry }
     ensures stays { Stays name_seen scope.new result }
     ensures tables { scope.new.tables ≡ scope.old.tables }
 {
@@ -63,7 +65,7 @@ pub fn comma_local<'t>(
     scope: &mut Scope,
 ) -> Result<(ValueId, Cursor<'t>), SyntaxFault>
     ensures grows { Widens scope.old scope.new }
-    ensures reads { Gives (λ x. (name_seen scope.new x.0, left x.1)) result (read (after_mark Comma local_name) (left tokens.entry)) }
+    ensures reads { ReadsAs (name_seen scope.new) result (after_mark Comma local_name) tokens.entry }
     ensures stays { Stays name_seen scope.new result }
     ensures tables { scope.new.tables ≡ scope.old.tables }
 {
@@ -72,9 +74,9 @@ pub fn comma_local<'t>(
 }
 
 /// A value that is one word, and what is behind it, where such a word stands next.
-#[tactic(auto, unfolding(ir_types::specs::Grammar::constant_word))]
+#[tactic(auto, unfolding(ir_types::specs::ValueForms::constant_word))]
 fn constant_word<'t>(tokens: Cursor<'t>) -> Option<(Written<'t>, Cursor<'t>)>
-    ensures reads { MatchOption result (opens constant_word (left tokens.entry) ≡ false) (λ x. (opens constant_word (left tokens.entry) ≡ true) × (((scope : Scope) → read constant_word (left tokens.entry) ≡ Some (written_in scope x.0, left x.1)) × AreIndexed x.0)) }
+    ensures reads { IsWordRead result tokens.entry }
     ensures uses { IfSome result (λ x. (scope : Scope) → WrittenUses scope (written_in scope x.0) scope) }
 {
     if let Some(rest) = tokens.behind_word(b"true") {
@@ -94,14 +96,14 @@ fn constant_word<'t>(tokens: Cursor<'t>) -> Option<(Written<'t>, Cursor<'t>)>
 }
 
 /// A value as it is written.
-#[tactic(auto, unfolding(ir_types::specs::Grammar::value, ir_types::specs::Grammar::local_name, ir_types::specs::Grammar::global_name))]
+#[tactic(auto, unfolding(ir_types::specs::ValueForms::value, ir_types::specs::TypeForms::local_name, ir_types::specs::TypeForms::global_name))]
 pub fn written_value<'t>(
     alloc: Global,
     tokens: Cursor<'t>,
     scope: &mut Scope,
 ) -> Result<(Written<'t>, Cursor<'t>), SyntaxFault>
     ensures grows { Widens scope.old scope.new }
-    ensures reads { Gives (λ x. (written_in scope.new x.0, left x.1)) result (read value (left tokens.entry)) }
+    ensures reads { ReadsAs (written_in scope.new) result value tokens.entry }
     ensures stays { Stays written_in scope.new result }
     ensures indexed { IfOk result (λ x. AreIndexed x.0) }
     ensures uses { IfOk result (λ x. WrittenUses scope.old (written_in scope.new x.0) scope.new) }

@@ -4,7 +4,7 @@ use Rattle.std.specs.List.{list_all}
 use Rattle.text_forms.specs.Nested.{concat}
 use Rattle.ir_types.specs.declared.name.Name.{Name}
 use Rattle.ir_types.specs.Names.{same_name}
-use Rattle.ir_types.specs.Kinds.{Kind, Phi, Jump, Branch, Switch}
+use Rattle.ir_types.specs.Kinds.{Kind, is_phi_kind, Jump, Branch, Switch}
 use Rattle.ir_types.specs.Tree.{OperandTree, local, number, null, poison, lanes, global, InstTree, BlockTree, FunctionTree, ModuleTree}
 use Rattle.ir_rules.specs.declared.fault.Subject.{Subject}
 use Rattle.ir_rules.specs.declared.fault.Subject.TheVariants.{Local}
@@ -67,10 +67,6 @@ placed_in n (b ∷ bs) = placed_behind b n [] b.insts ++ placed_in (n + length b
 -- the instructions of a function, in the text's order
 abbrev pub placed_insts : FunctionTree → List Placed
 placed_insts f = placed_in 0 f.body
-
-abbrev pub is_phi_kind : Kind → Bool
-is_phi_kind Phi = true
-is_phi_kind kind = false
 
 abbrev pub is_phi : InstTree → Bool
 is_phi i = is_phi_kind i.kind

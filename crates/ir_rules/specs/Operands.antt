@@ -1,6 +1,7 @@
 -- Whether operands and labels are what an instruction takes at their places.
-use Rattle.std.specs.Prelude.{ℕ, ◌^◌, Bool, true, false, ◌&&◌, nat_eq, nat_lt, List, [], ◌∷◌, length, Option, Some, None}
+use Rattle.std.specs.Prelude.{◌^◌, Bool, true, false, ◌&&◌, nat_eq, nat_lt, List, [], ◌∷◌, length}
 use Rattle.std.specs.List.{list_any, list_all}
+use Rattle.ir_types.specs.Types.{fits_lane}
 use Rattle.ir_types.specs.declared.name.Name.{Name}
 use Rattle.ir_types.specs.declared.inst.Ty.{Ty}
 use Rattle.ir_types.specs.declared.inst.Ty.TheVariants.{Int, Ptr, Vector, Void}
@@ -60,18 +61,13 @@ abbrev pub is_block : Given → Bool
 is_block block = true
 is_block (value t) = false
 
--- a lane of so many bits, or a poison one
-abbrev pub lane_fits : ℕ → Option ℕ → Bool
-lane_fits w (Some n) = nat_lt n (2 ^ w)
-lane_fits w None = true
-
 -- whether an operand has a type, among definitions of locals; a name with several fits where one does
 abbrev pub fits : List Definition → Ty → OperandTree → Bool
 fits ds t (local n) = list_any (λ (d : Definition). same_name n d.name && gives t d.given) ds
 fits ds (Int w) (number n) = nat_lt n (2 ^ w)
 fits ds Ptr null = true
 fits ds t poison = is_valued t
-fits ds (Vector n w) (lanes xs) = nat_eq (length xs) n && list_all (lane_fits w) xs
+fits ds (Vector n w) (lanes xs) = nat_eq (length xs) n && list_all (fits_lane w) xs
 fits ds Ptr (global n o) = true
 fits ds t a = false
 

@@ -8,7 +8,7 @@ use Rattle.ir_types.specs.Tree.{OperandTree, local, number, null, poison, lanes,
 use Rattle.ir_types.specs.Names.{same_name}
 use Rattle.ir_meaning.specs.declared.value.Value.{Value}
 use Rattle.ir_meaning.specs.declared.value.Value.TheVariants.{Int, Ptr, Lanes}
-use Rattle.ir_types.specs.Grammar.{width_of}
+use Rattle.ir_types.specs.ValueForms.{width_of}
 use Rattle.ir_meaning.specs.Values.{has_type, HasType, typed}
 use Rattle.ir_meaning.specs.Memory.{Memory}
 use Rattle.ir_meaning.specs.State.{Env}

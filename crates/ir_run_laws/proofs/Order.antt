@@ -14,6 +14,7 @@ use Rattle.ir_meaning.specs.Memory.{Memory, IsByte}
 use Rattle.ir_meaning.specs.State.{Event, Ended}
 use Rattle.ir_meaning.specs.Runs.{Observation, Undefined, Going, Returned}
 use Rattle.ir_meaning.specs.Refines.{PointerRefines, same_pointer, no_allocation, LaneRefines, same_lane, of_poison_lane, ValueRefines, same_value, of_poison, of_pointer, of_lanes, ByteRefines, same_byte, of_poison_byte, of_part, BytesRefine, AllocationRefines, MemoryRefines, TypedRefines, EventRefines, ResultRefines, no_result, result, EndRefines, Refines, of_undefined, going, returned}
+use Rattle.ir_run_laws.specs.Kinds.{IsReflexive, IsTransitive, EachRefinement}
 
 pub each-refl : {A : Type 0} (R : A → A → Type 0) → ((a : A) → R a a) → (xs : List A) → AllZip R xs xs
 each-refl R r [] = tt
@@ -134,3 +135,35 @@ pub refines-trans : {a b c : Observation} → Refines a b → Refines b c → Re
 refines-trans f of_undefined = of_undefined
 refines-trans (going e) (going f) = going (each-trans EventRefines event-trans _ _ _ e f)
 refines-trans (returned e) (returned f) = returned (end-trans _ _ _ e f)
+
+-- refinement of each kind is reflexive
+pub is_reflexive : EachRefinement IsReflexive
+is_reflexive = record {
+  pointers = λ p. same_pointer;
+  lanes = λ w x. same_lane;
+  values = λ ty v. same_value;
+  single_bytes = λ b. same_byte;
+  bytes = bytes-refl;
+  allocations = allocation-refl;
+  memories = memory-refl;
+  results = result-refl;
+  events = event-refl;
+  ends = end-refl;
+  observations = refines-refl;
+}
+
+-- and transitive
+pub is_transitive : EachRefinement IsTransitive
+is_transitive = record {
+  pointers = λ p q r. pointer-trans;
+  lanes = λ w. lane-trans;
+  values = λ ty u v w. value-trans;
+  single_bytes = byte-trans;
+  bytes = bytes-trans;
+  allocations = allocation-trans;
+  memories = memory-trans;
+  results = λ u v w. result-trans;
+  events = event-trans;
+  ends = end-trans;
+  observations = λ o p q. refines-trans;
+}

@@ -1,5 +1,6 @@
 -- Small modules, to try the definitions on.
 use Rattle.std.specs.Prelude.{true, ◌≡◌, ℕ, ◌+◌, codes, List, [], ◌∷◌, map, Option, Some}
+use Prim.Native.String.{String}
 use Rattle.ir_types.specs.declared.name.Name.{Name}
 use Rattle.ir_types.specs.declared.name.Name.TheVariants.{Text, Number}
 use Rattle.ir_types.specs.declared.inst.Ty.{Ty}
@@ -8,13 +9,14 @@ use Rattle.ir_types.specs.declared.inst.Pred.{Pred}
 use Rattle.ir_types.specs.declared.inst.Pred.TheVariants.{Ne}
 use Rattle.ir_types.specs.Kinds.{Binary}
 use Rattle.ir_types.specs.Tree.{OperandTree, number, FunctionTree, ModuleTree}
-use Rattle.ir_types.specs.Grammar.{no_flags, bare_inst}
+use Rattle.ir_types.specs.FlagForms.{no_flags}
+use Rattle.ir_types.specs.InstForms.{bare_inst}
 use Rattle.ir_making.specs.Trees.{i1, i32, at, gives_name, jump, branch, ret, ret_at, phi, add, icmp, call, block, param, function_named, with_functions, f, one_function}
 use Rattle.ir_meaning.specs.declared.value.Value.{Value}
 use Rattle.ir_meaning.specs.declared.value.Value.TheVariants.{Int}
 use Rattle.ir_meaning.specs.Values.{Typed}
 use Rattle.ir_meaning.specs.Memory.{Memory}
-use Rattle.ir_meaning.specs.State.{Env, Frame, World, Event, State, Live}
+use Rattle.ir_meaning.specs.State.{Env, no_values, set_value, Frame, World, Event, State, Live}
 use Rattle.ir_meaning.specs.Meaning.{step, start}
 use Rattle.ir_meaning.specs.Runs.{run, Observation, Going, Returned, observed}
 use Rattle.ir_run_laws.specs.Tolls.{BlockName, Charge}
@@ -36,6 +38,14 @@ of_type t v = record { ty = t; value = v }
 -- what is seen of a run without events that has returned this value, with this memory
 abbrev pub returned_with : Typed → Memory → Observation
 returned_with t memory = Returned (record { value = Some t; memory = memory; events = [] })
+
+-- what is seen of the run of `@f` with these arguments after so many steps, whatever the memory and the world
+abbrev pub Shows : ModuleTree → List Value → ℕ → Observation → Type 0
+Shows m args n o = (memory : Memory) (v : World) → observed m f args memory v n ≡ o
+
+-- `@f` with these arguments has returned this value after so many steps, and has left the memory as it was
+abbrev pub ReturnsIn : ModuleTree → List Value → ℕ → Typed → Type 0
+ReturnsIn m args n t = (memory : Memory) (v : World) → observed m f args memory v n ≡ returned_with t memory
 
 -- ---- modules
 
@@ -115,6 +125,14 @@ frame_in function n place env = record { function = function; block = Number n; 
 abbrev pub live_with : Frame → (callers : List Frame) → Memory → World → State
 live_with frame callers memory v = Live (record { frame = frame; callers = callers; memory = memory; world = v; events = [] })
 
+-- the name %n has the value x, and no other name has one
+abbrev pub one_value : (n x : ℕ) → Env
+one_value n x = set_value no_values (Number n) (int32 x)
+
+-- the run of `@f` with 5, after n steps
+abbrev pub calls_g_after : ℕ → Memory → World → State
+calls_g_after n memory v = run (step calls_g) n (start calls_g f (int32 5 ∷ []) memory v)
+
 -- no other function than `@f`
 abbrev pub calls_outside : ModuleTree
 calls_outside = with_functions (calling g ∷ [])
@@ -152,9 +170,9 @@ one_more = record { block = block_name 1; cost = 1 }
 -- ---- modules that stand still, and such in which the first of several counts
 
 -- the run stands still after 9 steps: a further one changes nothing, and it has not returned
-abbrev pub StandsStill : ModuleTree → List Value → Memory → World → Type 0
-StandsStill m args memory v =
-    (run (step m) 10 (start m f args memory v) ≡ run (step m) 9 (start m f args memory v)) × (observed m f args memory v 9 ≡ Going [])
+abbrev pub StandsStill : ModuleTree → List Value → Type 0
+StandsStill m args =
+    (memory : Memory) (v : World) → (run (step m) 10 (start m f args memory v) ≡ run (step m) 9 (start m f args memory v)) × (observed m f args memory v 9 ≡ Going [])
 
 -- define i32 @f(): returns %1, which has no value
 abbrev pub without_value : ModuleTree
@@ -223,3 +241,7 @@ table_of p memory v = map (λ x. map (λ y. digit_in (observed (tests p x y) f [
 -- five lines of five digits
 abbrev pub lines : (a b c d e : List ℕ) → List (List ℕ)
 lines a b c d e = a ∷ b ∷ c ∷ d ∷ e ∷ []
+
+-- by the predicate the five lines of the table are these, whatever the memory and the world
+abbrev pub Compares : Pred → (a b c d e : String) → Type 0
+Compares p a b c d e = (memory : Memory) (v : World) → table_of p memory v ≡ lines (codes a) (codes b) (codes c) (codes d) (codes e)

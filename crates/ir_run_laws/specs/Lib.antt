@@ -3,3 +3,4 @@ pub mod Courses
 pub mod Respect
 pub mod Tolls
 pub mod Simulation
+pub mod Kinds

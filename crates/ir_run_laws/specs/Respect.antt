@@ -1,15 +1,16 @@
 -- What it means that the operations of a step respect refinement.
-use Rattle.std.specs.Prelude.{◌≡◌, List, [], ◌∷◌, Option, Some, None}
-use Rattle.std.specs.List.{AllZip}
+use Rattle.std.specs.Prelude.{◌≡◌, ℕ, List, [], ◌∷◌, Option, Some, None}
+use Rattle.std.specs.List.{AllZip, AllByRecursion}
 use Rattle.ir_types.specs.declared.name.Name.{Name}
 use Rattle.ir_types.specs.declared.inst.Ty.{Ty}
-use Rattle.ir_types.specs.Kinds.{Kind, Compare}
-use Rattle.ir_types.specs.Tree.{OperandTree, local}
-use Rattle.ir_types.specs.Grammar.{bits_for}
+use Rattle.ir_types.specs.Kinds.{Kind, Compare, operand_types}
+use Rattle.ir_types.specs.Tree.{OperandTree, local, InstTree, ModuleTree}
+use Rattle.ir_types.specs.InstForms.{bits_for}
 use Rattle.ir_meaning.specs.declared.value.Value.{Value}
+use Rattle.ir_meaning.specs.Memory.{Memory}
 use Rattle.ir_meaning.specs.Values.{HasType}
 use Rattle.ir_meaning.specs.State.{Env}
-use Rattle.ir_meaning.specs.Meaning.{Effect, Passing, Passes, Branching, Goes, Calling, Calls, Leaving, Leaves, Fails, Waits}
+use Rattle.ir_meaning.specs.Meaning.{Effect, Passing, Passes, Branching, Goes, Calling, Calls, Leaving, Leaves, Fails, Waits, values_of, phi_value, effect_of}
 use Rattle.ir_meaning.specs.Refines.{ValueRefines, TypedRefines, ResultRefines}
 
 -- where a name has a value there, that and the one that it has here are of the name's type, and the one here refines the other
@@ -51,3 +52,18 @@ pub data EffectRefines (ty : Ty) : (here other : Effect) → Type 0 where
   leaves : {k l : Leaving} → ResultRefines k.value l.value → EffectRefines ty (Leaves k) (Leaves l)
   of_fails : {e : Effect} → EffectRefines ty e Fails
   waits : EffectRefines ty Waits Waits
+
+-- where operands have values there, they have values here that refine those
+abbrev pub OperandsRespect : (types : Name → Ty) → (here other : Memory) → (env there : Env) → Type 0
+OperandsRespect types here other env there =
+    (tys : List Ty) (args : List OperandTree) (ws : List Value) → AllZip (IsOperandOf types) tys args → values_of other there tys args ≡ Some ws → (vs : List Value) × (values_of here env tys args ≡ Some vs) × OperandsRefine tys vs ws
+
+-- where a phi takes a value there, from the block that was left, it takes one here that refines it
+abbrev pub PhisRespect : (types : Name → Ty) → (here other : Memory) → (env there : Env) → Type 0
+PhisRespect types here other env there =
+    (left : Name) (i : InstTree) (w : Value) → AllByRecursion (IsOperandOf types i.ty) i.args → phi_value other there left i ≡ Some w → (v : Value) × (phi_value here env left i ≡ Some v) × HasType i.ty v × HasType i.ty w × ValueRefines i.ty v w
+
+-- by operands of its types that refine others, the operation asks here for what refines what it asks for there by the others
+abbrev pub OperationRespects : ModuleTree → (here other : Memory) → Kind → Ty → (labels : List Name) → Type 0
+OperationRespects m here other kind ty labels =
+    (number : ℕ) (vs ws : List Value) → OperandsRefine (operand_types kind ty number) vs ws → EffectRefines (result_type kind ty) (effect_of m here kind ty labels vs) (effect_of m other kind ty labels ws)

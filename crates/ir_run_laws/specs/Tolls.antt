@@ -1,5 +1,6 @@
 -- How often a run enters a block, and what a pass over a module may add to a run.
-use Rattle.std.specs.Prelude.{◌≡◌, ℕ, zero, suc, ◌+◌, ◌*◌, ◌≤◌, Bool, IsFalse, List, [], ◌∷◌, length, Contains, Option, Some, None, if◌then◌else◌, ◌&&◌}
+use Rattle.std.specs.Prelude.{◌≡◌, ℕ, zero, suc, ◌+◌, ◌*◌, ◌≤◌, Bool, IsFalse, List, [], ◌∷◌, ◌++◌, length, Contains, Option, Some, None, if◌then◌else◌, ◌&&◌, ◌||◌}
+use Rattle.std.specs.List.{AllByRecursion}
 use Rattle.text_forms.specs.Bind.{◌>>=◌}
 use Rattle.ir_types.specs.declared.name.Name.{Name}
 use Rattle.ir_types.specs.Names.{same_name}
@@ -10,7 +11,7 @@ use Rattle.ir_meaning.specs.State.{World, State, Live, Over, Wrong}
 use Rattle.ir_meaning.specs.Meaning.{Effect, Passes, Goes, Calls, Leaves, Fails, Waits, function_of, inst_at, effect_in, entered, step, start}
 use Rattle.ir_meaning.specs.Runs.{run, seen}
 use Rattle.ir_meaning.specs.Refines.{Refines}
-use Rattle.ir_meaning.specs.Allows.{CanRun, Covers, IsWorldFor, HasReturned}
+use Rattle.ir_meaning.specs.Allows.{CanRun, Covers, IsWorldFor, HasReturned, Allows}
 
 -- ---- entries of blocks
 
@@ -99,3 +100,13 @@ pub record AllowsAtToll (read printed : ModuleTree) (changed : BlockName → Boo
   -- no block of the read module is lost
   pub keeps : (k : BlockName) → HasBlock read k → HasBlock printed k
   pub serves : (function : Name) (args : List Value) (memory : Memory) (v : World) (horizon : ℕ) → CanRun read function args memory → (u : World) × IsWorldFor v u × ServesAtToll read printed changed charges v horizon (start printed function args memory v) (start read function args memory u)
+
+-- where the first allows the second at a toll, and the second the third at one that charges blocks of the first, the first allows the third at both
+abbrev pub TollsAdd : (a b c : ModuleTree) → Type 0
+TollsAdd a b c =
+    (changed also : BlockName → Bool) (charges more : List Charge) → AllowsAtToll a b changed charges → AllowsAtToll b c also more → AllByRecursion (λ x. HasBlock a x.block) more → AllowsAtToll a c (λ k. changed k || also k) (charges ++ more)
+
+-- what is allowed at a toll is allowed with a factor: one more than all costs together
+abbrev pub TollsGiveFactors : (read printed : ModuleTree) → Type 0
+TollsGiveFactors read printed =
+    (changed : BlockName → Bool) (charges : List Charge) → AllowsAtToll read printed changed charges → Allows read printed (1 + costs_of charges)

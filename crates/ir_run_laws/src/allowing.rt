@@ -1,12 +1,9 @@
 // What a module allows.
 
-ghost use Rattle.std.specs.Prelude.{◌+◌, ◌*◌, ◌≤◌, ℕ, List};
-ghost use Rattle.ir_types.specs.declared.name.Name.{Name};
+ghost use Rattle.std.specs.Prelude.{◌+◌, ◌*◌, ◌≤◌, ℕ};
 ghost use Rattle.ir_types.specs.Tree.{ModuleTree};
-ghost use Rattle.ir_meaning.specs.declared.value.Value.{Value};
-ghost use Rattle.ir_meaning.specs.Memory.{Memory};
-ghost use Rattle.ir_meaning.specs.State.{World};
-ghost use Rattle.ir_meaning.specs.Allows.{Allows, CanRun, IsServed};
+ghost use Rattle.ir_meaning.specs.Allows.{Allows};
+ghost use Rattle.ir_run_laws.specs.Courses.{OneWorldServes};
 
 /// A module allows itself.
 pub fn module_allows_itself()
@@ -15,7 +12,8 @@ pub fn module_allows_itself()
 
 /// What an allowed module allows is allowed: with the factors i and j, j at least 1, with the factor j(i + 1).
 pub fn allowing_composes()
-    ensures { (a b c : ModuleTree) (i j : ℕ) → 1 ≤ j → Allows a b i → Allows b c j → Allows a c (j * (i + 1)) }
+    ensures { (a b c : ModuleTree) (i j : ℕ) → 1 ≤ j
+        → Allows a b i → Allows b c j → Allows a c (j * (i + 1)) }
 {}
 
 /// What is allowed with a factor is allowed with each greater one.
@@ -25,5 +23,5 @@ pub fn allowing_grows()
 
 /// Where a module allows another, one world of the read module serves at all horizons: that none does is absurd.
 pub fn one_world_serves()
-    ensures { (read printed : ModuleTree) (c : ℕ) → Allows read printed c → (function : Name) (args : List Value) (memory : Memory) (v : World) → CanRun read function args memory → (IsServed read printed c function args memory v → ⊥) → ⊥ }
+    ensures { (read printed : ModuleTree) (c : ℕ) → Allows read printed c → OneWorldServes read printed c }
 {}

@@ -11,12 +11,13 @@ use Rattle.ir_types.specs.declared.call.Actual.{Actual}
 use Rattle.ir_types.specs.declared.call.Signature.{Signature}
 use Rattle.ir_types.specs.declared.call.TailKind.{TailKind}
 use Rattle.ir_types.specs.declared.call.TailKind.TheVariants.{Unmarked, Tail, MustTail, NoTail}
-use Rattle.ir_types.specs.Kinds.{Offset, Call}
+use Rattle.ir_types.specs.Kinds.{Offset}
 use Rattle.ir_types.specs.Offsets.{Definitions}
 use Rattle.ir_types.specs.Tree.{OperandTree}
-use Rattle.ir_types.specs.Grammar.{operand_at, getelementptr, argument, signature, callee_of, call, call_behind}
+use Rattle.ir_types.specs.ValueForms.{operand_at}
+use Rattle.ir_types.specs.InstForms.{getelementptr, argument, signature, call_tree, call, call_behind}
 use Rattle.ir_shape.specs.Shape.{IsKept, IsType, IsTypedIn, IsSignature}
-use Rattle.ir_types.specs.Grammar.{kept}
+use Rattle.ir_types.specs.Words.{kept}
 use Rattle.ir_shape.proofs.Sure.{Sure, any_sure, pair_sure, mapped_sure, made_sure, IsThere, optional_sure, behind_sure, after_mark_sure, between_sure, marked_sure, some_sure, list_sure}
 use Rattle.ir_shape.proofs.Values.{global_sure, type_sure, return_type_sure, value_sure, operand_is, pointer_sure, index_sure}
 use Rattle.ir_shape.proofs.Runs.{run_sure, dotted_sure}
@@ -32,6 +33,7 @@ indexes_are : (xs : List (ℕ × OperandTree)) → AllByRecursion IsIndex xs →
 indexes_are [] h = tt
 indexes_are (x ∷ xs) h = (h.0, indexes_are xs h.1)
 
+-- what the form of `getelementptr` reads is an operation's body
 pub offset_sure : (defs : Definitions) → Sure (getelementptr defs) IsOperationBody
 unfolding getelementptr
 offset_sure defs = mapped_sure (pair_sure any_sure (pair_sure inst_memory_sure (pair_sure (after_mark_sure Comma (pointer_sure defs)) (some_sure (marked_sure Comma (index_sure defs)))))) (λ x h.
@@ -71,7 +73,7 @@ call_sure : (defs : Definitions) (tail : TailKind) → Sure (call defs tail) IsO
 unfolding call
 call_sure defs tail = mapped_sure (pair_sure run_sure (pair_sure return_type_sure (pair_sure (optional_sure signature_sure) (pair_sure global_sure (pair_sure (between_sure LeftParen RightParen (list_sure (argument_sure defs))) run_sure))))) (λ x h.
     let arguments = x.1.1.1.1.0 in
-    operation_of (Call (callee_of tail x)) x.1.0 (map (λ a. a.1) arguments) (arguments_are arguments h.1.1.1.1.0) refl h.1.0 (record {
+    operation_of (call_tree tail x).kind x.1.0 (map (λ a. a.1) arguments) (arguments_are arguments h.1.1.1.1.0) refl h.1.0 (record {
       before = h.0;
       signature = there_signature x.1.1.0 h.1.1.0;
       name = h.1.1.1.0;
@@ -79,6 +81,7 @@ call_sure defs tail = mapped_sure (pair_sure run_sure (pair_sure return_type_sur
       after = h.1.1.1.1.1;
     }) (λ b. b))
 
+-- and what is read of a call behind its word
 pub call_behind_sure : (defs : Definitions) (tail : TailKind) → Sure (call_behind defs tail) IsOperationBody
 call_behind_sure defs Unmarked = call_sure defs Unmarked
 call_behind_sure defs Tail = behind_sure (codes "call") (call_sure defs Tail)

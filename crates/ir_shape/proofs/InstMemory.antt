@@ -7,7 +7,7 @@ use Rattle.text_forms.proofs.Complete.{complete}
 use Rattle.text_forms.proofs.NestedDecides.{memory_decides}
 use Rattle.text_forms.proofs.Sound.{sound}
 use Rattle.ir_types.specs.TypeNodes.{TypeNode}
-use Rattle.ir_types.specs.Grammar.{type_parts, memory_type, inst_memory}
+use Rattle.ir_types.specs.TypeForms.{type_parts, memory_type, inst_memory}
 use Rattle.ir_types.proofs.Decides.{parts_decide}
 use Rattle.ir_types.proofs.InstMemory.{inst_memory_reads}
 
@@ -26,8 +26,10 @@ spelled_alike f g df dg a ts e s =
     let all : t.used ≡ ts = sym (append-nil t.used) ∙ sym t.parts in
     subst (λ (us : List Lexeme). Spells g a us) all t.spelled
 
+-- what spells a type in an instruction spells a memory type that is as deep as it has tokens
 pub as_memory_type : (nodes : List TypeNode) (ts : List Lexeme) → Spells inst_memory nodes ts → Spells (memory_type (length ts)) nodes ts
 as_memory_type nodes ts s = spelled_alike inst_memory (memory_type (length ts)) inst_memory_decides (depth_decides (length ts)) nodes ts (inst_memory_reads (length ts) ts (omega arith)) s
 
+-- and the other way
 pub as_inst_memory : (nodes : List TypeNode) (ts : List Lexeme) → Spells (memory_type (length ts)) nodes ts → Spells inst_memory nodes ts
 as_inst_memory nodes ts s = spelled_alike (memory_type (length ts)) inst_memory (depth_decides (length ts)) inst_memory_decides nodes ts (sym (inst_memory_reads (length ts) ts (omega arith))) s

@@ -26,7 +26,13 @@ use Rattle.ir_types.specs.declared.opcode.Operation.TheVariants as operations
 use Rattle.ir_types.specs.Offsets.{Definitions}
 use Rattle.ir_types.specs.Written.{number_at}
 use Rattle.ir_types.specs.Tree.{KeptTexts, OperandTree, InstTree}
-use Rattle.ir_types.specs.Grammar.{WrittenValue, operand_at, wrap_flags, exact_flag, disjoint_flag, no_flags, value_type, behind, bits_for, element_of, shuffled, align_or, bare_inst, binary_tree, overflowing, possibly_exact, plain_binary, or_operation, compared, compare, select, freeze, trunc, zext, sext, ptrtoint, entry_of_phi, entries_at, phi, load, store, extractelement, insertelement, shufflevector, jump_tree, target, branch, case_of_switch, cases_at, if_wide, index_fits, is_out_of_range, switch, void_tree, unreachable_tree, ret, inst_attachments, with_kept, operation_words, operation_behind, operation, terminator_behind, terminator}
+use Rattle.text_forms.specs.Combined.{behind}
+use Rattle.ir_types.specs.TypeForms.{value_type}
+use Rattle.ir_types.specs.FlagForms.{wrap_flags, exact_flag, disjoint_flag, no_flags}
+use Rattle.ir_types.specs.ValueForms.{WrittenValue, operand_at, index_fits}
+use Rattle.ir_types.specs.Words.{operation_words}
+use Rattle.ir_types.specs.InstParts.{align_or, target}
+use Rattle.ir_types.specs.InstForms.{bits_for, element_of, shuffled, bare_inst, binary_tree, overflowing, possibly_exact, plain_binary, or_operation, compared, compare, select, freeze, trunc, zext, sext, ptrtoint, entry_of_phi, entries_at, phi, load, store, extractelement, insertelement, shufflevector, jump_tree, branch, case_of_switch, cases_at, if_wide, is_out_of_range, switch, void_tree, unreachable_tree, ret, inst_attachments, with_kept, operation_behind, operation, terminator_behind, terminator}
 use Rattle.ir_shape.specs.Shape.{IsKept, IsName, IsType, IsBelow, IsTypedIn, IsTerminator, HasFlags, IsBodyOf}
 use Rattle.ir_shape.proofs.Sure.{Sure, any_sure, word_sure, pair_sure, either_sure, mapped_sure, made_sure, by_word_sure, by_test_sure, many_sure, behind_sure, after_mark_sure, between_sure, commas_sure, kept_sure}
 use Rattle.ir_shape.proofs.Bodies.{IsBare, IsOperationBody, IsTerminatorBody, operation_of, terminator_of, wide_or_not}
@@ -332,10 +338,12 @@ pub record IsEnding (i : InstTree) : Type 0 where
   pub plain : IsPlain i
   pub ends : IsTerminator i.kind
 
+-- what the form of operations reads is an operation
 pub operation_sure : (defs : Definitions) → Sure (operation defs) IsOperation
 unfolding operation
 operation_sure defs = mapped_sure (pair_sure (words_sure defs) (kept_sure attachments_are)) (λ x h. record { plain = attached_body x.0 x.1 h.0.body h.1; goes_on = h.0.goes_on })
 
+-- what the form of terminators reads ends a block
 pub terminator_sure : (defs : Definitions) → Sure (terminator defs) IsEnding
 unfolding terminator
 terminator_sure defs = mapped_sure (pair_sure (either_sure (by_word_sure (by_terminator defs)) (word_sure _ unreachable_tree (terminator_of Unreachable [] [] tt tt refl refl tt tt))) (kept_sure attachments_are)) (λ x h. record { plain = attached_body x.0 x.1 h.0.body h.1; ends = h.0.ends })

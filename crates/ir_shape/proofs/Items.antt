@@ -19,7 +19,10 @@ use Rattle.ir_types.specs.declared.opcode.Extra.{Extra}
 use Rattle.ir_types.specs.Offsets.{Definitions}
 use Rattle.ir_types.specs.Written.{name_behind}
 use Rattle.ir_types.specs.Tree.{KeptTexts, WrittenBlock, WrittenFunction, Item, head_line, comdat_line, type_item, variable_item, function_item, attribute_line, metadata_line}
-use Rattle.ir_types.specs.Grammar.{memory_type, kept, parameter, dotted_parameters, declared_function, defined_function, equal_string, target_line, attribute_group, comdat, metadata, type_definition, initialiser_stops, extra_behind, extra, kept_once, behind_type, variable_word, variable_definition, item_behind, item, module_form}
+use Rattle.ir_types.specs.TypeForms.{memory_type}
+use Rattle.ir_types.specs.Words.{kept}
+use Rattle.ir_types.specs.FunctionForms.{parameter, dotted_parameters, declared_function, defined_function}
+use Rattle.ir_types.specs.ItemForms.{equal_string, target_line, attribute_group, comdat, metadata, type_definition, initialiser_stops, extra_behind, extra, kept_once, behind_type, variable_word, variable_definition, item_behind, item, module_form}
 use Rattle.ir_shape.specs.Shape.{IsName, IsReturnType, IsKept, head_form, attributes_form, IsDefinition, IsVariable}
 use Rattle.ir_shape.proofs.Names.{behind_is}
 use Rattle.kept_runs.specs.Verbatim.{Verbatim}

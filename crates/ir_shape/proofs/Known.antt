@@ -11,6 +11,7 @@ use Rattle.ir_shape.specs.Modules.{IsModule}
 use Rattle.ir_shape.proofs.Items.{spelled_is}
 use Rattle.ir_shape.proofs.Numbering.{items_known}
 
+-- what a text reads as has the shape of a module
 pub read_known : (text : List ℕ) (tree : ModuleTree) → Reads text tree → HasShape tree
 read_known text tree r = record {
   items = r.numbered;

@@ -11,7 +11,7 @@ use Rattle.text_forms.specs.Form.{Form, either}
 use Rattle.text_forms.specs.Nested.{concat, joined, struct_head, struct_end, remainder, struct_of, array_of, one_deeper}
 use Rattle.ir_types.specs.TypeNodes.{TypeNode, array, opening, closing}
 use Rattle.ir_types.specs.Written.{number_of}
-use Rattle.ir_types.specs.Grammar.{elements_of, inst_memory, memory_leaf, array_begin, type_parts, memory_type}
+use Rattle.ir_types.specs.TypeForms.{elements_of, inst_memory, memory_leaf, array_begin, type_parts, memory_type}
 use Rattle.ir_shape.specs.Shape.{IsNested, IsMemory}
 use Rattle.ir_shape.proofs.Sure.{Sure, one_sure, mark_sure, exactly_sure, pair_sure, either_sure, mapped_sure, made_sure, ahead_sure, many_sure, after_mark_sure}
 use Rattle.ir_shape.proofs.Values.{local_sure, type_sure}
@@ -119,6 +119,7 @@ memory_sure : (d : ℕ) → Sure (memory_type d) (IsNested (suc d))
 memory_sure zero = parts_leaf zero
 memory_sure (suc d) = deeper_sure (memory_type d) (suc d) (memory_sure d)
 
+-- what is read as a memory type is one
 pub type_is_sure : (d : ℕ) → Sure (memory_type d) IsMemory
 type_is_sure d = record { known = λ a ts l h. record { depth = suc d; nested = (memory_sure d).known a ts l h } }
 

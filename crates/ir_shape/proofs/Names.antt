@@ -30,15 +30,18 @@ pub named_is : (s : List ℕ) (n : Name) → name_of s ≡ Some n → IsName n
 named_is [] n e = absurd cc
 named_is (c ∷ cs) n e = by_test (eqb c 34) _ _ n e (is_text (unescaped (without_last cs)) n) (λ f. by_test (is_digit c) _ _ n f (is_number (number_of (c ∷ cs)) n) (is_text (c ∷ cs) n))
 
+-- what stands behind a sign is a name
 pub behind_is : (s : List ℕ) (n : Name) → name_behind s ≡ Some n → IsName n
 behind_is [] n e = absurd cc
 behind_is (c ∷ cs) n e = named_is cs n e
 
+-- and what stands before one
 pub before_is : (s : List ℕ) (n : Name) → name_before s ≡ Some n → IsName n
 before_is s n e = named_is (without_last s) n e
 
 -- ---- a name at a place stands in the table
 
+-- where a name stands, the place is in the list
 pub within_names : (ns : List Name) (i : ℕ) → IsName (name_at ns i) → i < length ns
 within_names [] i h = absurd (omega arith)
 within_names (n ∷ ns) zero h = omega arith

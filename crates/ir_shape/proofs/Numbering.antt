@@ -14,7 +14,7 @@ use Rattle.ir_types.specs.declared.name.Name.TheVariants.{Number}
 use Rattle.ir_types.specs.declared.inst.Ty.{Ty}
 use Rattle.ir_types.specs.declared.inst.Ty.TheVariants.{Int, Ptr, Vector, Void}
 use Rattle.ir_types.specs.Tree.{KeptTexts, InstTree, BlockTree, ParamTree, FunctionTree, WrittenParam, WrittenBlock, WrittenFunction, Item, head_line, comdat_line, type_item, variable_item, function_item, attribute_line, metadata_line}
-use Rattle.ir_types.specs.Grammar.{named_by}
+use Rattle.ir_types.specs.FunctionForms.{named_by}
 use Rattle.ir_types.specs.Numbered.{next_after, named, named_result, numbered_inst, numbered_block, numbered_param, numbered_function, numbered_item, numbered_module}
 use Rattle.ir_shape.specs.Shape.{IsName, IsNameThere, IsResult, IsReadInst, EndsOnce, IsKept, before_form, after_form, IsBlockOf, IsParam, IsFunctionOf, IsItemOf}
 use Rattle.ir_shape.proofs.Written.{IsWrittenInst, IsWrittenBlock, IsWrittenParam, renamed}
@@ -147,6 +147,7 @@ item_known u (function_item f) x h e =
 item_known u (attribute_line xs) x h e = subst (λ (y : Item FunctionTree × Unit {0}). IsItemOf IsReadInst y.0) (some_is _ x e) h
 item_known u (metadata_line xs) x h e = subst (λ (y : Item FunctionTree × Unit {0}). IsItemOf IsReadInst y.0) (some_is _ x e) h
 
+-- items that are numbered have the shape that the written ones have
 pub items_known : (w : List (Item WrittenFunction)) (items : List (Item FunctionTree)) → AllByRecursion IsWrittenItem w → numbered_module w ≡ Some items → AllByRecursion (IsItemOf IsReadInst) items
 items_known w items h e =
     let p = bind_some (walk numbered_item tt w) _ items e in

@@ -61,6 +61,7 @@ node_within [] i h = absurd (omega arith)
 node_within (x ∷ xs) zero h = omega arith
 node_within (x ∷ xs) (suc i) h = omega (arith, node_within xs i h)
 
+-- a list of types adds as many to those before it
 pub as_many : (names : List Name) (before : List (List TypeNode)) (ts : List MemTy) → length (all_nodes names before ts) ≡ length before + length ts
 as_many names before [] = omega arith
 as_many names before (t ∷ ts) =
@@ -103,6 +104,7 @@ operands_placed wide t names ts [] h = tt
 operands_placed wide t names [] (a ∷ args) h = absurd h
 operands_placed wide t names (ty ∷ ts) (a ∷ args) h = (operand_placed wide t names ty a h.0.1, operands_placed wide t names ts args h.1)
 
+-- the type of an instruction of a right kind stands in the list
 pub kind_placed : (t : Tables) (k : InstKind) (n : ℕ) → HasParts (kind_in t k) n → IsKindPlaced t k
 kind_placed t (Offset id widths inbounds nuw nusw) n h = memory_placed t.type_names t.types id h.0
 kind_placed t k n h = tt

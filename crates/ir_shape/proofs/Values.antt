@@ -17,7 +17,12 @@ use Rattle.ir_types.specs.Offsets.{Definitions, small_size, path_offset, offset_
 use Rattle.ir_types.specs.TypeNodes.{TypeNode}
 use Rattle.ir_types.specs.Written.{number_of, number_at, fits_width, at_most_64_bits}
 use Rattle.ir_types.specs.Tree.{OperandTree, local, number, null, poison, lanes, global, out_of_range}
-use Rattle.ir_types.specs.Grammar.{local_name, global_name, label, width, lanes_of, vector_type, value_type, return_type, WrittenLane, lane_digits, lane_true, lane_false, lane_poison, typed_lane, WrittenValue, named, digits, yes, no, null_word, poison_word, zeros, splat, lane_list, symbol, stepped, constant_word, comma_index, constant_offset, value, lane_counts, width_of, lane_at, lane_fits, index_of, index_fits, if_in_range, is_out_of_range, zeros_at, splat_at, lanes_at, operand_at, typed_value, typed_pair, pointer_value, index_value, target, alignment_of, alignment, align_or, some}
+use Rattle.text_forms.specs.Combined.{some}
+use Rattle.ir_types.specs.Types.{lane_counts}
+use Rattle.ir_types.specs.TypeForms.{local_name, global_name, label, width, lanes_of, vector_type, value_type, return_type}
+use Rattle.ir_types.specs.ValueForms.{WrittenLane, lane_digits, lane_true, lane_false, lane_poison, typed_lane, WrittenValue, named, digits, yes, no, null_word, poison_word, zeros, splat, lane_list, symbol, stepped, constant_word, comma_index, constant_offset, value, width_of, lane_at, lane_fits, index_of, index_fits, if_in_range, zeros_at, splat_at, lanes_at, operand_at}
+use Rattle.ir_types.specs.InstParts.{typed_value, typed_pair, pointer_value, index_value, target, alignment_of, alignment, align_or}
+use Rattle.ir_types.specs.InstForms.{is_out_of_range}
 use Rattle.ir_shape.specs.Shape.{IsName, IsOneOf, widths, IsType, IsReturnType, IsBelow, IsLane, IsOperand, IsOperandIn, IsTypedIn}
 use Rattle.ir_shape.proofs.Among.{of_each}
 use Rattle.ir_shape.proofs.Names.{behind_is, before_is}
@@ -25,14 +30,17 @@ use Rattle.ir_shape.proofs.Sure.{Sure, any_sure, one_sure, mark_sure, word_sure,
 
 -- ---- names, types and values
 
+-- what is read as a local name is a name
 pub local_sure : Sure local_name IsName
 unfolding local_name
 local_sure = made_sure (one_sure Local) (λ s n u e. behind_is s n e)
 
+-- and as a symbol's
 pub global_sure : Sure global_name IsName
 unfolding global_name
 global_sure = made_sure (one_sure Global) (λ s n u e. behind_is s n e)
 
+-- and as a label
 pub label_sure : Sure label IsName
 unfolding label
 label_sure = made_sure (one_sure Label) (λ s n u e. before_is s n e)
@@ -64,6 +72,7 @@ vector_sure = made_sure {Q = IsType} (marked_sure Less (mapped_sure {Q = λ x. I
     let b = bind_some (lanes_of x.0) _ t e in
     subst IsType (some_is _ t b.2) (lanes_counted x.0 b.0 b.1, h))
 
+-- what is read as a type of values is one
 pub type_sure : Sure value_type IsType
 unfolding value_type
 type_sure = either_sure (mapped_sure {Q = IsType} width_sure (λ w h. h)) (either_sure (word_sure _ Ptr tt) vector_sure)
@@ -74,6 +83,7 @@ return_type_is Ptr h = h
 return_type_is (Vector n w) h = h
 return_type_is Void h = tt
 
+-- and as the type of what is returned
 pub return_type_sure : Sure return_type IsReturnType
 unfolding return_type
 return_type_sure = either_sure (record { known = λ t ts l h. return_type_is t (type_sure.known t ts l h) }) (word_sure _ Void tt)
@@ -87,6 +97,7 @@ either_below : (b : Bool) (m n k : ℕ) → n < m → k < m → cond b n k < m
 either_below true m n k h g = h
 either_below false m n k h g = g
 
+-- a number of so many bits is below their power of two
 pub number_small : (w : ℕ) (s : List ℕ) → 0 < 2 ^ w → IsBelow w (number_at w s)
 number_small w [] h = h
 number_small w (c ∷ ds) h = either_below (eqb c 45) (2 ^ w) _ _ (below (2 ^ w) _ h) (below (2 ^ w) _ h)
@@ -94,6 +105,7 @@ number_small w (c ∷ ds) h = either_below (eqb c 45) (2 ^ w) _ _ (below (2 ^ w)
 one_below : (w : ℕ) → IsOneOf widths w → IsBelow w 1
 one_below w h = of_each (λ n. IsBelow n 1) widths w (lit< tt, (lit< tt, (lit< tt, (lit< tt, (lit< tt, tt))))) h
 
+-- 0 has so many bits
 pub none_below : (w : ℕ) → IsOneOf widths w → IsBelow w 0
 none_below w h = omega (arith, one_below w h)
 
@@ -128,6 +140,7 @@ unfolding constant_offset
 constant_offset_sure =
     behind_sure (codes "getelementptr") (mapped_sure {Q = λ x. IsName x.1.0} (pair_sure any_sure (between_sure LeftParen RightParen (pair_sure any_sure (pair_sure (after_mark_sure Comma (behind_sure (codes "ptr") global_sure)) (any_sure {f = some comma_index}))))) (λ x h. h.1.1.0))
 
+-- what is read as a value is a written one
 pub value_sure : Sure value IsValue
 unfolding value
 value_sure =
@@ -208,6 +221,7 @@ stepped_is defs t x a h e =
 digits_are : (t : Ty) (s : List ℕ) (a : OperandTree) → IsType t → Some (if_in_range (fits_width (width_of t) s) (number (number_at (width_of t) s))) ≡ Some a → IsRead t a
 digits_are t s a i e = by_some t _ a e (in_range (fits_width (width_of t) s) t (number (number_at (width_of t) s)) (number_small (width_of t) s (zero_fits t i)))
 
+-- a written value at a type is an operand of it
 pub operand_is : (defs : Definitions) (t : Ty) (v : WrittenValue) (a : OperandTree) → IsType t → IsValue v → operand_at defs t v ≡ Some a → IsOperandIn true t a
 operand_is defs t (named n) a i h e = by_some t _ a e h
 operand_is defs t (digits s) a i h e = digits_are t s a i e
@@ -233,12 +247,14 @@ held_in wide t (out_of_range n) w h = (w refl, h.1)
 
 -- ---- parts of instructions
 
+-- what is read as a value with its type is an operand of it
 pub typed_sure : (defs : Definitions) → Sure (typed_value defs) (λ x. IsTypedIn true x.0 x.1)
 unfolding typed_value
 typed_sure defs = made_sure (pair_sure type_sure value_sure) (λ x y h e.
     let a = bind_some (operand_at defs x.0 x.1) _ y e in
     subst (λ (z : Ty × OperandTree). IsTypedIn true z.0 z.1) (some_is _ y a.2) (h.0, operand_is defs x.0 x.1 a.0 h.0 h.1 a.1))
 
+-- and so are two at one type
 pub typed_pair_sure : (defs : Definitions) → Sure (typed_pair defs) (λ x. IsTypedIn true x.0 x.1.0 × IsTypedIn true x.0 x.1.1)
 unfolding typed_pair
 typed_pair_sure defs = made_sure (pair_sure type_sure (pair_sure value_sure (after_mark_sure Comma value_sure))) (λ x y h e.
@@ -246,16 +262,19 @@ typed_pair_sure defs = made_sure (pair_sure type_sure (pair_sure value_sure (aft
     let b = bind_some (operand_at defs x.0 x.1.1) _ y a.2 in
     subst (λ (z : Ty × (OperandTree × OperandTree)). IsTypedIn true z.0 z.1.0 × IsTypedIn true z.0 z.1.1) (some_is _ y b.2) ((h.0, operand_is defs x.0 x.1.0 a.0 h.0 h.1.0 a.1), (h.0, operand_is defs x.0 x.1.1 b.0 h.0 h.1.1 b.1)))
 
+-- and one at a pointer's
 pub pointer_sure : (defs : Definitions) → Sure (pointer_value defs) (IsTypedIn true Ptr)
 unfolding pointer_value
 pointer_sure defs = made_sure (behind_sure (codes "ptr") value_sure) (λ v a h e. (tt, operand_is defs Ptr v a tt h e))
 
+-- and one at an integer's
 pub index_sure : (defs : Definitions) → Sure (index_value defs) (λ x. IsTypedIn true (Int x.0) x.1)
 unfolding index_value
 index_sure defs = made_sure (pair_sure width_sure value_sure) (λ x y h e.
     let a = bind_some (operand_at defs (Int x.0) x.1) _ y e in
     subst (λ (z : ℕ × OperandTree). IsTypedIn true (Int z.0) z.1) (some_is _ y a.2) (h.0, operand_is defs (Int x.0) x.1 a.0 h.0 h.1 a.1))
 
+-- what is read as the label of a branch is a name
 pub target_sure : Sure target IsName
 unfolding target
 target_sure = behind_sure (codes "label") local_sure
@@ -274,6 +293,7 @@ alignment_small : (s : List ℕ) (n : ℕ) → alignment_of s ≡ Some n → IsB
 alignment_small [] n e = absurd cc
 alignment_small (c ∷ ds) n e = without_sign_small (eqb c 45) (c ∷ ds) n e
 
+-- what is read as an alignment has 64 bits
 pub alignment_sure : Sure alignment (IsThere (IsBelow 64))
 unfolding alignment
 alignment_sure = optional_sure (marked_sure Comma (behind_sure (codes "align") (made_sure (one_sure Number) (λ s n u e. alignment_small s n e))))
@@ -293,6 +313,7 @@ size_small Ptr h = lit< tt
 size_small (Vector n w) h = let most : n * w ≤ 512 * 64 = mul-le-mul (lanes_least n h.0) (width_least w h.1) in bytes_small (n * w) most
 size_small Void h = absurd h
 
+-- and so has that which a type gives where none is written
 pub align_is : (t : Ty) (o : Option ℕ) → IsType t → IsThere (IsBelow 64) o → IsBelow 64 (align_or t o)
 align_is t None i h = size_small t i
 align_is t (Some n) i h = h

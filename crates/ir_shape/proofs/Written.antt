@@ -12,7 +12,9 @@ use Rattle.ir_types.specs.Offsets.{Definitions}
 use Rattle.ir_types.specs.Written.{name_behind}
 use Rattle.ir_types.specs.declared.inst.Ty.{Ty}
 use Rattle.ir_types.specs.Tree.{OperandTree, InstTree, WrittenParam, WrittenBlock}
-use Rattle.ir_types.specs.Grammar.{inst_attachments, operation, terminator, named_by, line, block, kept}
+use Rattle.ir_types.specs.Words.{kept}
+use Rattle.ir_types.specs.InstForms.{inst_attachments, operation, terminator}
+use Rattle.ir_types.specs.FunctionForms.{named_by, line, block}
 use Rattle.ir_shape.specs.Shape.{IsKept, IsName, IsType, IsTypedIn, IsBodyOf, IsNameThere, IsTerminator, EndsOnce}
 use Rattle.ir_shape.proofs.Names.{behind_is}
 use Rattle.ir_shape.proofs.Sure.{Sure, pair_sure, either_sure, mapped_sure, made_sure, ahead_sure, IsThere, optional_sure, many_sure}
@@ -42,6 +44,7 @@ line_sure {P} {Q} p named_so = either_sure
     subst Q (some_is _ i b.2) (named_so x.1.1 (Some b.0) h (behind_is x.0 b.0 b.1))))
     (mapped_sure {Q = Q} p (λ i h. named_so i None h tt))
 
+-- a body stays one under another name of its result
 pub renamed : {P : Ty → OperandTree → Type 0} (i : InstTree) (o : Option Name) → IsBodyOf P i → IsBodyOf P (named_by i o)
 renamed i o h = record { args = h.args; labels = h.labels; count = h.count; result = h.result; parts = h.parts }
 
@@ -79,10 +82,12 @@ ending_of : (is : List InstTree) (last : InstTree) → AllByRecursion IsOperatio
 ending_of [] last h g = g.ends
 ending_of (i ∷ is) last h g = ends_behind i.kind is last h.0.goes_on (ending_of is last h.1 g)
 
+-- a name that may be absent is one where it is there
 pub there_name : (o : Option Name) → IsThere IsName o → IsNameThere o
 there_name None h = tt
 there_name (Some n) h = h
 
+-- what is read as a block is a written one
 pub block_sure : (defs : Definitions) → Sure (block defs) IsWrittenBlock
 unfolding block
 block_sure defs = mapped_sure (pair_sure (optional_sure label_sure) (pair_sure (many_sure (operation_line_sure defs)) (terminator_line_sure defs))) (λ x h. record {

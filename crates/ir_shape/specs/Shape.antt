@@ -20,7 +20,11 @@ use Rattle.ir_types.specs.Kinds.{Kind, Binary, Compare, Phi, Offset, Load, Store
 pub use Rattle.ir_types.specs.Types.{IsOneOf, widths, IsType}
 use Rattle.ir_types.specs.TypeNodes.{TypeNode, scalar, called, array, opening, closing}
 use Rattle.ir_types.specs.Collected.{collected}
-use Rattle.ir_types.specs.Grammar.{width_of, bits_for, element_of, shuffled, no_flags, wrap_flags, exact_flag, disjoint_flag, inst_attachments, kept, equal_string, target_line, attribute_group, comdat, metadata, behind_type}
+use Rattle.ir_types.specs.FlagForms.{no_flags, wrap_flags, exact_flag, disjoint_flag}
+use Rattle.ir_types.specs.ValueForms.{width_of}
+use Rattle.ir_types.specs.Words.{kept}
+use Rattle.ir_types.specs.InstForms.{bits_for, element_of, shuffled, inst_attachments}
+use Rattle.ir_types.specs.ItemForms.{equal_string, target_line, attribute_group, comdat, metadata, behind_type}
 use Rattle.ir_types.specs.Tree.{KeptTexts, OperandTree, local, number, null, poison, lanes, global, out_of_range, InstTree, BlockTree, ParamTree, FunctionTree, ModuleTree, VariableTree, Item, head_line, comdat_line, type_item, variable_item, function_item, attribute_line, metadata_line}
 
 -- a number as a name has 32 bits

@@ -4,7 +4,7 @@ use Rattle.text_forms.specs.Form.{Lexeme}
 use Rattle.text_forms.specs.Lexical.{StopsAt, Lexes}
 use Rattle.text_forms.proofs.Exact.{some_is}
 use Rattle.text_lex.proofs.Unique.{lexes_unique, stops_lexes}
-use Rattle.ir_types.specs.Grammar.{SpellsModule}
+use Rattle.ir_types.specs.ItemForms.{SpellsModule}
 use Rattle.ir_types.specs.Numbered.{numbered_module}
 use Rattle.ir_types.specs.Collected.{collected}
 use Rattle.ir_types.specs.Reads.{Reads}

@@ -1,7 +1,7 @@
 //! Laws on what texts read as, as functions with empty bodies.
 #![tactic(auto)]
 
-ghost use Rattle.std.specs.Prelude.{◌≡◌, ◌≢◌, ◌<◌, ◌≤◌, ℕ, List, map, length, slice_get, Some, None};
+ghost use Rattle.std.specs.Prelude.{◌≡◌, ℕ, List, map, length, None};
 ghost use Rattle.text_forms.specs.Form.{Lexeme};
 ghost use Rattle.text_forms.specs.Lexical.{Lexes, StopsAt};
 ghost use Rattle.ir_types.specs.declared.memory_type.TypeName.{TypeName};
@@ -10,23 +10,28 @@ ghost use Rattle.ir_types.specs.declared.module.Symbol.{Symbol};
 ghost use Rattle.ir_types.specs.declared.module.SymbolKind.TheVariants.{Missing};
 ghost use Rattle.ir_types.specs.declared.module.Module.{Module};
 ghost use Rattle.ir_types.specs.Denotes.{type_names_of, Denotes};
-ghost use Rattle.ir_types.specs.Grammar.{SpellsModule};
+ghost use Rattle.ir_types.specs.ItemForms.{SpellsModule};
 ghost use Rattle.ir_types.specs.Numbered.{numbered_module};
 ghost use Rattle.ir_types.specs.Reads.{Reads};
 ghost use Rattle.ir_types.specs.Tree.{WrittenFunction, Item, ModuleTree};
+ghost use Rattle.ir_text_laws.specs.Readings.{ReadsAsNone, SpellNone, AreFrom};
 
 /// A text reads as at most one tree, and has at most one list of items.
 pub fn one_reading()
     ensures tree { (text : List ℕ) (t u : ModuleTree) → Reads text t → Reads text u → t ≡ u }
-    ensures items { (text : List ℕ) (t u : ModuleTree) (r : Reads text t) (s : Reads text u) → r.numbered ≡ s.numbered }
+    ensures items { (text : List ℕ) (t u : ModuleTree)
+        → (r : Reads text t) (s : Reads text u) → r.numbered ≡ s.numbered }
 {}
 
 /// No tree is read where at some place there is no token, or where the tokens spell no module, or where a thing without a
 /// name finds no number.
 pub fn no_reading()
-    ensures stopped { (text : List ℕ) (place : ℕ) (t : ModuleTree) → StopsAt text place → Reads text t → ⊥ }
-    ensures unspelled { (text : List ℕ) (tokens : List Lexeme) (t : ModuleTree) → Lexes text tokens → ((written : List (Item WrittenFunction)) → SpellsModule written tokens → ⊥) → Reads text t → ⊥ }
-    ensures unnumbered { (text : List ℕ) (tokens : List Lexeme) (written : List (Item WrittenFunction)) (t : ModuleTree) → Lexes text tokens → SpellsModule written tokens → numbered_module written ≡ None → Reads text t → ⊥ }
+    ensures stopped { (text : List ℕ) (place : ℕ) → StopsAt text place → ReadsAsNone text }
+    ensures unspelled { (text : List ℕ) (tokens : List Lexeme)
+        → Lexes text tokens → SpellNone tokens → ReadsAsNone text }
+    ensures unnumbered { (text : List ℕ) (tokens : List Lexeme) (written : List (Item WrittenFunction))
+        → Lexes text tokens → SpellsModule written tokens → numbered_module written ≡ None
+        → ReadsAsNone text }
 {}
 
 /// A text has at most one list of tokens.
@@ -41,17 +46,22 @@ pub fn one_stop()
 
 /// A text with tokens has no place with none.
 pub fn tokens_without_a_stop()
-    ensures { (text : List ℕ) (tokens : List Lexeme) (place : ℕ) → Lexes text tokens → StopsAt text place → ⊥ }
+    ensures { (text : List ℕ) (tokens : List Lexeme) (place : ℕ)
+        → Lexes text tokens → StopsAt text place → ⊥ }
 {}
 
 /// In a module's lists the names that are only used stand behind those that are defined or declared, and nowhere else.
 pub fn only_used_names_stand_behind()
-    ensures types { (m : Module) (tree : ModuleTree) → Denotes m tree → (i : ℕ) (n : TypeName) → slice_get m.type_names i ≡ Some n → (i < length tree.type_names → n.ty ≢ MissingType) × (length tree.type_names ≤ i → n.ty ≡ MissingType) }
-    ensures symbols { (m : Module) (tree : ModuleTree) → Denotes m tree → (i : ℕ) (s : Symbol) → slice_get m.symbols i ≡ Some s → (i < length tree.symbols → s.kind ≢ Missing) × (length tree.symbols ≤ i → s.kind ≡ Missing) }
+    ensures types { (m : Module) (tree : ModuleTree) → Denotes m tree
+        → AreFrom TypeName (λ n. n.ty ≡ MissingType) (length tree.type_names) m.type_names }
+    ensures symbols { (m : Module) (tree : ModuleTree) → Denotes m tree
+        → AreFrom Symbol (λ s. s.kind ≡ Missing) (length tree.symbols) m.symbols }
 {}
 
 /// Modules that denote one tree have the same names of types and of symbols, in the same order.
 pub fn same_modules_have_the_same_names()
-    ensures types { (m n : Module) (tree : ModuleTree) → Denotes m tree → Denotes n tree → type_names_of m ≡ type_names_of n }
-    ensures symbols { (m n : Module) (tree : ModuleTree) → Denotes m tree → Denotes n tree → map (λ (s : Symbol). s.name) m.symbols ≡ map (λ (s : Symbol). s.name) n.symbols }
+    ensures types { (m n : Module) (tree : ModuleTree) → Denotes m tree → Denotes n tree
+        → type_names_of m ≡ type_names_of n }
+    ensures symbols { (m n : Module) (tree : ModuleTree) → Denotes m tree → Denotes n tree
+        → map (λ (s : Symbol). s.name) m.symbols ≡ map (λ (s : Symbol). s.name) n.symbols }
 {}

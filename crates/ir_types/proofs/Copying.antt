@@ -17,6 +17,7 @@ not_before ns table i x lt e h =
     let k : h.0 < i = let w = h.1 in omega (arith, short) in
     table.distinct h.0 i x k lt (sym (get_or-take i ns h.0 x k) ∙ h.2 ∙ sym e)
 
+-- A table's front with the next name added is the front that is one longer.
 pub copied_next : (old new ns : List Name) (i : ℕ) (x : Name) → IsTable ns → old ≡ take i ns → i < length ns → name_at ns i ≡ x → Adds old x new → new ≡ take (i + 1) ns
 copied_next old new ns i x table o lt e (inl there) = absurd (not_before ns table i x lt (sym (name_is ns i x lt) ∙ e) (subst (λ (l : List Name). Contains l x) o there.0))
 copied_next old new ns i x table o lt e (inr fresh) =

@@ -17,7 +17,8 @@ use Rattle.text_forms.proofs.Parts.{lexeme}
 use Rattle.text_forms.proofs.Sound.{sound, bind_some}
 use Rattle.ir_types.specs.declared.inst.Ty.{Ty}
 use Rattle.ir_types.specs.TypeNodes.{TypeNode}
-use Rattle.ir_types.specs.Grammar.{behind, width, vector_type, value_type, local_name, elements_of, memory_leaf, array_begin, type_parts, memory_type, type_words, type_tokens, type_spelled, inst_memory}
+use Rattle.text_forms.specs.Combined.{behind}
+use Rattle.ir_types.specs.TypeForms.{width, vector_type, value_type, local_name, elements_of, memory_leaf, array_begin, type_parts, memory_type, type_words, type_tokens, type_spelled, inst_memory}
 use Rattle.ir_types.proofs.Balanced.{leaf_stack, array_stack}
 use Rattle.ir_types.proofs.Decides.{parts_decide}
 

@@ -27,6 +27,7 @@ beside_left c y = Some ((c, y.0), y.1)
 abbrev pub second : {A B C : Type 0} → (B → Option A) → C × B → Option (C × A)
 second complete x = complete x.1 >>= beside x.0
 
+-- A form behind another may be read in two steps where it may be alone.
 pub pair_later : {A B C : Type 0} (f : Form C) (g : Form A) (h : Form B) (complete : B → Option A) → Later g h complete → Later (pair f g) (pair f h) (second complete)
 pair_later {A} {B} {C} f g h complete later ts = by (read f ts)
   where
@@ -55,9 +56,11 @@ nothing_then (Some a) = refl
 abbrev before : {A C : Type 0} → C → A → Option (A × C)
 before c a = Some (a, c)
 
+-- of two values the first is completed
 abbrev pub first : {A B C : Type 0} → (B → Option A) → B × C → Option (A × C)
 first complete x = complete x.0 >>= before x.1
 
+-- So may a form before another.
 pub pair_sooner : {A B C : Type 0} (f : Form A) (g : Form B) (h : Form C) (complete : B → Option A) → Later f g complete → Later (pair f h) (pair g h) (first complete)
 pair_sooner {A} {B} {C} f g h complete later ts = ap (λ (q : Option (A × List Lexeme)). q >>= λ x. read h x.1 >>= beside_left x.0) (later ts) ∙ by (read g ts)
   where
@@ -94,6 +97,7 @@ completed_twice {A} {B} {C} {R} one other (Some x) = by (other x.0)
     by None = refl
     by (Some b) = refl
 
+-- Two forms may both be read in two steps, one behind the other.
 pub both_later : {A B C D : Type 0} (f : Form A) (g : Form B) (h : Form C) (k : Form D) (complete_one : B → Option A) (complete_other : D → Option C) → Later f g complete_one → Later h k complete_other → Later (pair f h) (pair g k) (both complete_one complete_other)
 both_later {A} {B} {C} {D} f g h k complete_one complete_other one other ts =
     pair_sooner f g h complete_one one ts
@@ -115,6 +119,7 @@ into make a = Some (make a)
 abbrev into_left : {A C : Type 0} → (A → C) → A × List Lexeme → Option (C × List Lexeme)
 into_left make x = Some (make x.0, x.1)
 
+-- What a function makes of a form may be read in two steps where its values are completed alike.
 pub mapped_later : {A B C D : Type 0} (f : Form A) (g : Form B) (complete : B → Option A) (make : A → C) (make_less : B → D) (complete_made : D → Option C)
     → Later f g complete → ((b : B) → complete_made (make_less b) ≡ (complete b >>= into make)) → Later (mapped make f) (mapped make_less g) complete_made
 mapped_later {A} {B} {C} {D} f g complete make make_less complete_made later same ts = ap (λ (q : Option (A × List Lexeme)). q >>= into_left make) (later ts) ∙ by (read g ts)
@@ -131,6 +136,7 @@ mapped_later {A} {B} {C} {D} f g complete make make_less complete_made later sam
 abbrev pub all_of : {A : Type 0} → A → Option A
 all_of a = Some a
 
+-- A form is itself, with nothing left to be completed.
 pub nothing_left : {A : Type 0} (f : Form A) → Later f f all_of
 nothing_left {A} f ts = by (read f ts)
   where
@@ -148,6 +154,7 @@ at_once {A} {B} f make_less complete same ts = by (read f ts)
 
 -- ---- behind a word
 
+-- Behind a word: where each form of the table may be read in two steps.
 pub word_later : {K A B : Type 0} (table : List (List ℕ × K)) (f : K → Form A) (g : K → Form B) (complete : B → Option A) → ((k : K) → Later (f k) (g k) complete) → Later (by_word table f) (by_word table g) complete
 word_later table f g complete later [] = refl
 word_later {K} {A} {B} table f g complete later (t ∷ ts) = by (kind_code t.kind == kind_code Word) (entry table t.text)
@@ -191,6 +198,7 @@ one_before {A} {B} complete b (Some y) = by (complete b)
     by None = refl
     by (Some a) = left_last a (each complete y.0)
 
+-- Value after value: where each may be read in two steps.
 pub each_later : {A B : Type 0} (p : List Lexeme → Bool) (f : Form A) (g : Form B) (complete : B → Option A) → Later f g complete → (n : ℕ) (ts : List Lexeme) → read_each p (read f) n ts ≡ completed (each complete) (read_each p (read g) n ts)
 each_later p f g complete later zero ts = refl
 each_later {A} {B} p f g complete later (suc n) ts = by (p ts) (read g ts) (later ts) (each_later p f g complete later n)
@@ -210,6 +218,7 @@ each_later {A} {B} p f g complete later (suc n) ts = by (p ts) (read g ts) (late
 abbrev if_none_left : {A : Type 0} → A × List Lexeme → Option A
 if_none_left x = cond (length x.1 == 0) (Some x.0) None
 
+-- All tokens are read in two steps where a front of them is.
 pub whole_later : {A B : Type 0} (f : Form A) (g : Form B) (complete : B → Option A) → Later f g complete → (ts : List Lexeme) → read_whole f ts ≡ (read_whole g ts >>= complete)
 whole_later {A} {B} f g complete later ts = ap (λ (q : Option (A × List Lexeme)). q >>= if_none_left) (later ts) ∙ by (read g ts)
   where

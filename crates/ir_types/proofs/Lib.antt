@@ -5,6 +5,4 @@ pub mod Balanced
 pub mod InstMemory
 pub mod Later
 pub mod Skimming
-mod Examples
-mod ModuleExample
 pub mod Copying

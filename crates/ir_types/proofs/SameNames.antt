@@ -14,9 +14,11 @@ use Rattle.ir_types.specs.declared.name.Name.TheVariants.{Text, Number}
 use Rattle.ir_types.specs.contracts.name.NamePartialEq.TheImpl.{eq-value}
 use Rattle.ir_types.specs.Names.{Adds, IsTable}
 
+-- `==` on names, as the code computes it
 abbrev pub name_eq : Name → Name → Bool
 name_eq = eq-value.it
 
+-- It is true exactly for equal names.
 pub name_eq-Decides : (x y : Name) → Decides (name_eq x y) (x ≡ y)
 name_eq-Decides (Text a) (Text b) = (λ e. ap Text ((bytes_eq-Decides a b).0 e), λ e. (bytes_eq-Decides a b).1 (cc))
 name_eq-Decides (Text a) (Number n) = (λ e. absurd (true≢false (sym e)), λ e. (cc))
@@ -46,5 +48,6 @@ IsTable-from_set names distinct small = record {
   small = small;
 }
 
+-- A set's keys with one more name are a table, where there is room.
 pub IsTable-Adds : (old : List Name) (name : Name) (new : List Name) → length old + 1 < 2 ^ 32 → IsDistinct name_eq new → Adds old name new → IsTable new
 IsTable-Adds old name new room distinct h = IsTable-from_set new distinct (omega (arith, length-Adds old name new h))

@@ -15,8 +15,12 @@ use Rattle.ir_types.specs.declared.opcode.ItemWord.TheVariants as items
 use Rattle.ir_types.specs.TypeNodes.{TypeNode}
 use Rattle.ir_types.specs.Offsets.{Definitions, as_definition, definitions_in}
 use Rattle.ir_types.specs.Tree.{KeptTexts, WrittenParam, WrittenBlock, WrittenFunction, Item, head_line, comdat_line, type_item, variable_item, function_item, attribute_line, metadata_line}
-use Rattle.ir_types.specs.Grammar.{between, some, list, return_type, global_name, parameter, dotted_parameters, kept, block, declared_tree, declared_function, defined_tree, defined_function, item_words, item_behind, item, memory_type, module_form, SpellsModule}
-use Rattle.ir_types.specs.Skimmed.{declared_outline, skimmed_declaration, defined_outline, skimmed_definition, Skimmed, outlined, as_it_is, skimmed_behind, wordless_item, skimmed_item, skimmed_module, dotted_read, params_read, body_read, with_dotted, with_inner, filled, with_body, with_body_of_item, with_bodies, with_own_bodies, items_read}
+use Rattle.text_forms.specs.Combined.{between, some, list}
+use Rattle.ir_types.specs.TypeForms.{return_type, global_name, memory_type}
+use Rattle.ir_types.specs.Words.{kept, item_words}
+use Rattle.ir_types.specs.FunctionForms.{parameter, dotted_parameters, block, declared_tree, declared_function, defined_tree, defined_function}
+use Rattle.ir_types.specs.ItemForms.{item_behind, item, module_form, SpellsModule, wordless_item}
+use Rattle.ir_types.specs.Skimmed.{declared_outline, skimmed_declaration, defined_outline, skimmed_definition, Skimmed, outlined, as_it_is, skimmed_behind, skimmed_item, skimmed_module, dotted_read, params_read, body_read, with_dotted, with_inner, filled, with_body, with_body_of_item, with_bodies, with_own_bodies, items_read}
 use Rattle.ir_types.proofs.Balanced.{params_later, dotted_later, body_later}
 use Rattle.ir_types.proofs.Decides.{module_decides}
 use Rattle.ir_types.proofs.Later.{Later, second, both, into, pair_later, both_later, mapped_later, all_of, nothing_left, at_once, word_later, each, each_later, whole_later}
@@ -133,6 +137,7 @@ module_later defs depth ts =
     let m = memory_type depth in
     each_later (opens (skimmed_item m)) (item defs m) (skimmed_item m) (with_body_of_item defs) (item_later defs m) (length ts) ts ∙ same_completed defs (read (skimmed_module depth) ts)
 
+-- All tokens are read as a module's items in two steps.
 pub whole_module_later : (defs : Definitions) (depth : ℕ) (ts : List Lexeme) → read_whole (module_form defs depth) ts ≡ (read_whole (skimmed_module depth) ts >>= with_bodies defs)
 whole_module_later defs depth ts = whole_later (module_form defs depth) (skimmed_module depth) (with_bodies defs) (module_later defs depth) ts
 
@@ -167,6 +172,7 @@ pub record Skims (written : List (Item WrittenFunction)) (ts : List Lexeme) : Ty
   pub read : read_whole (skimmed_module (length ts)) ts ≡ Some items
   pub bodies : with_own_bodies items ≡ Some written
 
+-- What is found comes from items that are skimmed, and their bodies.
 pub skims_from : (written : List (Item WrittenFunction)) (ts : List Lexeme) → items_read ts ≡ Some written → Skims written ts
 skims_from written ts e = let s = bind_some (read_whole (skimmed_module (length ts)) ts) with_own_bodies written e in record { items = s.0; read = s.1; bodies = s.2 }
 

@@ -1,5 +1,5 @@
 -- What an instruction does, with names in the place of positions.
-use Rattle.std.specs.Prelude.{ℕ, Bool, List, [], ◌∷◌, map, replicate}
+use Rattle.std.specs.Prelude.{ℕ, Bool, true, false, List, [], ◌∷◌, map, replicate}
 use Rattle.ir_types.specs.declared.call.Actual.{Actual}
 use Rattle.ir_types.specs.declared.call.Callee.{Callee}
 use Rattle.ir_types.specs.declared.inst.Ty.{Ty}
@@ -44,6 +44,11 @@ pub data Kind : Type 0 where
   ReturnVoid : Kind
   Return : Ty → Kind
   Unreachable : Kind
+
+-- whether it is a phi
+abbrev pub is_phi_kind : Kind → Bool
+is_phi_kind Phi = true
+is_phi_kind kind = false
 
 -- the types of the arguments that a call writes
 abbrev pub actual_types : Callee → List Ty

@@ -5,8 +5,15 @@ pub mod Sizes
 pub mod Kinds
 pub mod Tree
 pub mod Written
-pub mod Grammar
 pub mod Offsets
+pub mod TypeForms
+pub mod FlagForms
+pub mod ValueForms
+pub mod Words
+pub mod InstParts
+pub mod InstForms
+pub mod FunctionForms
+pub mod ItemForms
 pub mod Skimmed
 pub mod Numbered
 pub mod Collected

@@ -6,7 +6,7 @@ use Rattle.ir_types.specs.declared.name.Name.{Name}
 use Rattle.ir_types.specs.declared.name.Name.TheVariants.{Text, Number}
 use Rattle.ir_types.specs.declared.inst.Ty.{Ty}
 use Rattle.ir_types.specs.declared.inst.Ty.TheVariants.{Void}
-use Rattle.ir_types.specs.Grammar.{named_by}
+use Rattle.ir_types.specs.FunctionForms.{named_by}
 use Rattle.ir_types.specs.Tree.{InstTree, BlockTree, ParamTree, FunctionTree, WrittenParam, WrittenBlock, WrittenFunction, Item, head_line, comdat_line, type_item, variable_item, function_item, attribute_line, metadata_line}
 
 -- the number for the next thing without a name, behind a name: one more than the greatest number so far, and 0 at first
@@ -22,20 +22,20 @@ named next None = if nat_lt next (2 ^ 32) then Some (Number next, next + 1) else
 -- the name of a result of this type: one of type `Void` without a name takes no number
 abbrev pub named_result : ℕ → Ty → Option Name → Option (Option Name × ℕ)
 named_result next Void None = Some (None, next)
-named_result next t None = named next None >>= λ x. Some (Some x.0, x.1)
-named_result next t (Some n) = named next (Some n) >>= λ x. Some (Some x.0, x.1)
+named_result next t None = named next None >>= λ (n, later). Some (Some n, later)
+named_result next t (Some n) = named next (Some n) >>= λ (n, later). Some (Some n, later)
 
 -- an instruction, whose result takes a number where it has no name
 abbrev pub numbered_inst : ℕ → InstTree → Option (InstTree × ℕ)
-numbered_inst next i = named_result next i.ty i.result >>= λ x. Some (named_by i x.0, x.1)
+numbered_inst next i = named_result next i.ty i.result >>= λ (n, later). Some (named_by i n, later)
 
 -- a block, before its results
 abbrev pub numbered_block : ℕ → WrittenBlock → Option (BlockTree × ℕ)
-numbered_block next b = named next b.label >>= λ x. walk numbered_inst x.1 b.insts >>= λ y. Some (record { name = x.0; insts = y.0 }, y.1)
+numbered_block next b = named next b.label >>= λ (n, first). walk numbered_inst first b.insts >>= λ (is, later). Some (record { name = n; insts = is }, later)
 
 -- a parameter
 abbrev pub numbered_param : ℕ → WrittenParam → Option (ParamTree × ℕ)
-numbered_param next p = named next p.name >>= λ x. Some (record { ty = p.ty; kept = p.kept; name = x.0 }, x.1)
+numbered_param next p = named next p.name >>= λ (n, later). Some (record { ty = p.ty; kept = p.kept; name = n }, later)
 
 -- a function with these parameters and blocks
 abbrev pub with_parts : WrittenFunction → List ParamTree → List BlockTree → FunctionTree
@@ -43,7 +43,7 @@ with_parts f params body = record { name = f.name; before = f.before; ret = f.re
 
 -- each function counts from 0
 abbrev pub numbered_function : WrittenFunction → Option FunctionTree
-numbered_function f = walk numbered_param 0 f.params >>= λ x. walk numbered_block x.1 f.body >>= λ y. Some (with_parts f x.0 y.0)
+numbered_function f = walk numbered_param 0 f.params >>= λ (params, first). walk numbered_block first f.body >>= λ (body, last). Some (with_parts f params body)
 
 -- an item: only in functions something takes a number
 abbrev pub numbered_item : Unit {0} → Item WrittenFunction → Option (Item FunctionTree × Unit {0})
@@ -57,4 +57,4 @@ numbered_item u (metadata_line xs) = Some (metadata_line xs, u)
 
 -- a module's items: each function by itself
 abbrev pub numbered_module : List (Item WrittenFunction) → Option (List (Item FunctionTree))
-numbered_module items = walk numbered_item tt items >>= λ x. Some x.0
+numbered_module items = walk numbered_item tt items >>= λ (numbered, u). Some numbered

@@ -3,7 +3,7 @@ use Rattle.std.specs.Prelude.{◌≡◌, ℕ, List, Some}
 use Rattle.text_forms.specs.Form.{Lexeme}
 use Rattle.text_forms.specs.Lexical.{Lexes}
 use Rattle.ir_types.specs.Tree.{FunctionTree, WrittenFunction, Item, ModuleTree}
-use Rattle.ir_types.specs.Grammar.{SpellsModule}
+use Rattle.ir_types.specs.ItemForms.{SpellsModule}
 use Rattle.ir_types.specs.Numbered.{numbered_module}
 use Rattle.ir_types.specs.Collected.{collected}
 

@@ -14,7 +14,11 @@ use Rattle.ir_types.specs.declared.opcode.ItemWord.TheVariants as items
 use Rattle.ir_types.specs.TypeNodes.{TypeNode}
 use Rattle.ir_types.specs.Offsets.{Definitions, definitions_in}
 use Rattle.ir_types.specs.Tree.{KeptTexts, WrittenParam, WrittenBlock, WrittenFunction, Item, head_line, comdat_line, type_item, variable_item, function_item, attribute_line, metadata_line}
-use Rattle.ir_types.specs.Grammar.{between, some, list, return_type, global_name, parameter, kept, block, declared_tree, defined_tree, dotted_parameters, item_words, item_behind, memory_type, comdat, metadata, type_definition, variable_definition}
+use Rattle.text_forms.specs.Combined.{some, list}
+use Rattle.ir_types.specs.TypeForms.{return_type, global_name, memory_type}
+use Rattle.ir_types.specs.Words.{kept, item_words}
+use Rattle.ir_types.specs.FunctionForms.{parameter, block, declared_tree, defined_tree, dotted_parameters}
+use Rattle.ir_types.specs.ItemForms.{item_behind, wordless_item}
 
 -- ---- items as they are skimmed
 
@@ -30,7 +34,7 @@ pub record Outline : Type 0 where
 
 -- the parts of a declared function
 abbrev pub declared_outline : KeptTexts × (Ty × (Name × (List Lexeme × KeptTexts))) → Outline
-declared_outline x = record { name = x.1.1.0; before = x.0; ret = x.1.0; params = x.1.1.1.0; after = x.1.1.1.1; body = None }
+declared_outline (before, (t, (name, (params, after)))) = record { name = name; before = before; ret = t; params = params; after = after; body = None }
 
 -- B K R @name ( .. ) K
 unfoldable pub skimmed_declaration : Form Outline
@@ -38,7 +42,7 @@ skimmed_declaration = mapped declared_outline (pair (joined attachments kept) (p
 
 -- the parts of a defined function
 abbrev pub defined_outline : KeptTexts × (Ty × (Name × (List Lexeme × (KeptTexts × List Lexeme)))) → Outline
-defined_outline x = record { name = x.1.1.0; before = x.0; ret = x.1.0; params = x.1.1.1.0; after = x.1.1.1.1.0; body = Some x.1.1.1.1.1 }
+defined_outline (before, (t, (name, (params, (after, body))))) = record { name = name; before = before; ret = t; params = params; after = after; body = Some body }
 
 -- K R @name ( .. ) K B { .. }
 unfoldable pub skimmed_definition : Form Outline
@@ -67,10 +71,6 @@ skimmed_behind items.Target = mapped as_it_is (item_behind [] items.Target)
 skimmed_behind items.Declare = mapped (λ s. function_item (outlined s)) skimmed_declaration
 skimmed_behind items.Define = mapped (λ s. function_item (outlined s)) skimmed_definition
 skimmed_behind items.Attributes = mapped as_it_is (item_behind [] items.Attributes)
-
--- an item that begins with no word, where memory types are of the form m
-abbrev pub wordless_item : Form (List TypeNode) → Form (Item WrittenFunction)
-wordless_item m = either (mapped comdat_line comdat) (either (mapped metadata_line metadata) (either (type_definition m) (variable_definition m)))
 
 -- an item, where memory types are of the form m
 unfoldable pub skimmed_item : Form (List TypeNode) → Form (Item Skimmed)

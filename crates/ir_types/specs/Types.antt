@@ -1,5 +1,5 @@
--- The types that can be written.
-use Rattle.std.specs.Prelude.{◌≡◌, ◌≢◌, ◌<◌, ◌⊎◌, ℕ, suc, List, [], ◌∷◌, length}
+-- The types that can be written, and what fits a lane.
+use Rattle.std.specs.Prelude.{◌≡◌, ◌≢◌, ◌<◌, ◌⊎◌, ◌^◌, ℕ, suc, nat_lt, Bool, true, List, [], ◌∷◌, length, Option, Some, None}
 use Rattle.std.specs.List.{AllByRecursion}
 use Rattle.ir_types.specs.declared.name.Name.{Name}
 use Rattle.ir_types.specs.declared.inst.Ty.{Ty}
@@ -21,6 +21,11 @@ widths = 1 ∷ 8 ∷ 16 ∷ 32 ∷ 64 ∷ []
 -- the numbers of lanes: the powers of two from 2 to 512
 abbrev pub lane_counts : List ℕ
 lane_counts = 2 ∷ 4 ∷ 8 ∷ 16 ∷ 32 ∷ 64 ∷ 128 ∷ 256 ∷ 512 ∷ []
+
+-- whether a lane of w bits is a number below 2^w, or poison
+abbrev pub fits_lane : ℕ → Option ℕ → Bool
+fits_lane w None = true
+fits_lane w (Some x) = nat_lt x (2 ^ w)
 
 -- the types of values that are written
 abbrev pub IsType : Ty → Type 0

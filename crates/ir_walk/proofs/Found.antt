@@ -65,8 +65,10 @@ length_each : {A B : Type 0} (h : A → B) (xs : List A) → length (map h xs) �
 length_each h [] = refl
 length_each h (x ∷ xs) = ap suc (length_each h xs)
 
+-- what is found in the first block is found first
 pub block_found : (S : InstTree → List Subject) (t : Tables) (ns : List Name) (n : ℕ) (b : Block) (bs : List Block) (x : Found) (whole : Option Found) → first (found_from S n (insts_in (map (block_in t ns) (b ∷ bs)))) ≡ whole → Some x ≡ first (found_from S n (map (inst_in t ns) b.insts)) → Some x ≡ whole
 block_found S t ns n b bs x whole h e = block_is S n (block_in t ns b) (map (block_in t ns) bs) x whole h e
 
+-- and where that has none, what is found behind it
 pub block_passed : (S : InstTree → List Subject) (t : Tables) (ns : List Name) (n k : ℕ) (b : Block) (bs : List Block) (whole : Option Found) → first (found_from S n (insts_in (map (block_in t ns) (b ∷ bs)))) ≡ whole → None ≡ first (found_from S n (map (inst_in t ns) b.insts)) → k ≡ n + length b.insts → first (found_from S k (insts_in (map (block_in t ns) bs))) ≡ whole
 block_passed S t ns n k b bs whole h e is = ap (λ j. first (found_from S j (insts_in (map (block_in t ns) bs)))) (is ∙ ap (λ j. n + j) (sym (length_each (inst_in t ns) b.insts))) ∙ block_is_not S n (block_in t ns b) (map (block_in t ns) bs) whole h e

@@ -26,7 +26,8 @@ pub trait InstRule {
 
     /// The first of what the instruction breaks the rule of.
     fn broken_by(&self, alloc: Global, inst: &Inst) -> Result<Option<Subject>, AllocError>
-        ensures { IfOk result (λ s. s ≡ first (subjects self.now (inst_in (tables self.now) (names self.now) inst.now))) };
+        ensures { IfOk result (λ s. s ≡ first
+            (subjects self.now (inst_in (tables self.now) (names self.now) inst.now))) };
 }
 
 // The first breach in instructions, of which the first has this number; with it the number.
@@ -36,7 +37,9 @@ fn in_slice<R: InstRule>(
     insts: &[Inst],
     start: u32,
 ) -> Result<Option<(Subject, u32)>, AllocError>
-    ensures { IfOk result (λ s. s ≡ first (found_from (R.subjects rule.now) start (map (inst_in (R.tables rule.now) (R.names rule.now)) insts.now))) }
+    ensures { IfOk result (λ s. s ≡ first
+        (found_from (R.subjects rule.now) start
+        (map (inst_in (R.tables rule.now) (R.names rule.now)) insts.now))) }
 {
     let mut place = start;
     let mut left = insts;
@@ -64,7 +67,9 @@ fn in_blocks<R: InstRule>(
     rule: &R,
     blocks: &[Block],
 ) -> Result<Option<(Subject, u32)>, AllocError>
-    ensures { IfOk result (λ s. s ≡ first (found_from (R.subjects rule.now) 0 (insts_in (map (block_in (R.tables rule.now) (R.names rule.now)) blocks.now)))) }
+    ensures { IfOk result (λ s. s ≡ first
+        (found_from (R.subjects rule.now) 0
+        (insts_in (map (block_in (R.tables rule.now) (R.names rule.now)) blocks.now)))) }
 {
     let mut place = 0u32;
     let mut left = blocks;
@@ -89,7 +94,9 @@ pub fn first_broken<R: InstRule>(
     function: &Function,
 ) -> Result<Option<Breach>, AllocError>
     requires { R.names rule.now ≡ function.now.names }
-    ensures { IfOk result (λ b. b ≡ first (map (inside function.now.name) (in_insts (R.subjects rule.now) (function_in (R.tables rule.now) function.now)))) }
+    ensures { IfOk result (λ b. b ≡ first
+        (map (inside function.now.name)
+        (in_insts (R.subjects rule.now) (function_in (R.tables rule.now) function.now)))) }
 {
     match in_blocks(alloc, rule, function.body.as_slice())? {
         Some((subject, place)) => Ok(Some(Breach {

@@ -1,19 +1,9 @@
-//! Tests of `ir_sizes`, `ir_limits`, the readers and the printers: what no clause says, with memory to spare.
+//! Tests of `ir_reader_types`, `ir_reader_ops` and `ir_reader_functions`: what no clause says, with memory to spare.
 #![tactic(auto)]
 
-#[cfg(test)]
-mod of_ir_limits;
-#[cfg(test)]
-mod of_ir_printer;
-#[cfg(test)]
-mod of_ir_printer_types;
-#[cfg(test)]
-mod of_ir_reader;
 #[cfg(test)]
 mod of_ir_reader_functions;
 #[cfg(test)]
 mod of_ir_reader_types;
-#[cfg(test)]
-mod of_ir_sizes;
 #[cfg(test)]
 mod shared;

@@ -2,13 +2,11 @@
 
 use crate::shared::{at, name};
 use ir_reader_types::{
-    SymbolNames, TypeNames, begins_memory_type, begins_type, block_label, global, local,
-    memory_type, name_before, name_behind, number_of_32_bits, number_of_64_bits, return_type,
-    skip_type, value_type,
+    SymbolNames, TypeNames, begins_type, block_label, global, local, memory_type, name_before,
+    name_behind, number_of_32_bits, number_of_64_bits, return_type, value_type,
 };
 use ir_types::{MemTy, Name, NamedType, Ty, TypeId, TypeName};
 use std::test::Fail;
-use text_forms::SyntaxFault;
 use text_lex::lex;
 
 #[test]
@@ -104,10 +102,9 @@ fn reads_memory_types(rt: HostRuntime) -> Result<(), Fail> {
     let cursor = at(text, &tokens);
     let mut types = Vec::new(rt.alloc());
     let mut names = TypeNames::new(rt.alloc());
-    assert!(rt; begins_memory_type(cursor));
     let (id, rest) = memory_type(rt.alloc(), cursor, &mut types, &mut names)?;
     assert_eq!(rt; id, TypeId(4));
-    assert!(rt; rest.rest.is_empty() && !begins_memory_type(rest));
+    assert!(rt; rest.rest.is_empty());
     match types.as_slice() {
         [
             MemTy::One(Ty::Int(8)),
@@ -121,9 +118,5 @@ fn reads_memory_types(rt: HostRuntime) -> Result<(), Fail> {
         ),
         _ => panic!(rt; "other types"),
     }
-    assert!(rt; skip_type(rt.alloc(), cursor)?.rest.is_empty());
-    let unopened = lex(rt.alloc(), b"2 x i8]")?;
-    let skipped = skip_type(rt.alloc(), at(b"2 x i8]", &unopened));
-    assert!(rt; matches!(skipped, Err(SyntaxFault::NoReading(0))));
     Ok(())
 }

@@ -10,7 +10,6 @@ pub mod Marks
 pub mod Layouts
 pub mod Lexed
 pub mod KeptTexts
-pub mod KeptExamples
 pub mod Decimals
 pub mod Printed
 pub mod Omitted

@@ -28,6 +28,6 @@ pub returns-in-Call : goal.returns-in-Call
 returns-in-Call c =
     let s = c.args.x.now in
     let args = map (operand_at s) c.args.args.now in
-    c.actuals_fit.ensures
+    c.fit-in-Call.ensures
     ∙ ap (λ (xs : List Actual). fit (locals_at s) (map (λ (a : Actual). a.ty) xs) args) c.as_slice-in-Call.ensures
     ∙ ap (λ (k : InstKind). operands_fit (around_at s) (kind_at s k) c.args.ty args) (sym c.in-Call.is)

@@ -1,7 +1,7 @@
 use Rattle.ir_reader_values.proofs.Using.{uses_behind}
 use Rattle.std.proofs.Common.{◌≡◌, refl, ap, ◌∙◌, [], ◌∷◌}
 use Rattle.text_forms.specs.Gives.{left}
-use Rattle.ir_types.specs.Grammar.{comma_typed}
+use Rattle.ir_types.specs.InstParts.{comma_typed}
 use Rattle.ir_reader_values.specs.Seen.{operand_seen, definitions}
 use Rattle.ir_reader_values.specs.View.{typed_in}
 use Rattle.ir_reader_values.proofs.Operands.{by_definitions}

@@ -1,7 +1,7 @@
 use Rattle.std.proofs.Common.{ap, ◌∙◌}
 use Rattle.text_forms.specs.Reading.{read}
 use Rattle.text_forms.specs.Gives.{left}
-use Rattle.ir_types.specs.Grammar.{branch}
+use Rattle.ir_types.specs.InstForms.{branch}
 use Rattle.ir_reader_values.specs.Seen.{definitions}
 use Rattle.ir_reader_control.proofs.Conditions.{conditional_is}
 use Rattle.ir_reader_control.proofs.branches.branch.Goals as goal

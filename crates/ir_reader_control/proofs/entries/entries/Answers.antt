@@ -7,7 +7,8 @@ use Rattle.text_forms.specs.Gives.{left}
 use Rattle.text_forms.proofs.Walks.{shorter_completed}
 use Rattle.text_forms.proofs.Viewed.{count_viewed}
 use Rattle.ir_types.specs.Offsets.{Definitions}
-use Rattle.ir_types.specs.Grammar.{entry_of_phi, commas, marked}
+use Rattle.text_forms.specs.Combined.{commas, marked}
+use Rattle.ir_types.specs.InstForms.{entry_of_phi}
 use Rattle.ir_reader_values.specs.Seen.{definitions, name_seen, operand_seen}
 use Rattle.ir_reader_values.specs.Split.{split_each}
 use Rattle.ir_reader_control.specs.Labelled.{labels_in, entry_at, entry_in}

@@ -4,7 +4,8 @@ use Rattle.text_forms.specs.Form.{many}
 use Rattle.text_forms.specs.Reading.{read}
 use Rattle.text_forms.specs.Walk.{completed}
 use Rattle.text_forms.specs.Gives.{left}
-use Rattle.ir_types.specs.Grammar.{entry_of_phi, commas, marked}
+use Rattle.text_forms.specs.Combined.{commas, marked}
+use Rattle.ir_types.specs.InstForms.{entry_of_phi}
 use Rattle.ir_reader_values.specs.Seen.{definitions, name_seen, operand_seen, Widens, AreSteady, OperandsUse}
 use Rattle.ir_reader_values.specs.Split.{split_each, behind_both}
 use Rattle.ir_reader_control.specs.Labelled.{labels_in, entry_at}

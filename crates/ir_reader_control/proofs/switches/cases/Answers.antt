@@ -2,7 +2,7 @@ use Rattle.std.proofs.Common.{◌||◌, [], ◌∷◌, ◌++◌, sym, ap, ◌∙
 use Rattle.text_forms.specs.Gives.{left}
 use Rattle.text_forms.proofs.Walks.{shorter_completed}
 use Rattle.text_forms.proofs.Viewed.{count_viewed}
-use Rattle.ir_types.specs.Grammar.{case_of_switch}
+use Rattle.ir_types.specs.InstForms.{case_of_switch}
 use Rattle.ir_reader_values.specs.Seen.{name_seen}
 use Rattle.ir_reader_control.specs.Labelled.{labels_in, case_at, case_in, cases_behind, cases_read}
 use Rattle.ir_reader_values.proofs.Widening.{widens_trans}

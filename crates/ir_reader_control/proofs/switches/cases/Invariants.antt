@@ -3,7 +3,7 @@ use Rattle.text_forms.specs.Form.{many}
 use Rattle.text_forms.specs.Reading.{read}
 use Rattle.text_forms.specs.Walk.{completed}
 use Rattle.text_forms.specs.Gives.{left}
-use Rattle.ir_types.specs.Grammar.{case_of_switch}
+use Rattle.ir_types.specs.InstForms.{case_of_switch}
 use Rattle.ir_reader_values.specs.Seen.{name_seen, Widens, AreSteady}
 use Rattle.ir_reader_values.specs.Split.{split_each, gathered}
 use Rattle.ir_reader_control.specs.Labelled.{labels_in, case_at, cases_behind, cases_read}

@@ -9,7 +9,8 @@ use Rattle.text_forms.proofs.Walks.{goes_completed, shorter_completed, walk_fail
 use Rattle.text_forms.proofs.Viewed.{count_viewed}
 use Rattle.ir_types.specs.declared.inst.Inst.{Inst}
 use Rattle.ir_types.specs.Offsets.{Definitions}
-use Rattle.ir_types.specs.Grammar.{line, operation}
+use Rattle.ir_types.specs.InstForms.{operation}
+use Rattle.ir_types.specs.FunctionForms.{line}
 use Rattle.ir_types.specs.Numbered.{numbered_inst}
 use Rattle.ir_types.proofs.Decides.{line_takes}
 use Rattle.ir_reader_values.specs.Seen.{definitions, inst_seen}

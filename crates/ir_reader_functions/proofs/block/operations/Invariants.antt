@@ -4,7 +4,8 @@ use Rattle.text_forms.specs.Reading.{read}
 use Rattle.text_forms.specs.Walk.{walk, completed}
 use Rattle.text_forms.specs.Gives.{left}
 use Rattle.text_forms.proofs.Walks.{so_far}
-use Rattle.ir_types.specs.Grammar.{line, operation}
+use Rattle.ir_types.specs.InstForms.{operation}
+use Rattle.ir_types.specs.FunctionForms.{line}
 use Rattle.ir_types.specs.Numbered.{numbered_inst}
 use Rattle.ir_reader_types.specs.Uses.{InstsUse}
 use Rattle.ir_reader_values.specs.Seen.{definitions, inst_seen, Widens, AreSteady}

@@ -7,7 +7,8 @@ use Rattle.text_forms.specs.Gives.{left}
 use Rattle.text_forms.specs.declared.cursor.Cursor.{Cursor}
 use Rattle.ir_types.specs.declared.inst.Inst.{Inst}
 use Rattle.ir_types.specs.Offsets.{Definitions}
-use Rattle.ir_types.specs.Grammar.{line, operation, terminator}
+use Rattle.ir_types.specs.InstForms.{operation, terminator}
+use Rattle.ir_types.specs.FunctionForms.{line}
 use Rattle.ir_types.specs.Numbered.{numbered_inst}
 use Rattle.ir_reader_values.specs.Seen.{definitions, name_seen, inst_seen}
 use Rattle.ir_reader_values.proofs.Widening.{widens_trans}

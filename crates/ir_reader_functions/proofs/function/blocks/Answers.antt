@@ -8,7 +8,8 @@ use Rattle.text_forms.proofs.Walks.{goes_completed, shorter_completed, walk_fail
 use Rattle.text_forms.proofs.Viewed.{count_viewed}
 use Rattle.ir_types.specs.declared.module.Block.{Block}
 use Rattle.ir_types.specs.Offsets.{Definitions}
-use Rattle.ir_types.specs.Grammar.{block, some}
+use Rattle.text_forms.specs.Combined.{some}
+use Rattle.ir_types.specs.FunctionForms.{block}
 use Rattle.ir_types.specs.Numbered.{numbered_block}
 use Rattle.ir_types.proofs.Decides.{block_takes}
 use Rattle.ir_reader_values.specs.Seen.{definitions}

@@ -4,7 +4,8 @@ use Rattle.text_forms.specs.Reading.{read}
 use Rattle.text_forms.specs.Walk.{walk, completed}
 use Rattle.text_forms.specs.Gives.{left}
 use Rattle.text_forms.proofs.Walks.{so_far}
-use Rattle.ir_types.specs.Grammar.{block, some}
+use Rattle.text_forms.specs.Combined.{some}
+use Rattle.ir_types.specs.FunctionForms.{block}
 use Rattle.ir_types.specs.Numbered.{numbered_block}
 use Rattle.ir_reader_types.specs.Uses.{InstsUse}
 use Rattle.ir_reader_values.specs.Seen.{definitions, Widens, AreSteady}

@@ -6,7 +6,8 @@ use Rattle.text_forms.specs.Gives.{left}
 use Rattle.ir_types.specs.declared.module.Param.{Param}
 use Rattle.ir_types.specs.declared.module.Block.{Block}
 use Rattle.ir_types.specs.Offsets.{Definitions}
-use Rattle.ir_types.specs.Grammar.{parameter, list, some, block}
+use Rattle.text_forms.specs.Combined.{list, some}
+use Rattle.ir_types.specs.FunctionForms.{parameter, block}
 use Rattle.ir_types.specs.Numbered.{numbered_param, numbered_block}
 use Rattle.ir_reader_values.specs.Between.{between_read}
 use Rattle.ir_reader_values.specs.Seen.{definitions}

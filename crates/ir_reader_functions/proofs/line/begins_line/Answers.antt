@@ -1,7 +1,7 @@
 use Rattle.std.proofs.Common.{sym, ap, ◌∙◌}
 use Rattle.text_forms.specs.Reading.{opens}
 use Rattle.text_forms.specs.Gives.{left}
-use Rattle.ir_types.specs.Grammar.{line}
+use Rattle.ir_types.specs.FunctionForms.{line}
 use Rattle.ir_reader_ops.specs.Words.{form_at}
 use Rattle.ir_reader_functions.proofs.Lines.{line_begins_named, line_begins_plain}
 use Rattle.ir_reader_functions.proofs.line.begins_line.Goals as goal

@@ -2,7 +2,7 @@ use Rattle.std.proofs.Common.{◌≡◌, sym, ap, ◌∙◌}
 use Rattle.text_forms.specs.Reading.{read}
 use Rattle.text_forms.specs.Walk.{completed}
 use Rattle.text_forms.specs.Gives.{left}
-use Rattle.ir_types.specs.Grammar.{line}
+use Rattle.ir_types.specs.FunctionForms.{line}
 use Rattle.ir_types.specs.Numbered.{numbered_inst}
 use Rattle.ir_reader_values.specs.Seen.{definitions, inst_seen}
 use Rattle.ir_reader_ops.specs.Words.{form_at}

@@ -1,5 +1,5 @@
 use Rattle.std.proofs.Common.{◌≡◌, sym, ap, ◌∙◌}
-use Rattle.ir_types.specs.Grammar.{named_by}
+use Rattle.ir_types.specs.FunctionForms.{named_by}
 use Rattle.ir_types.specs.Tree.{InstTree}
 use Rattle.ir_reader_values.specs.Seen.{inst_seen}
 use Rattle.ir_reader_values.proofs.Widening.{widens_trans}

@@ -9,7 +9,8 @@ use Rattle.text_forms.proofs.Viewed.{count_viewed}
 use Rattle.ir_types.specs.declared.name.Name.{Name}
 use Rattle.ir_types.specs.Tree.{ParamTree}
 use Rattle.ir_types.specs.Denotes.{param_in}
-use Rattle.ir_types.specs.Grammar.{parameter, commas, marked}
+use Rattle.text_forms.specs.Combined.{commas, marked}
+use Rattle.ir_types.specs.FunctionForms.{parameter}
 use Rattle.ir_types.specs.Numbered.{numbered_param}
 use Rattle.ir_types.proofs.NameAt.{extends_trans}
 use Rattle.ir_reader_functions.specs.Functions.{params_in}

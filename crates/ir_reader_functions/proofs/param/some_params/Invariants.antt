@@ -7,7 +7,8 @@ use Rattle.text_forms.specs.Walk.{walk, completed}
 use Rattle.text_forms.specs.Gives.{left}
 use Rattle.text_forms.proofs.Walks.{so_far}
 use Rattle.ir_types.specs.declared.name.Name.{Name}
-use Rattle.ir_types.specs.Grammar.{parameter, commas, marked}
+use Rattle.text_forms.specs.Combined.{commas, marked}
+use Rattle.ir_types.specs.FunctionForms.{parameter}
 use Rattle.ir_types.specs.Numbered.{numbered_param}
 use Rattle.ir_reader_functions.specs.Functions.{params_in}
 use Rattle.ir_reader_functions.proofs.param.some_params.Given as goal

@@ -1,7 +1,7 @@
 use Rattle.std.proofs.Common.{sym, ◌∙◌}
 use Rattle.text_forms.specs.Gives.{left}
 use Rattle.ir_reader_types.proofs.Same.{gives_same}
-use Rattle.ir_types.specs.Grammar.{memory_type}
+use Rattle.ir_types.specs.TypeForms.{memory_type}
 use Rattle.ir_reader_items.specs.Parts.{item_of}
 use Rattle.ir_reader_items.proofs.Branches.{word_item, comdat_item, metadata_item, type_item, variable_item}
 use Rattle.ir_reader_items.proofs.items.item.Goals as goal

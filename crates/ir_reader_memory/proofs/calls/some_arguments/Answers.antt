@@ -10,7 +10,8 @@ use Rattle.text_forms.proofs.Viewed.{count_viewed}
 use Rattle.ir_types.specs.declared.call.Actual.{Actual}
 use Rattle.ir_types.specs.declared.inst.Operand.{Operand}
 use Rattle.ir_types.specs.Offsets.{Definitions}
-use Rattle.ir_types.specs.Grammar.{argument, marked}
+use Rattle.text_forms.specs.Combined.{marked}
+use Rattle.ir_types.specs.InstForms.{argument}
 use Rattle.ir_reader_values.specs.Seen.{definitions, operand_seen}
 use Rattle.ir_reader_memory.specs.Calls.{actual_in, some_arguments_read}
 use Rattle.ir_reader_values.proofs.Widening.{widens_trans}

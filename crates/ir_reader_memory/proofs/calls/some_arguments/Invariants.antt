@@ -4,7 +4,8 @@ use Rattle.text_forms.specs.Form.{many}
 use Rattle.text_forms.specs.Reading.{read}
 use Rattle.text_forms.specs.Walk.{completed}
 use Rattle.text_forms.specs.Gives.{left}
-use Rattle.ir_types.specs.Grammar.{argument, marked}
+use Rattle.text_forms.specs.Combined.{marked}
+use Rattle.ir_types.specs.InstForms.{argument}
 use Rattle.ir_reader_values.specs.Seen.{definitions, operand_seen, Widens, AreSteady, OperandsUse}
 use Rattle.ir_reader_values.specs.Split.{split_each, behind_both}
 use Rattle.ir_reader_values.specs.Split.{as_two}

@@ -4,7 +4,8 @@ use Rattle.text_forms.specs.Reading.{read}
 use Rattle.text_forms.specs.Gives.{left}
 use Rattle.text_forms.proofs.Many.{shorter, goes_on}
 use Rattle.text_forms.proofs.Viewed.{count_viewed}
-use Rattle.ir_types.specs.Grammar.{value_type, commas, marked}
+use Rattle.text_forms.specs.Combined.{commas, marked}
+use Rattle.ir_types.specs.TypeForms.{value_type}
 use Rattle.ir_reader_memory.proofs.signature.types.Goals as goal
 
 pub more-smaller : goal.more-smaller

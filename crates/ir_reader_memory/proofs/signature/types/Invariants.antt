@@ -4,7 +4,8 @@ use Rattle.text_forms.specs.Form.{many}
 use Rattle.text_forms.specs.Reading.{read}
 use Rattle.text_forms.specs.Gives.{left}
 use Rattle.text_forms.proofs.Many.{behind_front}
-use Rattle.ir_types.specs.Grammar.{value_type, commas, marked}
+use Rattle.text_forms.specs.Combined.{commas, marked}
+use Rattle.ir_types.specs.TypeForms.{value_type}
 use Rattle.ir_reader_memory.proofs.signature.types.Given as goal
 
 abbrev pub decreases-more : goal.decreases-more

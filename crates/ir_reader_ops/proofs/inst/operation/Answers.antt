@@ -2,7 +2,8 @@ use Rattle.text_forms.specs.Gives.{left}
 use Rattle.ir_reader_ops.proofs.Attached.{attached_reads, attached_steady}
 use Rattle.ir_reader_values.specs.Seen.{definitions}
 use Rattle.text_forms.specs.Form.{by_word}
-use Rattle.ir_types.specs.Grammar.{operation, operation_words, operation_behind}
+use Rattle.ir_types.specs.Words.{operation_words}
+use Rattle.ir_types.specs.InstForms.{operation, operation_behind}
 use Rattle.ir_reader_ops.proofs.inst.operation.Goals as goal
 
 pub returns-clause-stays : goal.returns-clause-stays

@@ -1,7 +1,7 @@
 use Rattle.text_forms.specs.Gives.{left}
 use Rattle.ir_reader_ops.proofs.Attached.{attached_reads, attached_steady}
 use Rattle.ir_reader_values.specs.Seen.{definitions}
-use Rattle.ir_types.specs.Grammar.{terminator}
+use Rattle.ir_types.specs.InstForms.{terminator}
 use Rattle.ir_reader_ops.specs.Words.{bare_terminator}
 use Rattle.ir_reader_ops.proofs.inst.terminator.Goals as goal
 

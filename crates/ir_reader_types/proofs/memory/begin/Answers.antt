@@ -6,7 +6,7 @@ use Rattle.text_forms.specs.Gives.{left}
 use Rattle.text_forms.proofs.Many.{shorter}
 use Rattle.text_forms.proofs.Machine.{head_takes}
 use Rattle.ir_types.specs.TypeNodes.{array, opening, nodes_from, all_nodes}
-use Rattle.ir_types.specs.Grammar.{type_parts}
+use Rattle.ir_types.specs.TypeForms.{type_parts}
 use Rattle.ir_types.proofs.Decides.{parts_decide}
 use Rattle.ir_reader_types.specs.declared.heads.Begun.{Begun}
 use Rattle.ir_reader_types.specs.TypeTable.{names_of}

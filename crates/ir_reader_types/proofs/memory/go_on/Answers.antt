@@ -4,7 +4,7 @@ use Rattle.text_forms.specs.declared.cursor.Cursor.{Cursor}
 use Rattle.text_forms.specs.Reading.{read}
 use Rattle.text_forms.specs.Machine.{next}
 use Rattle.text_forms.specs.Gives.{left}
-use Rattle.ir_types.specs.Grammar.{type_parts}
+use Rattle.ir_types.specs.TypeForms.{type_parts}
 use Rattle.ir_reader_types.specs.Heads.{next_nodes}
 use Rattle.ir_reader_types.proofs.Looking.{looked_more, looked_closed}
 use Rattle.ir_reader_types.proofs.Holding.{refuses, nothing_goes, another_goes, closing_goes, closing_holds}

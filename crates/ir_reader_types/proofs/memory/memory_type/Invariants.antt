@@ -2,7 +2,7 @@ use Rattle.std.proofs.Common.{◌≡◌, ℕ, ◌≤◌, length}
 use Rattle.text_forms.specs.View.{Extends}
 use Rattle.text_forms.specs.Reading.{read}
 use Rattle.text_forms.specs.Gives.{left}
-use Rattle.ir_types.specs.Grammar.{memory_type}
+use Rattle.ir_types.specs.TypeForms.{memory_type}
 use Rattle.ir_reader_types.specs.TypeTable.{names_of, LooksUpSome}
 use Rattle.ir_reader_types.specs.Frames.{goes_on, Holds, Looked}
 use Rattle.ir_reader_types.proofs.memory.memory_type.Given as goal

@@ -7,7 +7,7 @@ use Rattle.text_forms.specs.Gives.{Gives, left}
 use Rattle.text_forms.specs.Reading.{read}
 use Rattle.ir_types.specs.declared.memory_type.TypeId.{TypeId}
 use Rattle.ir_types.specs.TypeNodes.{TypeNode, type_nodes}
-use Rattle.ir_types.specs.Grammar.{memory_type, inst_memory}
+use Rattle.ir_types.specs.TypeForms.{memory_type, inst_memory}
 use Rattle.ir_types.proofs.InstMemory.{inst_memory_reads}
 use Rattle.ir_reader_types.specs.TypeTable.{names_of}
 use Rattle.ir_sizes.specs.Prepared.{AreFirstSteps}

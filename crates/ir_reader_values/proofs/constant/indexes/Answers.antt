@@ -6,7 +6,8 @@ use Rattle.text_forms.specs.Gives.{left}
 use Rattle.text_forms.proofs.Many.{shorter, goes_on}
 use Rattle.text_forms.proofs.Viewed.{count_viewed}
 use Rattle.ir_reader_values.specs.View.{index_in, HasWidth}
-use Rattle.ir_types.specs.Grammar.{some, comma_index}
+use Rattle.text_forms.specs.Combined.{some}
+use Rattle.ir_types.specs.ValueForms.{comma_index}
 use Rattle.ir_reader_values.proofs.constant.indexes.Goals as goal
 
 pub more-smaller : goal.more-smaller

@@ -5,7 +5,8 @@ use Rattle.text_forms.specs.Reading.{read}
 use Rattle.text_forms.specs.Gives.{left}
 use Rattle.text_forms.proofs.Many.{behind_front}
 use Rattle.ir_reader_values.specs.View.{index_in, HasWidth}
-use Rattle.ir_types.specs.Grammar.{some, comma_index}
+use Rattle.text_forms.specs.Combined.{some}
+use Rattle.ir_types.specs.ValueForms.{comma_index}
 use Rattle.ir_reader_values.proofs.constant.indexes.Given as goal
 
 abbrev pub decreases-more : goal.decreases-more

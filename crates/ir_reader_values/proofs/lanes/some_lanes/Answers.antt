@@ -5,7 +5,8 @@ use Rattle.text_forms.specs.Reading.{read}
 use Rattle.text_forms.specs.Gives.{left}
 use Rattle.text_forms.proofs.Many.{shorter, goes_on}
 use Rattle.text_forms.proofs.Viewed.{count_viewed}
-use Rattle.ir_types.specs.Grammar.{typed_lane, commas, marked}
+use Rattle.text_forms.specs.Combined.{commas, marked}
+use Rattle.ir_types.specs.ValueForms.{typed_lane}
 use Rattle.ir_reader_values.specs.View.{typed_lane_in, lanes_in}
 use Rattle.ir_reader_values.proofs.lanes.some_lanes.Goals as goal
 

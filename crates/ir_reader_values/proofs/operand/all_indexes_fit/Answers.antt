@@ -1,5 +1,5 @@
 use Rattle.std.proofs.Common.{sym, ◌∙◌}
-use Rattle.ir_types.specs.Grammar.{index_fits}
+use Rattle.ir_types.specs.ValueForms.{index_fits}
 use Rattle.ir_reader_values.specs.View.{index_in}
 use Rattle.ir_reader_values.proofs.Operands.{one_fails}
 use Rattle.ir_reader_values.proofs.operand.all_indexes_fit.Goals as goal

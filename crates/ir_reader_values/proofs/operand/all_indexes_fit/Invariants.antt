@@ -1,6 +1,6 @@
 use Rattle.std.proofs.Common.{◌≡◌, true, take, map}
 use Rattle.std.specs.List.{list_all}
-use Rattle.ir_types.specs.Grammar.{index_fits}
+use Rattle.ir_types.specs.ValueForms.{index_fits}
 use Rattle.ir_reader_values.specs.View.{index_in}
 use Rattle.ir_reader_values.proofs.operand.all_indexes_fit.Given as goal
 

@@ -1,5 +1,5 @@
 use Rattle.std.proofs.Common.{sym, ◌∙◌}
-use Rattle.ir_types.specs.Grammar.{lane_fits}
+use Rattle.ir_types.specs.ValueForms.{lane_fits}
 use Rattle.ir_reader_values.specs.View.{typed_lane_in}
 use Rattle.ir_reader_values.proofs.Operands.{one_fails}
 use Rattle.ir_reader_values.proofs.operand.all_lanes_fit.Goals as goal

@@ -1,6 +1,6 @@
 use Rattle.std.proofs.Common.{◌≡◌, true, take}
 use Rattle.std.specs.List.{list_all}
-use Rattle.ir_types.specs.Grammar.{lane_fits}
+use Rattle.ir_types.specs.ValueForms.{lane_fits}
 use Rattle.ir_reader_values.specs.View.{lanes_in}
 use Rattle.ir_reader_values.proofs.operand.all_lanes_fit.Given as goal
 

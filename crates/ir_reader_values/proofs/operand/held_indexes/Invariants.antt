@@ -1,7 +1,7 @@
 use Rattle.std.proofs.Common.{◌≡◌, take, map}
 use Rattle.std.specs.Prelude.{All}
 use Rattle.ir_sizes.specs.Stepping.{index_pair, IsIndex}
-use Rattle.ir_types.specs.Grammar.{index_of}
+use Rattle.ir_types.specs.ValueForms.{index_of}
 use Rattle.ir_reader_values.specs.View.{index_in}
 use Rattle.ir_reader_values.proofs.operand.held_indexes.Given as goal
 

@@ -1,6 +1,6 @@
 use Rattle.std.proofs.Common.{◌≡◌, true, take, map}
 use Rattle.std.specs.List.{list_all}
-use Rattle.ir_types.specs.Grammar.{lane_at, is_int}
+use Rattle.ir_types.specs.ValueForms.{lane_at, is_int}
 use Rattle.ir_reader_values.specs.View.{lanes_in}
 use Rattle.ir_reader_values.proofs.operand.held_lanes.Given as goal
 

@@ -1,7 +1,7 @@
 use Rattle.ir_reader_values.proofs.Using.{operand_uses}
 use Rattle.ir_reader_values.specs.View.{written_in}
 use Rattle.ir_reader_values.specs.Seen.{definitions, operand_seen}
-use Rattle.ir_types.specs.Grammar.{operand_at}
+use Rattle.ir_types.specs.ValueForms.{operand_at}
 use Rattle.ir_types.specs.Offsets.{Definitions}
 use Rattle.std.proofs.Common.{sym, ap, ◌∙◌}
 use Rattle.ir_reader_values.proofs.operand.value_at.Goals as goal

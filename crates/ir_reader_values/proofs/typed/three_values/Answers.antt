@@ -1,7 +1,7 @@
 use Rattle.ir_reader_values.proofs.Using.{uses_behind}
 use Rattle.std.proofs.Common.{refl, ◌∙◌, ◌≡◌, [], ◌∷◌, ap}
 use Rattle.text_forms.specs.Gives.{left}
-use Rattle.ir_types.specs.Grammar.{typed_value, comma_typed}
+use Rattle.ir_types.specs.InstParts.{typed_value, comma_typed}
 use Rattle.ir_reader_values.specs.Seen.{definitions, operand_seen}
 use Rattle.ir_reader_values.specs.View.{typed_in}
 use Rattle.ir_reader_values.proofs.Chains.{three_apart}

@@ -2,4 +2,4 @@ use Rattle.ir_run_laws.proofs.Operations.{respected}
 use Rattle.ir_run_laws.proofs.refining.operations_respect_refinement.Goals as goal
 
 pub returns : goal.returns
-returns c = λ m here other kind ty n labels vs ws mem h. respected m here other labels kind ty n vs ws mem h
+returns c = λ m here other kind ty labels mem n vs ws h. respected m here other labels kind ty n vs ws mem h

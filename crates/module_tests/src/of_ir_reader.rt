@@ -3,8 +3,6 @@
 use crate::shared::name;
 use ir_reader::read_module;
 use ir_types::{Inst, InstKind, NamedType, Operand, SymbolKind};
-use std::alloc::Global;
-use std::process::Abort;
 use std::test::Fail;
 use text_lex::TextFault;
 
@@ -83,81 +81,12 @@ fn reads_numbers_out_of_range(rt: HostRuntime) -> Result<(), Fail> {
     Ok(())
 }
 
-/// Asserts that the reading of each text stops at the place beside it.
-fn stops(rt: &impl Abort, alloc: Global, texts: &[(&[u8], u32)]) {
-    for (text, place) in texts {
-        match read_module(alloc, *text) {
-            Err(TextFault::NoReading(found)) => assert_eq!(rt; found, *place),
-            _ => panic!(rt; "no text that stops at {place}"),
-        }
-    }
-}
-
 #[test]
-fn says_where_reading_stops(rt: HostRuntime) {
-    let texts: [(&[u8], u32); 10] = [
-        (b"define i32 @f() { ; none\n", 25),
-        (b"define i32 @f() { }", 18),
-        (b"define i32 @f(i32 %0,, i1 %1) { ret i32 0 }", 20),
-        (
-            b"define i32 @f() { %4294967296 = add i32 1, 2 ret i32 0 }",
-            18,
-        ),
-        (b"define i32 @f() { ret i32 0 } }", 30),
-        (b"define void @f(<1024 x i8>) { ret void }", 16),
-        (b"define void @f(<4 x i8) { ret void }", 22),
-        (b"define void @f() { ret }", 23),
-        (b"define void @f() { ret } @v = global", 23),
-        (b"@v = global define void @f() { ret }", 12),
-    ];
-    stops(&rt, rt.alloc(), &texts);
-}
-
-#[test]
-fn says_where_an_item_stops(rt: HostRuntime) {
-    let texts: [(&[u8], u32); 9] = [
-        (b"declare void @f(, ...)", 16),
-        (b"define void @f(...) { ret void }", 15),
-        (b"declare void @f() memory(read", 29),
-        (b"@v = global i8 0, section \"s\", section \"s\"", 29),
-        (b"@v = global i8 0, align -4", 24),
-        (b"@v = global opaque 0", 12),
-        (b"%a = type [18446744073709551616 x i8]", 11),
-        (b"%4294967296 = type opaque", 0),
-        (b"!0 = distinct { }", 14),
-    ];
-    stops(&rt, rt.alloc(), &texts);
-}
-
-#[test]
-fn says_where_a_function_stops(rt: HostRuntime) {
-    let texts: [(&[u8], u32); 12] = [
-        (b"define void @f() { add i32 1 ret void ( }", 29),
-        (b"define void @f() { ( ret void }", 19),
-        (b"define void @f() { ret void ( }", 28),
-        (b"define void @f() { ret void ) }", 28),
-        (b"define void @f() { ret i32 ) }", 27),
-        (
-            b"define void @f() { ret void define void @g() { ret void }",
-            28,
-        ),
-        (b"define void @f() { ret void", 27),
-        (b"define void @f() { ret } define void @g() { ) }", 23),
-        (b"%a = type [2 y i8] define void @f() { ) }", 13),
-        (b"define void @f(i8 { ret void }", 18),
-        (b"declare void @f(i8 void", 19),
-        (
-            b"define void @f() { ret void } define void @g() { br } )",
-            52,
-        ),
-    ];
-    stops(&rt, rt.alloc(), &texts);
-}
-
-#[test]
-fn refuses_what_no_token_begins_or_is_left_out(rt: HostRuntime) {
+fn refuses(rt: HostRuntime) {
     let read = read_module(rt.alloc(), b"define i32 @f() { ret i32 ~ }");
     assert!(rt; matches!(read, Err(TextFault::BadToken(26))));
+    let read = read_module(rt.alloc(), b"define i32 @f() { }");
+    assert!(rt; matches!(read, Err(TextFault::NoReading(18))));
     match read_module(rt.alloc(), b"define double @f()") {
         Err(TextFault::LeftOut(word, place)) => {
             assert_eq!(rt; (word.as_bytes(), place), (b"double".as_slice(), 7));

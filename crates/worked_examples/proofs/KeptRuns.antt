@@ -1,12 +1,12 @@
--- A kept run before a value that may be a number.
-use Rattle.std.proofs.Common.{◌≡◌, ℕ, true, false, List, [], ◌∷◌, ◌++◌, codes, Option, Some, None, if◌then◌else◌, eqb, refl}
-use Rattle.text_forms.specs.declared.TokenKind.{TokenKind}
+-- Worked examples of a kept run before a value that may be a number.
+use Rattle.std.proofs.Common.{◌≡◌, ℕ, true, false, List, [], ◌∷◌, codes, Option, Some, None, refl}
 use Rattle.text_forms.specs.declared.TokenKind.TheVariants.{Local, Word, Number}
-use Rattle.text_forms.specs.Form.{Lexeme, Form, exactly, one, pair, either, mapped}
+use Rattle.text_forms.specs.Form.{Form, exactly, one, pair, either, mapped}
 use Rattle.text_forms.specs.Kept.{kept_token, kept_unsigned, perhaps, kept_piece, kept_run}
-use Rattle.text_forms.specs.Lexical.{kind_of, table}
+use Rattle.text_forms.specs.Lexical.{table}
 use Rattle.text_forms.specs.Nested.{joined}
 use Rattle.text_forms.specs.Reading.{decides, read_whole}
+use Rattle.worked_examples.proofs.Tokens.{tokens_of}
 
 unfoldable excluded : List (List ℕ)
 excluded = codes "i32" ∷ codes "align" ∷ codes "cc" ∷ codes "null" ∷ []
@@ -27,18 +27,10 @@ kept_decides = refl
 perhaps_number : decides (pair (joined (kept_token Word (codes "align")) (perhaps kept_unsigned)) (one Number)) ≡ false
 perhaps_number = refl
 
--- ---- texts, in which a space stands between any two tokens
-
-abbrev token : List ℕ → Option TokenKind → List Lexeme
-token w None = []
-token w (Some k) = record { kind = k; text = w } ∷ []
-
-abbrev tokens : List ℕ → List ℕ → List Lexeme
-tokens w [] = token w (kind_of w)
-tokens w (c ∷ cs) = if eqb c 32 then token w (kind_of w) ++ tokens [] cs else tokens (w ++ c ∷ []) cs
+-- ---- what a text reads as
 
 abbrev reading : List ℕ → Option (List (List ℕ) × List ℕ)
-reading s = read_whole kept_then_value (tokens [] s)
+reading s = read_whole kept_then_value (tokens_of s)
 
 record Readings : Type 0 where
   no_run : reading (codes "5") ≡ Some ([], codes "5")

@@ -1,4 +1,4 @@
--- Words, names and vectors `< n x w >` as leaves, and arrays `[ n x ..`.
+-- Worked examples of nested types: words, names and vectors `< n x w >` as leaves, and arrays `[ n x ..`.
 use Rattle.std.proofs.Common.{◌≡◌, ℕ, true, false, Bool, List, [], ◌∷◌, Some, None, refl}
 use Rattle.text_forms.specs.declared.TokenKind.{TokenKind}
 use Rattle.text_forms.specs.declared.TokenKind.TheVariants.{Local, Word, Number, Comma, LeftBracket, RightBracket, LeftBrace, RightBrace, Less, Greater}
@@ -28,17 +28,7 @@ parts = record {
 
 facts : PartsDecide parts
 unfolding parts
-facts = record {
-  leaf_decides = refl;
-  leaf_takes = refl;
-  leaf_ends = refl;
-  array_decides = refl;
-  array_takes = refl;
-  array_ends = refl;
-  leaf_apart = refl;
-  array_apart = refl;
-  end_apart = refl;
-}
+facts = record { leaf_decides = refl; leaf_takes = refl; leaf_ends = refl; array_decides = refl; array_takes = refl; array_ends = refl; leaf_apart = refl; array_apart = refl; end_apart = refl }
 
 at_each_depth : (d : ℕ) → decides (memory parts d) ≡ true
 at_each_depth d = memory_decides parts facts d

@@ -1,14 +1,19 @@
 -- Worked examples of the rules: texts, and what is found in them.
-use Rattle.std.proofs.Common.{◌≡◌, ℕ, List, [], ◌∷◌, ◌++◌, length, codes, Option, Some, None, if◌then◌else◌, eqb, refl}
-use Rattle.text_forms.specs.declared.TokenKind.{TokenKind}
-use Rattle.text_forms.specs.Form.{Lexeme}
-use Rattle.text_forms.specs.Lexical.{kind_of, table}
+use Rattle.std.proofs.Common.{◌≡◌, ℕ, List, [], ◌∷◌, length, codes, Option, Some, refl}
+use Rattle.text_forms.specs.Lexical.{table}
 use Rattle.text_forms.specs.Reading.{◌>>=◌, read_whole}
 use Rattle.text_forms.specs.Kept.{kept_piece, kept_run, metadata_node, attachment, attachments}
 use Rattle.text_forms.specs.LeftOut.{left_out_words}
 use Rattle.ir_types.specs.declared.name.Name.{Name}
 use Rattle.ir_types.specs.declared.name.Name.TheVariants.{Text, Number}
-use Rattle.ir_types.specs.Grammar.{local_name, global_name, label, width, vector_type, value_type, return_type, three_flags, inst_memory, lane, constant_word, typed_lane, constant_offset, value, typed_value, typed_pair, pointer_value, index_value, target, alignment, overflowing, possibly_exact, plain_binary, or_operation, predicates, compared, compare, select, freeze, trunc, zext, sext, ptrtoint, entry_of_phi, phi, getelementptr, load, store, argument, signature, call, extractelement, insertelement, shufflevector, branch, case_of_switch, switch, ret, inst_attachments, operation_words, operation, terminator_words, terminator, block, type_words, value_words, item_words, instruction_words, excluded_words, kept, memory_leaf, array_begin, type_parts, parameter, dotted_parameters, declared_function, defined_function, target_line, attribute_group, comdat, metadata, type_definition, initialiser_stops, extra_behind, behind_type, variable_word, variable_definition, item, module_form}
+use Rattle.ir_types.specs.TypeForms.{local_name, global_name, label, width, vector_type, value_type, return_type, inst_memory, type_words, memory_leaf, array_begin, type_parts}
+use Rattle.ir_types.specs.FlagForms.{three_flags}
+use Rattle.ir_types.specs.ValueForms.{lane, constant_word, typed_lane, constant_offset, value}
+use Rattle.ir_types.specs.Words.{operation_words, terminator_words, value_words, item_words, instruction_words, excluded_words, kept}
+use Rattle.ir_types.specs.InstParts.{typed_value, typed_pair, pointer_value, index_value, target, alignment}
+use Rattle.ir_types.specs.InstForms.{overflowing, possibly_exact, plain_binary, or_operation, predicates, compared, compare, select, freeze, trunc, zext, sext, ptrtoint, entry_of_phi, phi, getelementptr, load, store, argument, signature, call, extractelement, insertelement, shufflevector, branch, case_of_switch, switch, ret, inst_attachments, operation, terminator}
+use Rattle.ir_types.specs.FunctionForms.{block, parameter, dotted_parameters, declared_function, defined_function}
+use Rattle.ir_types.specs.ItemForms.{target_line, attribute_group, comdat, metadata, type_definition, initialiser_stops, extra_behind, behind_type, variable_word, variable_definition, item, module_form}
 use Rattle.ir_types.specs.Tree.{ModuleTree}
 use Rattle.ir_types.specs.Numbered.{numbered_module}
 use Rattle.ir_types.specs.Collected.{collected}
@@ -20,19 +25,12 @@ use Rattle.ir_rules.specs.declared.fault.Subject.TheVariants.{Nothing, Local, Sy
 use Rattle.ir_rules.specs.Breaches.{outside, inside}
 use Rattle.ir_intrinsics.specs.Intrinsics.{families, lifetimes, width_texts, lane_texts}
 use Rattle.ir_rules.specs.WellFormed.{early_breaches}
+use Rattle.worked_examples.proofs.Tokens.{tokens_of}
 
--- ---- a text whose tokens are parted by spaces, as a module
-
-abbrev token : List ℕ → Option TokenKind → List Lexeme
-token w None = []
-token w (Some k) = record { kind = k; text = w } ∷ []
-
-abbrev tokens : List ℕ → List ℕ → List Lexeme
-tokens w [] = token w (kind_of w)
-tokens w (c ∷ cs) = if eqb c 32 then token w (kind_of w) ++ tokens [] cs else tokens (w ++ c ∷ []) cs
+-- ---- a text as a module
 
 abbrev tree : List ℕ → Option ModuleTree
-tree s = read_whole (module_form [] (length (tokens [] s))) (tokens [] s) >>= numbered_module >>= λ items. Some (collected items)
+tree s = read_whole (module_form [] (length (tokens_of s))) (tokens_of s) >>= numbered_module >>= λ items. Some (collected items)
 
 -- what is found in a text, of all rules but the last
 abbrev found : List ℕ → Option (List (Rule × Breach))

@@ -1,4 +1,4 @@
--- Kept tokens as they are printed.
+-- Worked examples of kept tokens as they are printed.
 use Rattle.std.proofs.Common.{◌≡◌, [], ◌∷◌, refl}
 use Rattle.std.specs.Prelude.{codes}
 use Rattle.text_lex.specs.Layout.{text_of}

@@ -1,10 +1,9 @@
 -- Worked examples of what names, numbers and texts stand for.
 use Rattle.std.specs.List.{filter_map}
-use Rattle.std.proofs.Common.{◌≡◌, ℕ, true, false, length, take, ◌+◌, ◌%◌, ◌^◌, List, [], ◌∷◌, ◌++◌, map, codes, Option, Some, None, if◌then◌else◌, eqb, refl, Bool}
+use Rattle.std.proofs.Common.{◌≡◌, ℕ, true, false, length, take, ◌+◌, ◌%◌, ◌^◌, List, [], ◌∷◌, ◌++◌, map, codes, Option, Some, None, refl, Bool}
 use Rattle.std.specs.Prelude.{is_some, slice_get, ◌-◌}
-use Rattle.text_forms.specs.declared.TokenKind.{TokenKind}
 use Rattle.text_forms.specs.Form.{Lexeme}
-use Rattle.text_forms.specs.Lexical.{kind_of, table}
+use Rattle.text_forms.specs.Lexical.{table}
 use Rattle.text_forms.specs.Kept.{kept_piece, kept_run, metadata_node, attachment, attachments}
 use Rattle.text_forms.specs.LeftOut.{left_out_words}
 use Rattle.text_forms.specs.Reading.{◌>>=◌, read_whole}
@@ -22,10 +21,18 @@ use Rattle.ir_types.specs.Written.{number_of, number_at, unescaped, name_behind,
 use Rattle.ir_types.specs.Offsets.{Definitions, definitions_in}
 use Rattle.ir_types.specs.TypeNodes.{scalar, called, array, opening, closing}
 use Rattle.ir_types.specs.Tree.{KeptTexts, OperandTree, local, number, null, poison, lanes, global, out_of_range, InstTree, BlockTree, FunctionTree, WrittenFunction, TypeNameTree, defined, opaque, ModuleTree, Item, comdat_line, variable_item, function_item, metadata_line}
-use Rattle.ir_types.specs.Grammar.{if_wide, local_name, global_name, label, width, vector_type, value_type, return_type, three_flags, inst_memory, lane, constant_word, typed_lane, constant_offset, value, typed_value, typed_pair, pointer_value, index_value, target, alignment, overflowing, possibly_exact, plain_binary, or_operation, predicates, compared, compare, select, freeze, trunc, zext, sext, ptrtoint, entry_of_phi, phi, getelementptr, load, store, argument, signature, call, extractelement, insertelement, shufflevector, branch, case_of_switch, switch, ret, inst_attachments, bare_inst, named_by, with_kept, no_flags, wrap_flags, exact_flag, disjoint_flag, operation_words, operation, terminator_words, terminator, block, type_words, value_words, item_words, instruction_words, excluded_words, kept, memory_leaf, array_begin, type_parts, parameter, dotted_parameters, declared_function, defined_function, target_line, attribute_group, comdat, metadata, type_definition, initialiser_stops, extra_behind, behind_type, variable_word, variable_definition, item, module_form}
+use Rattle.ir_types.specs.TypeForms.{local_name, global_name, label, width, vector_type, value_type, return_type, inst_memory, type_words, memory_leaf, array_begin, type_parts}
+use Rattle.ir_types.specs.FlagForms.{three_flags, no_flags, wrap_flags, exact_flag, disjoint_flag}
+use Rattle.ir_types.specs.ValueForms.{lane, constant_word, typed_lane, constant_offset, value}
+use Rattle.ir_types.specs.Words.{operation_words, terminator_words, value_words, item_words, instruction_words, excluded_words, kept}
+use Rattle.ir_types.specs.InstParts.{typed_value, typed_pair, pointer_value, index_value, target, alignment}
+use Rattle.ir_types.specs.InstForms.{if_wide, overflowing, possibly_exact, plain_binary, or_operation, predicates, compared, compare, select, freeze, trunc, zext, sext, ptrtoint, entry_of_phi, phi, getelementptr, load, store, argument, signature, call, extractelement, insertelement, shufflevector, branch, case_of_switch, switch, ret, inst_attachments, bare_inst, with_kept, operation, terminator}
+use Rattle.ir_types.specs.FunctionForms.{named_by, block, parameter, dotted_parameters, declared_function, defined_function}
+use Rattle.ir_types.specs.ItemForms.{target_line, attribute_group, comdat, metadata, type_definition, initialiser_stops, extra_behind, behind_type, variable_word, variable_definition, item, module_form}
 use Rattle.ir_types.specs.Sizes.{Layout, value_size, struct_layout}
 use Rattle.ir_types.specs.Numbered.{numbered_module}
 use Rattle.ir_types.specs.Collected.{as_function, collected}
+use Rattle.worked_examples.proofs.Tokens.{tokens_of}
 
 -- a backslash, and a string between quotation marks
 abbrev slash : ℕ
@@ -108,21 +115,13 @@ record Names : Type 0 where
 names : Names
 names = record { bare = refl; string = refl; same = refl; escaped = refl; empty = refl; digits = refl; padded = refl; greatest = refl; beyond = refl; quoted_digits = refl; label_digits = refl; label_bare = refl; label_string = refl; label_beyond = refl; label_sign = refl }
 
--- ---- texts, in which a space stands between any two tokens
-
-abbrev token : List ℕ → Option TokenKind → List Lexeme
-token w None = []
-token w (Some k) = record { kind = k; text = w } ∷ []
-
-abbrev tokens : List ℕ → List ℕ → List Lexeme
-tokens w [] = token w (kind_of w)
-tokens w (c ∷ cs) = if eqb c 32 then token w (kind_of w) ++ tokens [] cs else tokens (w ++ c ∷ []) cs
+-- ---- what a text reads as
 
 abbrev read_items : List Lexeme → Option (List (Item WrittenFunction))
 read_items ts = read_whole (module_form [] (length ts)) ts
 
 abbrev reading : List ℕ → Option (List (Item WrittenFunction))
-reading s = read_items (tokens [] s)
+reading s = read_items (tokens_of s)
 
 abbrev is_read : List ℕ → Bool
 is_read s = is_some (reading s)
@@ -232,10 +231,10 @@ readings = record { whole = refl; numbers = refl; none = refl; operands = refl; 
 -- ---- instructions
 
 abbrev inst : List ℕ → Option InstTree
-inst s = read_whole (operation []) (tokens [] s)
+inst s = read_whole (operation []) (tokens_of s)
 
 abbrev last_inst : List ℕ → Option InstTree
-last_inst s = read_whole (terminator []) (tokens [] s)
+last_inst s = read_whole (terminator []) (tokens_of s)
 
 abbrev x : OperandTree
 x = local (Text (codes "x"))
@@ -442,7 +441,7 @@ first_args items = slice_get (filter_map as_function items) 0 >>= λ f. slice_ge
 
 -- a function that compares a pointer with null, behind some types
 abbrev compares : (types pointer : List ℕ) → List Lexeme
-compares types pointer = tokens [] (types ++ codes " define void @f ( ) { icmp eq ptr null , " ++ pointer ++ codes " ret void }")
+compares types pointer = tokens_of (types ++ codes " define void @f ( ) { icmp eq ptr null , " ++ pointer ++ codes " ret void }")
 
 -- the operands of the comparison, where the types are those that are defined
 abbrev constant : (types pointer : List ℕ) → Option (List OperandTree)
@@ -512,7 +511,7 @@ constants = record { bare = refl; member = refl; packed = refl; named_twice = re
 
 -- a constant whose type is defined behind it: the items that are read with these definitions have these definitions
 abbrev later_text : List Lexeme
-later_text = tokens [] (codes "define void @f ( ) { icmp eq ptr null , getelementptr ( %s , ptr @v , i64 1 ) ret void } %s = type i64")
+later_text = tokens_of (codes "define void @f ( ) { icmp eq ptr null , getelementptr ( %s , ptr @v , i64 1 ) ret void } %s = type i64")
 
 abbrev later_definitions : Definitions
 later_definitions = (Text (codes "s"), Some (scalar (Int 64) ∷ [])) ∷ []
