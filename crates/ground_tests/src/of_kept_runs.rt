@@ -1,13 +1,13 @@
-// Each public call once.
+// Lists, runs and attachments. (Single tokens and initialisers, the cases of the program show.)
 
 use kept_runs::{
-    Stops, begins_attachment, begins_comma_attachment, begins_run, keep, keep_attachment,
+    begins_attachment, begins_comma_attachment, begins_run, keep, keep_attachment,
     keep_attachments, keep_braces, keep_comma_attachments, keep_node, keep_parens, keep_run,
-    keep_unsigned, keep_up_to, keep_word, pass_braces, pass_parens,
+    pass_braces, pass_parens,
 };
 use lists::Texts;
 use std::test::Fail;
-use text_forms::{Cursor, SyntaxFault, TokenKind};
+use text_forms::{Cursor, TokenKind};
 use text_lex::{Token, lex};
 
 /// A text's first token.
@@ -18,22 +18,6 @@ fn at<'t>(text: &'t [u8], tokens: &'t [Token]) -> Cursor<'t> {
 /// Whether so many texts are kept, the last of which is this one.
 fn ends(texts: &Texts, count: usize, last: &[u8]) -> bool {
     count != 0 && texts.len() == count && texts.at(count - 1) == last
-}
-
-#[test]
-fn keeps_tokens(rt: HostRuntime) -> Result<(), Fail> {
-    let text = b"4 none 5 -4";
-    let tokens = lex(rt.alloc(), text)?;
-    let mut texts = Texts::new(rt.alloc());
-    let rest = keep(at(text, &tokens), TokenKind::Number, &mut texts)?;
-    let rest = keep_word(rest, b"none", &mut texts)?;
-    assert!(rt; ends(&texts, 2, b"none"));
-    let read = keep_word(rest, b"none", &mut texts);
-    assert!(rt; matches!(read, Err(SyntaxFault::NoReading(7))));
-    let rest = keep_unsigned(rest, &mut texts)?;
-    assert!(rt; ends(&texts, 3, b"5"));
-    assert!(rt; keep_unsigned(rest, &mut texts).is_err());
-    Ok(())
 }
 
 #[test]
@@ -49,29 +33,6 @@ fn keeps_balanced_lists(rt: HostRuntime) -> Result<(), Fail> {
     assert!(rt; keep_parens(rt.alloc(), rest, &mut texts).is_err());
     let behind = pass_braces(rt.alloc(), pass_parens(rt.alloc(), cursor)?)?;
     assert_eq!(rt; behind.rest.len(), 2);
-    Ok(())
-}
-
-#[test]
-fn keeps_up_to_a_stop(rt: HostRuntime) -> Result<(), Fail> {
-    let text = b"!dbg (, to) \"s\" to 4 x =";
-    let tokens = lex(rt.alloc(), text)?;
-    let stops = Stops {
-        kinds: &[TokenKind::Comma],
-        words: &[b"to"],
-        before_equal: &[TokenKind::Word],
-    };
-    let mut texts = Texts::new(rt.alloc());
-    let rest = keep_up_to(rt.alloc(), at(text, &tokens), stops, &mut texts)?;
-    assert!(rt; ends(&texts, 6, b"\"s\""));
-    let stops = Stops {
-        kinds: &[],
-        words: &[],
-        ..stops
-    };
-    let rest = keep_up_to(rt.alloc(), rest, stops, &mut texts)?;
-    assert!(rt; ends(&texts, 8, b"4"));
-    assert_eq!(rt; rest.rest.len(), 2);
     Ok(())
 }
 
