@@ -16,7 +16,7 @@ use Rattle.ir_types.specs.Denotes.{Tables, name_in, operand_in}
 use Rattle.ir_rules.specs.Edges.{same_operand, entries_agree}
 use Rattle.ir_check_edges.specs.declared.entries.Entry.{Entry}
 use Rattle.ir_check_edges.specs.Agreeing.{pair_of, AreEntries, seen_in, agree_behind, runs_agree}
-use Rattle.ir_check_edges.proofs.Places.{same_place}
+use Rattle.ir_graph.proofs.Tables.{same_place}
 use Rattle.ir_check_edges.proofs.Sorted.{both_true}
 use Rattle.ir_check_edges.proofs.Equals.{equal_operands, same_backwards, same_itself}
 

@@ -4,7 +4,7 @@ use Rattle.std.proofs.lemmas.Bool.Decides.{Decides-eqb}
 use Rattle.ir_types.specs.Names.{same_name}
 use Rattle.ir_types.specs.Tree.{OperandTree, local, number, null, poison, lanes, global}
 use Rattle.ir_rules.specs.Edges.{same_lane, same_lanes, same_operand}
-use Rattle.ir_check_edges.proofs.Places.{same_name-Decides}
+use Rattle.ir_graph.proofs.Tables.{same_name-Decides}
 use Rattle.ir_check_edges.proofs.Sorted.{both_true}
 
 equal_lane : (x y : Option ℕ) → same_lane x y ≡ true → x ≡ y

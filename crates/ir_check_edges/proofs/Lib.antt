@@ -3,7 +3,6 @@ pub mod Equals
 pub mod Firsts
 pub mod Places
 pub mod Rows
-pub mod Sames
 pub mod Sorted
 pub mod Tallies
 pub mod Wrongs

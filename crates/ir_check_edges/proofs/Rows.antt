@@ -14,11 +14,11 @@ use Rattle.ir_types.specs.declared.module.Function.{Function}
 use Rattle.ir_types.specs.Names.{IsTable, name_at, same_name}
 use Rattle.ir_types.specs.Tree.{BlockTree}
 use Rattle.ir_types.specs.Denotes.{Tables, name_in, inst_in, block_in, function_in}
-use Rattle.ir_rules.specs.Edges.{targets_of, successors, predecessors}
-use Rattle.ir_check_edges.specs.Targets.{goes_to}
+use Rattle.ir_graph.specs.Edges.{targets_of, successors, predecessors}
+use Rattle.ir_graph.specs.EdgeLists.{goes_to}
 use Rattle.ir_check_edges.specs.Incoming.{rows_of, row_at, put, put_all, labels_by, put_blocks, AreIncoming}
-use Rattle.ir_check_edges.proofs.Places.{same_place}
-use Rattle.ir_check_edges.proofs.Sames.{targets_are}
+use Rattle.ir_graph.proofs.Tables.{same_place}
+use Rattle.ir_graph.proofs.Targets.{targets_are}
 
 -- a label, once for each of some labels that is the one at a place
 abbrev pub sources : ValueId → ℕ → List ValueId → List ValueId

@@ -16,7 +16,7 @@ use Rattle.ir_types.specs.Names.{IsTable, name_at, same_name}
 use Rattle.ir_types.specs.Denotes.{name_in}
 use Rattle.ir_rules.specs.Edges.{count_of, same_counts}
 use Rattle.ir_check_edges.specs.Counted.{ArePlacesOf}
-use Rattle.ir_check_edges.proofs.Places.{same_place}
+use Rattle.ir_graph.proofs.Tables.{same_place}
 use Rattle.ir_check_edges.proofs.Sorted.{occurs, counts_agree, sorted_tell}
 
 abbrev pub numbers : List ValueId → List ℕ

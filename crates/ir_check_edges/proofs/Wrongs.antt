@@ -11,7 +11,8 @@ use Rattle.ir_types.specs.Tree.{InstTree, BlockTree, FunctionTree}
 use Rattle.ir_types.specs.Denotes.{Tables, tables_of, inst_in, block_in, function_in}
 use Rattle.ir_rules.specs.declared.fault.Breach.{Breach}
 use Rattle.ir_rules.specs.Breaches.{Found, first, inside, result_of}
-use Rattle.ir_rules.specs.Edges.{Placed, placed_behind, placed_in, predecessors, is_phi, phi_fits, wrong_phis}
+use Rattle.ir_graph.specs.Edges.{predecessors}
+use Rattle.ir_rules.specs.Edges.{Placed, placed_behind, placed_in, is_phi, phi_fits, wrong_phis}
 use Rattle.ir_check_edges.specs.Targets.{or_else}
 use Rattle.ir_check_edges.specs.Phis.{edges_fit, wrong_behind, wrong_among, wrong_in}
 use Rattle.ir_check_edges.proofs.Firsts.{first_of_both}

@@ -8,8 +8,8 @@ use Rattle.ir_types.specs.declared.module.Block.{Block}
 use Rattle.ir_types.specs.declared.module.Function.{Function}
 use Rattle.ir_types.specs.Names.{name_at}
 use Rattle.ir_types.specs.Denotes.{Tables, name_in, function_in}
-use Rattle.ir_rules.specs.Edges.{predecessors}
-use Rattle.ir_check_edges.specs.Targets.{goes_to}
+use Rattle.ir_graph.specs.Edges.{predecessors}
+use Rattle.ir_graph.specs.EdgeLists.{goes_to}
 
 -- lists of labels, as their items
 abbrev pub rows_of : List (Vec ValueId) → List (List ValueId)

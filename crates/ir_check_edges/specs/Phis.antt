@@ -7,7 +7,8 @@ use Rattle.ir_types.specs.Tree.{InstTree, BlockTree, FunctionTree}
 use Rattle.ir_types.specs.Denotes.{tables_of, function_in}
 use Rattle.ir_rules.specs.declared.fault.Breach.{Breach}
 use Rattle.ir_rules.specs.Breaches.{Found, first, inside, result_of}
-use Rattle.ir_rules.specs.Edges.{predecessors, is_phi, same_counts, entries_agree, wrong_phis}
+use Rattle.ir_graph.specs.Edges.{predecessors}
+use Rattle.ir_rules.specs.Edges.{is_phi, same_counts, entries_agree, wrong_phis}
 use Rattle.ir_check_edges.specs.Targets.{or_else}
 
 -- a phi has an entry for each edge into its block, from blocks of these names, and equal ones for equal predecessors

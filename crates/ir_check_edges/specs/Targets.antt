@@ -2,9 +2,6 @@
 use Rattle.std.specs.Prelude.{List, [], ◌∷◌, map, filter, Option, Some, None}
 use Rattle.ir_types.specs.declared.name.Name.{Name}
 use Rattle.ir_types.specs.declared.name.ValueId.{ValueId}
-use Rattle.ir_types.specs.declared.inst.InstKind.{InstKind}
-use Rattle.ir_types.specs.declared.inst.InstKind.TheVariants.{Jump, Branch, Switch}
-use Rattle.ir_types.specs.declared.inst.Inst.{Inst}
 use Rattle.ir_types.specs.declared.module.Function.{Function}
 use Rattle.ir_types.specs.declared.module.Module.{Module}
 use Rattle.ir_types.specs.Names.{same_name}
@@ -24,16 +21,6 @@ or_else (Some b) other = Some b
 abbrev pub first_of : {A B : Type 0} → (A → Option B) → List A → Option B
 first_of f [] = None
 first_of f (x ∷ xs) = or_else (f x) (first_of f xs)
-
--- the labels that an instruction goes to
-abbrev pub goes_by : InstKind → List ValueId → List ValueId
-goes_by Jump labels = labels
-goes_by Branch labels = labels
-goes_by (Switch width cases) labels = labels
-goes_by kind labels = []
-
-abbrev pub goes_to : Inst → List ValueId
-goes_to i = goes_by i.kind i.labels
 
 -- those of labels that have the name of one
 abbrev pub to_label : List Name → ValueId → List ValueId → List Subject

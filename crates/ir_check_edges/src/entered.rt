@@ -5,10 +5,12 @@ ghost use Rattle.ir_types.specs.Names.{same_name};
 ghost use Rattle.ir_types.specs.Denotes.{tables_of, tree_of, name_in};
 ghost use Rattle.ir_rules.specs.declared.fault.Subject.TheVariants.{Local};
 ghost use Rattle.ir_rules.specs.Breaches.{first};
-ghost use Rattle.ir_rules.specs.Edges.{targets_of, entries_with_predecessors};
+ghost use Rattle.ir_graph.specs.Edges.{targets_of};
+ghost use Rattle.ir_rules.specs.Edges.{entries_with_predecessors};
 ghost use Rattle.ir_check_edges.specs.Targets.{first_of, entered_in, to_label};
 
-use crate::labels::{goes_to, is_one, name_of};
+use crate::labels::{is_one, name_of};
+use ir_graph::goes_to;
 use ir_rules::{Breach, Subject};
 use ir_types::{Function, Inst, Module, Names, ValueId};
 use ir_walk::{InstRule, first_broken};

@@ -5,7 +5,7 @@ ghost use Rattle.std.specs.List.{AllByRecursion};
 ghost use Rattle.ir_types.specs.declared.name.ValueId.{ValueId};
 ghost use Rattle.ir_check_edges.specs.Incoming.{rows_of, put_all, labels_by, AreIncoming};
 
-use crate::labels::goes_to;
+use ir_graph::goes_to;
 use ir_types::{Function, Inst, ValueId};
 use std::alloc::{AllocError, Global};
 

@@ -26,7 +26,7 @@ use Rattle.ir_rules.specs.Unknown.{unknown_names}
 use Rattle.ir_rules.specs.Mismatch.{type_mismatches}
 use Rattle.ir_rules.specs.Callees.{unknown_callees}
 use Rattle.ir_rules.specs.WellFormed.{of_rule, type_breaches, edge_breaches, early_breaches}
-use Rattle.ir_check_paths.specs.Graph.{HasLabelsOnce}
+use Rattle.ir_graph.specs.Graph.{HasLabelsOnce}
 use Rattle.ir_check_paths.specs.Known.{IsResultAt, HasResultsOnce, IsReady}
 use Rattle.ir_check_paths.proofs.Containing.{contains_head, contains_tail, contains_none, contains_cases, contains_left, contains_right}
 use Rattle.ir_check_paths.proofs.Positions.{some_same}

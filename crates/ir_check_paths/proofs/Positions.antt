@@ -1,31 +1,14 @@
--- The places of names in a function's table.
+-- The places of blocks by their labels.
 use Rattle.std.proofs.Common.{◌≡◌, ◌≢◌, ℕ, zero, suc, ◌+◌, ◌^◌, ◌<◌, ◌≤◌, inl, inr, List, [], ◌∷◌, length, map, get_or, set, slice_get, Option, Some, None, replicate, refl, sym, ◌∙◌, ap, subst, arith, get_or-set_same, get_or-set_other, length-set}
 use Rattle.std.specs.List.{AllByRecursion}
-use Rattle.std.proofs.lemmas.Bool.{cases_order, cases_eq}
-use Rattle.ir_types.specs.declared.name.Name.{Name}
-use Rattle.ir_types.specs.declared.name.Name.TheVariants.{Number}
+use Rattle.std.proofs.lemmas.Bool.{cases_eq}
 use Rattle.ir_types.specs.declared.module.Block.{Block}
 use Rattle.ir_types.specs.declared.module.Function.{Function}
-use Rattle.ir_types.specs.Names.{IsTable, name_at}
+use Rattle.ir_types.specs.Names.{name_at}
 use Rattle.ir_types.specs.Denotes.{block_in}
 use Rattle.ir_shape.specs.Placed.{IsBlockPlaced}
 use Rattle.ir_check_paths.specs.Known.{IsReady, ArePlaces}
 use Rattle.ir_check_paths.proofs.Containing.{slice_get_in}
-
-at-get : (ns : List Name) (i : ℕ) → name_at ns i ≡ get_or ns i (Number (2 ^ 32))
-at-get [] i = refl
-at-get (n ∷ ns) zero = refl
-at-get (n ∷ ns) (suc i) = at-get ns i
-
-apart : (ns : List Name) → IsTable ns → (i j : ℕ) → i < j → j < length ns → name_at ns i ≢ name_at ns j
-apart ns table i j lt within e = table.distinct i j (Number (2 ^ 32)) lt within (sym (at-get ns i) ∙ e ∙ at-get ns j)
-
--- in a table, places of one name are one
-pub one_place : (ns : List Name) → IsTable ns → (i j : ℕ) → i < length ns → j < length ns → name_at ns i ≡ name_at ns j → i ≡ j
-one_place ns table i j here there e = elim (cases_order i j) [
-  | inl same ↦ same
-  | inr w ↦ elim w [ inl lt ↦ absurd (apart ns table i j lt there e) | inr lt ↦ absurd (apart ns table j i lt here (sym e)) ]
-]
 
 -- what holds of each, by its place
 pub all_got : {A : Type 0} (P : A → Type 0) (xs : List A) (k : ℕ) (x : A) → AllByRecursion P xs → slice_get xs k ≡ Some x → P x

@@ -2,8 +2,6 @@
 #![tactic(auto)]
 
 mod available;
-mod branches;
-mod edges;
 mod flow;
 mod module;
 mod noting;

@@ -19,20 +19,24 @@ or_else_assoc : (a b c : Option ℕ) → or_else (or_else a b) c ≡ or_else a (
 or_else_assoc None b c = refl
 or_else_assoc (Some n) b c = refl
 
+-- the first long name in two lists is that of the one, or else that of the other
 pub first_of_both : (xs ys : List Name) → first_long (xs ++ ys) ≡ or_else (first_long xs) (first_long ys)
 first_of_both [] ys = refl
 first_of_both (x ∷ xs) ys = ap (or_else (long_name x)) (first_of_both xs ys) ∙ sym (or_else_assoc (long_name x) (first_long xs) (first_long ys))
 
+-- what is there, or else nothing, is what is there
 pub or_nothing : (a : Option ℕ) → or_else a None ≡ a
 or_nothing None = refl
 or_nothing (Some n) = refl
 
 -- ---- the first that a function finds
 
+-- the first that is found list by list is the first in the lists joined
 pub first_of_concat : {A : Type 0} (g : A → List Name) (xs : List A) → first_of (λ x. first_long (g x)) xs ≡ first_long (concat (map g xs))
 first_of_concat g [] = refl
 first_of_concat g (x ∷ xs) = ap (or_else (first_long (g x))) (first_of_concat g xs) ∙ sym (first_of_both (g x) (concat (map g xs)))
 
+-- the first long name of some things is the first among their names
 pub first_of_map : {A : Type 0} (g : A → Name) (xs : List A) → first_of (λ x. long_name (g x)) xs ≡ first_long (map g xs)
 first_of_map g [] = refl
 first_of_map g (x ∷ xs) = ap (or_else (long_name (g x))) (first_of_map g xs)
@@ -46,17 +50,21 @@ first_of_mapped h f (x ∷ xs) = ap (or_else (f (h x))) (first_of_mapped h f xs)
 pub first_next : {A : Type 0} (f : A → Option ℕ) (xs : List A) (i : ℕ) (d : A) (whole : Option ℕ) → i < length xs → first_of f (drop i xs) ≡ whole → or_else (f (get_or xs i d)) (first_of f (drop (suc i) xs)) ≡ whole
 first_next f xs i d whole lt h = sym (ap (first_of f) (drop-cons xs i d lt)) ∙ h
 
+-- behind the last one nothing is found, so nothing was
 pub first_none : {A : Type 0} (f : A → Option ℕ) (xs : List A) (i : ℕ) (whole : Option ℕ) → length xs ≤ i → first_of f (drop i xs) ≡ whole → whole ≡ None
 first_none f xs i whole le h = sym h ∙ ap (first_of f) (drop_all i xs le)
 
+-- where the first of two has something, that is what is found
 pub found : (a b whole : Option ℕ) (n : ℕ) → a ≡ Some n → or_else a b ≡ whole → whole ≡ Some n
 found a b whole n e h = sym h ∙ ap (λ (o : Option ℕ). or_else o b) e
 
 -- ---- as the loops need them
 
+-- where none is found before a place, and something there, that is the first
 pub found_here : {A : Type 0} (f : A → Option ℕ) (xs : List A) (i : ℕ) (d : A) (n : ℕ) → i < length xs → first_of f (drop i xs) ≡ first_of f xs → f (get_or xs i d) ≡ Some n → Some n ≡ first_of f xs
 found_here f xs i d n lt h s = sym (found (f (get_or xs i d)) (first_of f (drop (suc i) xs)) (first_of f xs) n s (first_next f xs i d (first_of f xs) lt h))
 
+-- where none is found before the end, there is none
 pub none_at_all : {A : Type 0} (f : A → Option ℕ) (xs : List A) (i : ℕ) → length xs ≤ i → first_of f (drop i xs) ≡ first_of f xs → None ≡ first_of f xs
 none_at_all f xs i le h = sym (first_none f xs i (first_of f xs) le h)
 

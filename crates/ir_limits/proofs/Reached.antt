@@ -22,11 +22,13 @@ use Rattle.ir_limits.proofs.Firsts.{first_of_both, or_nothing}
 
 -- ---- names at their places
 
+-- the name at a place that stands in the list is the one there
 pub name_there : (ns : List Name) (i : ℕ) (d : Name) → i < length ns → name_at ns i ≡ get_or ns i d
 name_there [] i d lt = absurd (omega arith)
 name_there (n ∷ ns) zero d lt = refl
 name_there (n ∷ ns) (suc i) d lt = name_there ns i d (omega arith)
 
+-- and so the name of an entry
 pub entry_there : (es : List TypeName) (i : ℕ) (d : TypeName) → i < length es → name_at (map (λ (e : TypeName). e.name) es) i ≡ (get_or es i d).name
 entry_there [] i d lt = absurd (omega arith)
 entry_there (e ∷ es) zero d lt = refl

@@ -16,8 +16,7 @@ pub use examples::made;
 
 /// What is a module, and breaks no rule, is printed as a text that reads as its tree, whether it was read or made by code.
 pub fn what_keeps_the_rules_is_printed()
-    ensures { (m : Module) → IsModule m → KeepsRules (tree_of m)
-        → Reads (text_of (module_pieces (tree_of m))) (tree_of m) }
+    ensures { (m : Module) → IsModule m → KeepsRules (tree_of m) → Reads (text_of (module_pieces (tree_of m))) (tree_of m) }
 {}
 
 /// A small module is one. Others that lack one part each are none: with a name that stands in a function's table twice, a type before its part, a

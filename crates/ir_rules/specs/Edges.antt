@@ -1,35 +1,15 @@
 -- Rules about the edges between blocks: no branch goes to an entry block; phis stand first in their block, and have an entry for each edge into it.
 use Rattle.std.specs.Prelude.{ℕ, suc, ◌+◌, Bool, true, false, not, ◌&&◌, nat_eq, List, [], ◌∷◌, ◌++◌, map, filter, length, zip, count_by, Option, Some, None, if◌then◌else◌}
 use Rattle.std.specs.List.{list_all}
-use Rattle.text_forms.specs.Nested.{concat}
 use Rattle.ir_types.specs.declared.name.Name.{Name}
 use Rattle.ir_types.specs.Names.{same_name}
-use Rattle.ir_types.specs.Kinds.{Kind, is_phi_kind, Jump, Branch, Switch}
+use Rattle.ir_types.specs.Kinds.{is_phi_kind}
 use Rattle.ir_types.specs.Tree.{OperandTree, local, number, null, poison, lanes, global, InstTree, BlockTree, FunctionTree, ModuleTree}
+use Rattle.ir_graph.specs.Edges.{targets_of, predecessors}
 use Rattle.ir_rules.specs.declared.fault.Subject.{Subject}
 use Rattle.ir_rules.specs.declared.fault.Subject.TheVariants.{Local}
 use Rattle.ir_rules.specs.declared.fault.Breach.{Breach}
 use Rattle.ir_rules.specs.Breaches.{Found, in_functions, in_insts, result_of}
-
--- ---- edges
-
--- the labels of the blocks to which an instruction goes
-abbrev pub targets_by : Kind → List Name → List Name
-targets_by Jump labels = labels
-targets_by Branch labels = labels
-targets_by (Switch width cases) labels = labels
-targets_by kind labels = []
-
-abbrev pub targets_of : InstTree → List Name
-targets_of i = targets_by i.kind i.labels
-
--- the labels of a block's successors, one for each edge
-abbrev pub successors : BlockTree → List Name
-successors b = concat (map targets_of b.insts)
-
--- the labels of the predecessors of the block of a name, one for each edge
-abbrev pub predecessors : FunctionTree → Name → List Name
-predecessors f n = concat (map (λ (b : BlockTree). map (λ _. b.name) (filter (same_name n) (successors b))) f.body)
 
 -- ---- the entry
 

@@ -24,6 +24,7 @@ covers-refl m = record { fits = λ memory h. h; functions = λ name f d. (f, d, 
 same-signature-trans : (f g h : FunctionTree) → SameSignature f g → SameSignature g h → SameSignature f h
 same-signature-trans f g h s t = record { params = s.params ∙ t.params; ret = s.ret ∙ t.ret }
 
+-- covering is transitive
 pub covers-trans : {a b c : ModuleTree} → Covers a b → Covers b c → Covers a c
 covers-trans f g = record {
   fits = λ memory h. g.fits memory (f.fits memory h);
@@ -41,6 +42,7 @@ typed-like (p ∷ ps) [] vs e h = absurd (cc)
 typed-like (p ∷ ps) (q ∷ qs) [] e h = h
 typed-like (p ∷ ps) (q ∷ qs) (v ∷ vs) e h = let t : p.ty ≡ q.ty = cc in (subst (λ ty. HasType ty v) t h.0, typed-like ps qs vs (cc) h.1)
 
+-- a run that the first module can make, the second can make, where this pair is covered
 pub can-run : {a b : ModuleTree} (function : Name) (args : List Value) (memory : Memory) → Covers a b → CanRun a function args memory → CanRun b function args memory
 can-run function args memory c r =
     let g = c.functions function r.f r.defined in
@@ -51,6 +53,7 @@ can-run function args memory c r =
 pub world-refl : (v : World) → IsWorldFor v v
 world-refl v = record { replies = refl; numbers = omega arith }
 
+-- being a world for another is transitive
 pub world-trans : (u v w : World) → IsWorldFor u v → IsWorldFor v w → IsWorldFor u w
 world-trans u v w f g = record { replies = g.replies ∙ f.replies; numbers = omega (arith, f.numbers, g.numbers) }
 
@@ -59,6 +62,7 @@ pub greatest : (ℕ → ℕ) → ℕ → ℕ
 greatest f zero = f zero
 greatest f (suc n) = max (f (suc n)) (greatest f n)
 
+-- up to n no value is above the greatest
 pub greatest-bounds : (f : ℕ → ℕ) (n k : ℕ) → k ≤ n → f k ≤ greatest f n
 unfolding greatest
 greatest-bounds f zero k le = let e : k ≡ zero = omega arith in subst (λ i. f i ≤ f zero) (sym e) (omega arith)
@@ -66,6 +70,7 @@ greatest-bounds f (suc n) k le = ⊎_elim (λ lt. omega (arith, greatest-bounds 
 
 -- ---- factors
 
+-- a module allows itself with the factor 1
 pub allows-itself : (m : ModuleTree) → Allows m m 1
 allows-itself m = record {
   covers = covers-refl m;
@@ -80,6 +85,7 @@ allows-itself m = record {
   );
 }
 
+-- what is allowed with a factor is allowed with each greater one
 pub allowing-grows : (a b : ModuleTree) (c d : ℕ) → c ≤ d → Allows a b c → Allows a b d
 allowing-grows a b c d le f = record {
   covers = f.covers;

@@ -165,9 +165,11 @@ kept k h =
 
 -- ---- the toll
 
+-- the block more is allowed at a toll of one step for each entry of the block behind it
 pub at_toll : AllowsAtToll direct detour (λ k. false) (one_more ∷ [])
 at_toll = simulated direct detour (λ k. false) (one_more ∷ []) Related covered kept simulation
 
+-- and so with the factor 2
 pub with_factor : Allows direct detour 2
 with_factor = toll-is-allowed direct detour (λ k. false) (one_more ∷ []) at_toll
 

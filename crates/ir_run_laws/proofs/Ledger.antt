@@ -121,6 +121,7 @@ toll-at-most m charges (suc n) s =
 
 -- ---- a toll is allowed with a factor
 
+-- what is allowed at a toll is allowed with a factor: one more than all costs together
 pub toll-is-allowed : (a b : ModuleTree) (changed : BlockName → Bool) (charges : List Charge) → AllowsAtToll a b changed charges → Allows a b (1 + costs_of charges)
 toll-is-allowed a b changed charges f = record {
   covers = f.covers;

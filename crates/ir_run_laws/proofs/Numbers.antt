@@ -16,6 +16,7 @@ Has n (Live r) = n ≤ length r.world.numbers
 Has n (Over e) = Unit {0}
 Has n Wrong = Unit {0}
 
+-- what has k numbers has each smaller count of them
 pub has-less : (n k : ℕ) (s : State) → n ≤ k → Has k s → Has n s
 unfolding Has
 has-less n k (Live r) le h = omega arith

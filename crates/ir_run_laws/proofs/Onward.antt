@@ -41,6 +41,7 @@ on-run : (m : ModuleTree) (n : ℕ) (s : State) → GoesOnAs (seen s) (seen (run
 on-run m zero s = goes-on-refl (seen s)
 on-run m (suc n) s = goes-on-trans (seen s) (seen (step m s)) (seen (run (step m) n (step m s))) (on-step m s) (on-run m n (step m s))
 
+-- a run is seen to go on from n steps to k
 pub runs-go-on : (m : ModuleTree) (function : Name) (args : List Value) (memory : Memory) (v : World) (n k : ℕ) → n ≤ k → GoesOnAs (observed m function args memory v n) (observed m function args memory v k)
 runs-go-on m function args memory v n k le =
     let s = start m function args memory v in

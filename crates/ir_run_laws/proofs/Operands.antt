@@ -58,6 +58,7 @@ module _ (here other : Memory) (types : Name → Ty) (env there : Env) where
   abbrev GivenAll : List Ty → Option (List Value) → List Value → Type 0
   GivenAll tys o ws = (vs : List Value) × (o ≡ Some vs) × OperandsRefine tys vs ws
 
+  -- where operands have values there, they have values here that refine those
   pub values-respect : (tys : List Ty) (args : List OperandTree) (ws : List Value) → MemoryRefines here other → EnvRefines types env there → AllZip (IsOperandOf types) tys args → values_of other there tys args ≡ Some ws → GivenAll tys (values_of here env tys args) ws
   values-respect [] [] [] mem h is e = ([], refl, tt)
   values-respect [] [] (w ∷ ws) mem h is e = absurd (cc)
@@ -85,6 +86,7 @@ module _ (here other : Memory) (types : Name → Ty) (env there : Env) where
       by later true k = let same : x ≡ a = cc in subst P same all.0
       by later false k = later k
 
+  -- where a phi takes a value there, it takes one here that refines it
   pub phi-respects : (left : Name) (i : InstTree) (w : Value) → MemoryRefines here other → EnvRefines types env there → AllByRecursion (IsOperandOf types i.ty) i.args → phi_value other there left i ≡ Some w → (v : Value) × (phi_value here env left i ≡ Some v) × HasType i.ty v × HasType i.ty w × ValueRefines i.ty v w
   phi-respects left i w mem h all e = by (entry_for left i.args i.labels) refl e
     where

@@ -176,6 +176,7 @@ module _ (m : ModuleTree) (here other : Memory) (labels : List Name) where
   by_name true name ty xs ys h = waits
   by_name false name ty xs ys h = calls (record { name = refl; args = h })
 
+  -- by operands that refine others, an operation of each kind asks for what refines what it asks for by those
   pub respected : (kind : Kind) (ty : Ty) (n : ℕ) (vs ws : List Value) → MemoryRefines here other → OperandsRefine (operand_types kind ty n) vs ws → Asked kind ty vs ws
   respected (Binary op flags) ty n vs ws mem h = of_binary op flags ty vs ws h
   respected (Compare p of) ty n vs ws mem h = of_compare p of ty vs ws h

@@ -126,11 +126,13 @@ end-refl e = record { value = result-refl e.value; memory = memory-refl e.memory
 pub end-trans : (a b c : Ended) → EndRefines a b → EndRefines b c → EndRefines a c
 end-trans a b c f g = record { value = result-trans f.value g.value; memory = memory-trans a.memory b.memory c.memory f.memory g.memory; events = each-trans EventRefines event-trans a.events b.events c.events f.events g.events }
 
+-- refinement of observations is reflexive
 pub refines-refl : (o : Observation) → Refines o o
 refines-refl Undefined = of_undefined
 refines-refl (Going es) = going (each-refl EventRefines event-refl es)
 refines-refl (Returned e) = returned (end-refl e)
 
+-- and transitive
 pub refines-trans : {a b c : Observation} → Refines a b → Refines b c → Refines a c
 refines-trans f of_undefined = of_undefined
 refines-trans (going e) (going f) = going (each-trans EventRefines event-trans _ _ _ e f)

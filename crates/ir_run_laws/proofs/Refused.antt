@@ -47,6 +47,7 @@ defined g e lt = record { found = e; body = lt }
 can_run : CanRun chooses f args bare
 can_run = record { f = _; defined = defined _ refl (omega arith); typed = (refl, (refl, tt)); fits = bare-fits chooses }
 
+-- the first example does not allow the empty module
 pub none_allowed : (c : ℕ) → Allows chooses empty c → ⊥
 none_allowed c h = let g = h.covers.functions f _ (defined _ refl (omega arith)) in let e = g.1.found in cc
 
@@ -76,9 +77,11 @@ other_result printed c x n e other h =
     let a = h.serves f args bare no_world n can_run in
     other (only_seven x a.0 (a.2.steps n) (subst (λ o. Refines o (observed chooses f args bare a.0 (a.2.steps n))) (e no_world) (a.2.refined n (omega arith))))
 
+-- nor itself with the targets of its branch in each other's place
 pub targets_swapped : (c : ℕ) → Allows chooses swapped c → ⊥
 targets_swapped c = other_result swapped c 5 2 (λ v. refl) (λ e. omega arith)
 
+-- nor itself with another number in an entry of its phi
 pub entry_changed : (c : ℕ) → Allows chooses another_entry c → ⊥
 entry_changed c = other_result another_entry c 8 3 (λ v. refl) (λ e. omega arith)
 

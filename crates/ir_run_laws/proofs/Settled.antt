@@ -104,6 +104,7 @@ further printed read c v near far same h = record {
   returns = h.returns;
 }
 
+-- where a module allows another, it is absurd that no one world serves a run at all horizons
 pub one_world : (read printed : ModuleTree) (c : ℕ) → Allows read printed c → (function : Name) (args : List Value) (memory : Memory) (v : World) → CanRun read function args memory → (IsServed read printed c function args memory v → ⊥) → ⊥
 one_world read printed c allows function args memory v can hence =
     seen-settles printed (length v.replies) (start printed function args memory v) (start-fits printed function args memory v) (λ h.

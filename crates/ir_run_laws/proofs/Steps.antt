@@ -11,10 +11,12 @@ use Rattle.ir_meaning.specs.Runs.{run, seen, Undefined}
 use Rattle.ir_meaning.specs.Allows.{HasReturned}
 use Rattle.ir_run_laws.specs.Tolls.{total}
 
+-- j steps and then k are j + k steps
 pub run-add : {S : Type 0} (step : S → S) (j k : ℕ) (s : S) → run step (j + k) s ≡ run step k (run step j s)
 run-add step zero k s = let e : zero + k ≡ k = omega arith in ap (λ n. run step n s) e
 run-add step (suc j) k s = let e : suc j + k ≡ suc (j + k) = omega arith in ap (λ n. run step n s) e ∙ run-add step j k (step s)
 
+-- what a step leaves as it is, n steps leave as it is
 pub run-halted : {S : Type 0} (step : S → S) (n : ℕ) (s : S) → step s ≡ s → run step n s ≡ s
 run-halted step zero s e = refl
 run-halted step (suc n) s e = ap (run step n) e ∙ run-halted step n s e
@@ -23,9 +25,11 @@ run-halted step (suc n) s e = ap (run step n) e ∙ run-halted step n s e
 pub run-behind : {S : Type 0} (step : S → S) (k n : ℕ) (s : S) → k ≤ n → run step n s ≡ run step (n - k) (run step k s)
 run-behind step k n s le = let e : n ≡ k + (n - k) = omega arith in ap (λ i. run step i s) e ∙ run-add step k (n - k) s
 
+-- n + 1 steps are n steps and one more
 pub run-last : {S : Type 0} (step : S → S) (n : ℕ) (s : S) → run step (suc n) s ≡ step (run step n s)
 run-last step n s = let e : suc n ≡ n + 1 = omega arith in ap (λ k. run step k s) e ∙ run-add step n 1 s
 
+-- a count over j + k steps is that over j steps and that over the k behind them
 pub total-add : {S : Type 0} (step : S → S) (count : S → ℕ) (j k : ℕ) (s : S) → total step count (j + k) s ≡ total step count j s + total step count k (run step j s)
 total-add step count zero k s = let e : zero + k ≡ k = omega arith in ap (λ n. total step count n s) e ∙ sym (zero-add (total step count k s))
 total-add step count (suc j) k s =
@@ -44,6 +48,7 @@ undefined-stays m (Live r) e = absurd (cc)
 undefined-stays m (Over o) e = refl
 undefined-stays m Wrong e = refl
 
+-- what has returned after k steps has returned after each greater number of them
 pub returned-later : (m : ModuleTree) (k n : ℕ) (s : State) → k ≤ n → HasReturned (seen (run (step m) k s)) → HasReturned (seen (run (step m) n s))
 returned-later m k n s le h =
     let same : run (step m) n s ≡ run (step m) k s = run-behind (step m) k n s le ∙ run-halted (step m) (n - k) (run (step m) k s) (returned-stays m (run (step m) k s) h) in

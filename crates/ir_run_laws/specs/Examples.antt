@@ -1,6 +1,7 @@
 -- Small modules, to try the definitions on.
 use Rattle.std.specs.Prelude.{true, ◌≡◌, ℕ, ◌+◌, codes, List, [], ◌∷◌, map, Option, Some}
 use Prim.Native.String.{String}
+use Rattle.std.specs.List.{AllByRecursion}
 use Rattle.ir_types.specs.declared.name.Name.{Name}
 use Rattle.ir_types.specs.declared.name.Name.TheVariants.{Text, Number}
 use Rattle.ir_types.specs.declared.inst.Ty.{Ty}
@@ -19,6 +20,7 @@ use Rattle.ir_meaning.specs.Memory.{Memory}
 use Rattle.ir_meaning.specs.State.{Env, no_values, set_value, Frame, World, Event, State, Live}
 use Rattle.ir_meaning.specs.Meaning.{step, start}
 use Rattle.ir_meaning.specs.Runs.{run, Observation, Going, Returned, observed}
+use Rattle.ir_meaning.specs.Allows.{Allows}
 use Rattle.ir_run_laws.specs.Tolls.{BlockName, Charge}
 
 abbrev pub int32 : ℕ → Value
@@ -148,6 +150,10 @@ smax = Text (codes "llvm.smax.i32")
 -- a function of this name has a block here
 abbrev pub calls_smax : ModuleTree
 calls_smax = with_functions (calling smax ∷ doubling smax ∷ [])
+
+-- with no factor does the module allow any of these
+abbrev pub AllowsNone : ModuleTree → List ModuleTree → Type 0
+AllowsNone read others = AllByRecursion (λ printed. (c : ℕ) → Allows read printed c → ⊥) others
 
 -- ---- a block more
 

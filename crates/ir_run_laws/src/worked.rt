@@ -1,6 +1,6 @@
 // Worked runs, a worked toll, and what no module allows.
 
-ghost use Rattle.std.specs.Prelude.{◌≡◌, ℕ, false, [], ◌∷◌, Some, None};
+ghost use Rattle.std.specs.Prelude.{◌≡◌, false, [], ◌∷◌, Some, None};
 ghost use Rattle.ir_types.specs.declared.name.Name.TheVariants.{Number};
 ghost use Rattle.ir_types.specs.declared.inst.Ty.TheVariants.{Ptr as PtrTy};
 ghost use Rattle.ir_types.specs.declared.inst.Pred.TheVariants.{Eq, Ne, Ugt, Uge, Ult, Ule, Sgt, Sge, Slt, Sle};
@@ -13,7 +13,7 @@ ghost use Rattle.ir_meaning.specs.Meaning.{null_pointer, step};
 ghost use Rattle.ir_meaning.specs.Runs.{run, Undefined, Going};
 ghost use Rattle.ir_meaning.specs.Allows.{Allows};
 ghost use Rattle.ir_run_laws.specs.Tolls.{AllowsAtToll};
-ghost use Rattle.ir_run_laws.specs.Examples.{int32, bit, of_i32, of_type, chooses, swapped, another_entry, loops, direct, detour, one_more, empty, adds, adds_with_flag, gives_back, reads_the_old, calls_g, g, frame_in, live_with, calls_outside, calls_declared, calls_smax, without_value, of_another_type, without_block, phi_at_the_start, phi_behind, without_entry, two_functions, two_parameters, two_blocks, two_entries, StandsStill, Compares, Shows, ReturnsIn, one_value, calls_g_after};
+ghost use Rattle.ir_run_laws.specs.Examples.{int32, bit, of_i32, of_type, chooses, swapped, another_entry, loops, direct, detour, one_more, empty, adds, adds_with_flag, gives_back, reads_the_old, calls_g, g, frame_in, live_with, calls_outside, calls_declared, calls_smax, without_value, of_another_type, without_block, phi_at_the_start, phi_behind, without_entry, two_functions, two_parameters, two_blocks, two_entries, StandsStill, AllowsNone, Compares, Shows, ReturnsIn, one_value, calls_g_after};
 
 /// Runs that are worked out, from any memory and any world. The first example of the README with 5 and false, with 5 and true, and with
 /// 5 and poison; a sum that wraps; a phi that reads another one of its block; constants that are returned. And a call: its step leads to the
@@ -78,10 +78,7 @@ pub fn worked_comparisons()
 /// With no factor does the first example allow, as its printed module, the empty module, itself with the targets of its branch in each
 /// other's place, itself with another number in an entry of its phi, or one whose first block loops for ever.
 pub fn allows_no_other_module()
-    ensures none { (c : ℕ) → Allows chooses empty c → ⊥ }
-    ensures targets { (c : ℕ) → Allows chooses swapped c → ⊥ }
-    ensures entries { (c : ℕ) → Allows chooses another_entry c → ⊥ }
-    ensures for_ever { (c : ℕ) → Allows chooses loops c → ⊥ }
+    ensures { AllowsNone chooses (empty ∷ swapped ∷ another_entry ∷ loops ∷ []) }
 {}
 
 /// A block put before another is allowed at a toll of one step for each entry of the other, with no block changed; and so with the factor 2.

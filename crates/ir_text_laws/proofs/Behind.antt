@@ -147,6 +147,7 @@ is_missing_symbol m name (symbols.Variable id writable) before after e = absurd 
 is_missing_symbol m name (symbols.Function f) before after e = absurd cc
 is_missing_symbol m name symbols.Missing before after e = refl
 
+-- of a module's symbols, those behind the tree's are only used, and no others
 pub missing_symbols : (m : Module) (tree : ModuleTree) → Denotes m tree → (i : ℕ) (s : Symbol) → slice_get m.symbols i ≡ Some s → (i < length tree.symbols → s.kind ≢ symbols.Missing) × (length tree.symbols ≤ i → s.kind ≡ symbols.Missing)
 missing_symbols m tree d i s at =
     let h = lists_stand (λ (s : Symbol). s.name) (symbol_in m) (λ (t : SymbolTree). t.name) (λ x y e. symbol_named m x.name x.kind x.before x.after y e) m.symbols tree.symbols (symbols_used tree) (ap (λ (t : ModuleTree). t.symbols) d.says) d.symbols i s at in
@@ -164,6 +165,7 @@ is_missing_type m name (Defined id) e = absurd cc
 is_missing_type m name Opaque e = absurd cc
 is_missing_type m name Missing e = refl
 
+-- and so of its names of types
 pub missing_types : (m : Module) (tree : ModuleTree) → Denotes m tree → (i : ℕ) (n : TypeName) → slice_get m.type_names i ≡ Some n → (i < length tree.type_names → n.ty ≢ Missing) × (length tree.type_names ≤ i → n.ty ≡ Missing)
 missing_types m tree d i n at =
     let h = lists_stand (λ (n : TypeName). n.name) (type_name_in m) (λ (t : TypeNameTree). t.name) (λ x y e. type_named m x.name x.ty y e) m.type_names tree.type_names (types_used tree) (ap (λ (t : ModuleTree). t.type_names) d.says) d.type_names i n at in
@@ -171,8 +173,10 @@ missing_types m tree d i n at =
 
 -- ---- modules that denote one tree have the same names
 
+-- modules that denote one tree have the same names of types, in the same order
 pub one_list_of_types : (m n : Module) (tree : ModuleTree) → Denotes m tree → Denotes n tree → type_names_of m ≡ type_names_of n
 one_list_of_types m n tree d e = d.type_names ∙ sym e.type_names
 
+-- and the same names of symbols
 pub one_list_of_symbols : (m n : Module) (tree : ModuleTree) → Denotes m tree → Denotes n tree → map (λ (s : Symbol). s.name) m.symbols ≡ map (λ (s : Symbol). s.name) n.symbols
 one_list_of_symbols m n tree d e = d.symbols ∙ sym e.symbols

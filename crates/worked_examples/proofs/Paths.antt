@@ -11,8 +11,9 @@ use Rattle.ir_rules.specs.declared.fault.Rule.TheVariants.{NotAvailable}
 use Rattle.ir_rules.specs.declared.fault.CheckFault.TheVariants.{Broken}
 use Rattle.ir_rules.specs.declared.fault.Subject.TheVariants.{Local}
 use Rattle.ir_rules.specs.Breaches.{inside}
-use Rattle.ir_rules.specs.Available.{IsPath, at_entry, along, defined_on, IsUnavailable, here, behind, module_uses, AllAvailable, IsFirstUnavailable}
-use Rattle.ir_rules.specs.Edges.{successors}
+use Rattle.ir_graph.specs.Paths.{IsPath, at_entry, along}
+use Rattle.ir_rules.specs.Available.{defined_on, IsUnavailable, here, behind, module_uses, AllAvailable, IsFirstUnavailable}
+use Rattle.ir_graph.specs.Edges.{successors}
 use Rattle.ir_rules.specs.WellFormed.{KeepsRules, Cause, early_breaches}
 
 -- ---- parts of functions

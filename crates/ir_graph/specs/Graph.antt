@@ -1,10 +1,18 @@
 -- The edges of a function by the numbers of its blocks.
-use Rattle.std.specs.Prelude.{◌≡◌, ℕ, List, length, slice_get, Contains, Some}
+use Rattle.std.specs.Prelude.{◌≡◌, ℕ, ◌<◌, List, length, slice_get, Contains, Some}
 use Rattle.std.specs.List.{All}
 use Rattle.ir_types.specs.Tree.{BlockTree, FunctionTree}
-use Rattle.ir_rules.specs.Edges.{successors}
-use Rattle.ir_check_paths.specs.declared.edges.Edge.{Edge}
-use Rattle.ir_check_paths.specs.Flow.{AreWithin}
+use Rattle.ir_graph.specs.declared.edges.Edge.{Edge}
+use Rattle.ir_graph.specs.Edges.{successors}
+
+-- an edge leads from one of so many blocks to one of them
+pub record IsWithin (count : ℕ) (e : Edge) : Type 0 where
+  pub from : e.from < count
+  pub to : e.to < count
+
+-- each does
+abbrev pub AreWithin : ℕ → List Edge → Type 0
+AreWithin count edges = All (IsWithin count) edges
 
 -- a branch of one block goes to another one
 pub record IsEdge (f : FunctionTree) (from to : ℕ) : Type 0 where

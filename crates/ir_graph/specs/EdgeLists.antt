@@ -7,7 +7,7 @@ use Rattle.ir_types.specs.declared.inst.InstKind.{InstKind}
 use Rattle.ir_types.specs.declared.inst.InstKind.TheVariants.{Jump, Branch, Switch}
 use Rattle.ir_types.specs.declared.inst.Inst.{Inst}
 use Rattle.ir_types.specs.declared.module.Block.{Block}
-use Rattle.ir_check_paths.specs.declared.edges.Edge.{Edge}
+use Rattle.ir_graph.specs.declared.edges.Edge.{Edge}
 
 -- the labels that an instruction goes to
 abbrev pub goes_by : InstKind → List ValueId → List ValueId

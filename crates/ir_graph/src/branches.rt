@@ -1,6 +1,6 @@
 // The branches of a function as edges.
 ghost use Rattle.std.specs.Prelude.{◌≡◌, ◌++◌, IfOk, OnOk};
-ghost use Rattle.ir_check_paths.specs.EdgeLists.{goes_to, edges_to, edges_by, edges_from};
+ghost use Rattle.ir_graph.specs.EdgeLists.{goes_to, edges_to, edges_by, edges_from};
 
 use crate::edges::Edge;
 use ir_types::{Block, Inst, InstKind, ValueId};
