@@ -41,12 +41,13 @@ fn keeps_runs(rt: HostRuntime) -> Result<(), Fail> {
     let text = b"none align 4 align() none(to) \"s\" = \"s\" #0 \"s\" to";
     let tokens = lex(rt.alloc(), text)?;
     let cursor = at(text, &tokens);
-    let excluded: [&[u8]; 3] = [b"align", b"cc", b"to"];
+    let excluded: [&[u8]; 2] = [b"align", b"cc"];
+    let others: [&[u8]; 1] = [b"to"];
     let mut texts = Texts::new(rt.alloc());
-    assert!(rt; begins_run(cursor, &excluded));
-    let rest = keep_run(rt.alloc(), cursor, &excluded, &mut texts)?;
+    assert!(rt; begins_run(cursor, &excluded, &others));
+    let rest = keep_run(rt.alloc(), cursor, &excluded, &others, &mut texts)?;
     assert!(rt; ends(&texts, 15, b"\"s\""));
-    assert!(rt; !begins_run(rest, &excluded));
+    assert!(rt; !begins_run(rest, &excluded, &others));
     Ok(())
 }
 

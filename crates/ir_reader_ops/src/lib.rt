@@ -6,4 +6,4 @@ mod words;
 
 pub use inst::{Place, begins_instruction, inst_at, read_inst};
 pub use ir_reader_memory::comma_dots;
-pub use ir_reader_values::{Scope, excluded_words, kept, kept_before, kept_behind};
+pub use ir_reader_values::{Scope, kept, kept_before, kept_behind};

@@ -13,7 +13,7 @@ mod value;
 
 pub use constant::memory;
 pub use flags::{one_flag, three_flags, two_flags};
-pub use keeping::{excluded_words, kept, kept_before, kept_behind};
+pub use keeping::{kept, kept_before, kept_behind};
 pub use numbers::{fits_width, number_at, saturated_number_of};
 pub use operand::value_at;
 pub use scope::Scope;

@@ -1,4 +1,5 @@
 mod Stack
+mod Excluded
 pub mod Behind
 mod Balanced
 pub mod Takes

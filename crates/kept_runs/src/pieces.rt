@@ -1,8 +1,8 @@
 // Kept runs and their pieces.
 
-ghost use Rattle.std.specs.Prelude.{◌≡◌, map, codes};
+ghost use Rattle.std.specs.Prelude.{◌≡◌, ◌++◌, map, codes};
 ghost use Rattle.text_forms.specs.declared.TokenKind.TheVariants.{Word, Equal, Quoted, AttributeGroup};
-ghost use Rattle.text_forms.specs.Form.{either};
+ghost use Rattle.text_forms.specs.Form.{either, is_one_of};
 ghost use Rattle.text_forms.specs.Gives.{Gives, left};
 ghost use Rattle.text_forms.specs.Kept.{is_unsigned, kept_one, perhaps, in_parens, kept_word, kept_unsigned, kept_numbered, kept_string, kept_piece, kept_run};
 ghost use Rattle.text_forms.specs.Machine.{behind};
@@ -123,12 +123,20 @@ fn keep_string<'t>(tokens: Cursor<'t>, texts: &mut Texts) -> Result<Cursor<'t>, 
     perhaps_value(rest, texts)
 }
 
-/// Whether a word that is none of these stands next.
-fn begins_word(tokens: Cursor<'_>, excluded: &[&[u8]]) -> bool
-    ensures { result ≡ opens (kept_word (map (λ w. w.now) excluded.now)) (left tokens.entry) }
+/// Whether the word is in one of the two lists.
+#[tactic(auto, using(crate::proofs::Excluded::in_both))]
+fn is_excluded(excluded: &[&[u8]], others: &[&[u8]], word: &[u8]) -> bool
+    ensures { result ≡ is_one_of (map (λ w. w.now) excluded.now ++ map (λ w. w.now) others.now) word.now }
+{
+    is_one_of(excluded, word) || is_one_of(others, word)
+}
+
+/// Whether a word that is in neither list stands next.
+fn begins_word(tokens: Cursor<'_>, excluded: &[&[u8]], others: &[&[u8]]) -> bool
+    ensures { result ≡ opens (kept_word (map (λ w. w.now) excluded.now ++ map (λ w. w.now) others.now)) (left tokens.entry) }
 {
     match tokens.split_first() {
-        Some((TokenKind::Word, word, _)) => !is_one_of(excluded, word),
+        Some((TokenKind::Word, word, _)) => !is_excluded(excluded, others, word),
         _ => false,
     }
 }
@@ -145,10 +153,10 @@ fn begins_other(tokens: Cursor<'_>) -> bool
 
 /// Whether a piece of a kept run stands next.
 #[tactic(auto, unfolding(text_forms::specs::Kept::kept_piece))]
-pub fn begins_run(tokens: Cursor<'_>, excluded: &[&[u8]]) -> bool
-    ensures { result ≡ opens (kept_piece (map (λ w. w.now) excluded.now)) (left tokens.entry) }
+pub fn begins_run(tokens: Cursor<'_>, excluded: &[&[u8]], others: &[&[u8]]) -> bool
+    ensures { result ≡ opens (kept_piece (map (λ w. w.now) excluded.now ++ map (λ w. w.now) others.now)) (left tokens.entry) }
 {
-    begins_word(tokens, excluded) || begins_other(tokens)
+    begins_word(tokens, excluded, others) || begins_other(tokens)
 }
 
 /// Keeps a piece of a run.
@@ -157,11 +165,12 @@ fn keep_piece<'t>(
     alloc: Global,
     tokens: Cursor<'t>,
     excluded: &[&[u8]],
+    others: &[&[u8]],
     texts: &mut Texts,
 ) -> Result<Cursor<'t>, SyntaxFault>
-    ensures { Gives (λ rest. (texts.new, left rest)) result (behind texts.old (read (kept_piece (map (λ w. w.now) excluded.now)) (left tokens.entry))) }
+    ensures { Gives (λ rest. (texts.new, left rest)) result (behind texts.old (read (kept_piece (map (λ w. w.now) excluded.now ++ map (λ w. w.now) others.now)) (left tokens.entry))) }
 {
-    if begins_word(tokens, excluded) {
+    if begins_word(tokens, excluded, others) {
         return keep_any_word(alloc, tokens, texts);
     }
     if tokens.behind_word(b"align").is_some() {
@@ -176,7 +185,7 @@ fn keep_piece<'t>(
     keep(tokens, TokenKind::AttributeGroup, texts)
 }
 
-/// Keeps as many pieces of a run as stand there: words that are none of these, alone or before a balanced list in parentheses, `align`
+/// Keeps as many pieces of a run as stand there: words that are in neither list, alone or before a balanced list in parentheses, `align`
 /// and `cc` with a number, strings, and numbers of attributes.
 ///
 /// # Errors
@@ -187,13 +196,14 @@ pub fn keep_run<'t>(
     alloc: Global,
     tokens: Cursor<'t>,
     excluded: &[&[u8]],
+    others: &[&[u8]],
     texts: &mut Texts,
 ) -> Result<Cursor<'t>, SyntaxFault>
-    ensures { Gives (λ rest. (texts.new, left rest)) result (behind texts.old (read (kept_run (map (λ w. w.now) excluded.now)) (left tokens.entry))) }
+    ensures { Gives (λ rest. (texts.new, left rest)) result (behind texts.old (read (kept_run (map (λ w. w.now) excluded.now ++ map (λ w. w.now) others.now)) (left tokens.entry))) }
 {
     let mut rest = tokens;
-    'more: while begins_run(rest, excluded) {
-        rest = keep_piece(alloc, rest, excluded, texts)?;
+    'more: while begins_run(rest, excluded, others) {
+        rest = keep_piece(alloc, rest, excluded, others, texts)?;
     }
     Ok(rest)
 }

@@ -2,10 +2,12 @@
 #![tactic(auto)]
 
 mod cursor;
+mod left_out;
 mod strings;
 mod words;
 
 pub use cursor::{Cursor, SyntaxFault};
+pub use left_out::left_out_words;
 pub use strings::{unescaped, without_last};
 pub use words::{find, is_one_of};
 

@@ -4,7 +4,7 @@ ghost use Rattle.std.specs.Prelude.{◌≡◌, ◌==◌, ◌<◌, ◌≤◌, [],
 ghost use Rattle.std.specs.List.{list_all, list_any, slice_split};
 ghost use Rattle.text_forms.specs.Form.{is_one_of};
 ghost use Rattle.text_forms.specs.Lexical.{is_digit, Lexes, Places};
-ghost use Rattle.text_forms.specs.LeftOut.{left_out_words, widths, is_other_width, is_left_out, is_foreign_part, is_foreign_layout, stands_at, is_layout_at, is_left_out_at, FirstLeftOut, NoneLeftOut};
+ghost use Rattle.text_forms.specs.LeftOut.{widths, is_other_width, is_left_out, is_foreign_part, is_foreign_layout, stands_at, is_layout_at, is_left_out_at, FirstLeftOut, NoneLeftOut};
 ghost use Rattle.text_forms.specs.View.{lexeme_in, lexemes};
 ghost use Rattle.text_lex.specs.Fault.{IsFaultOf};
 ghost use Rattle.text_lex.specs.Scan.{IsWithin};
@@ -13,83 +13,10 @@ use crate::TEXT_LIMIT;
 use crate::fault::TextFault;
 use lists::Text;
 use std::alloc::{AllocError, Global};
-use text_forms::{Token, TokenKind, is_one_of, unescaped, without_last};
-
-/// Words of types, constants, instructions and attributes.
-static WORDS: [&[u8]; 62] = [
-    b"half",
-    b"bfloat",
-    b"float",
-    b"double",
-    b"fp128",
-    b"x86_fp80",
-    b"ppc_fp128",
-    b"x86_mmx",
-    b"x86_amx",
-    b"token",
-    b"metadata",
-    b"undef",
-    b"volatile",
-    b"atomic",
-    b"cmpxchg",
-    b"atomicrmw",
-    b"fence",
-    b"invoke",
-    b"landingpad",
-    b"resume",
-    b"catchswitch",
-    b"catchpad",
-    b"cleanuppad",
-    b"catchret",
-    b"cleanupret",
-    b"callbr",
-    b"indirectbr",
-    b"inttoptr",
-    b"bitcast",
-    b"addrspace",
-    b"addrspacecast",
-    b"vscale",
-    b"extractvalue",
-    b"insertvalue",
-    b"va_arg",
-    b"fadd",
-    b"fsub",
-    b"fmul",
-    b"fdiv",
-    b"frem",
-    b"fneg",
-    b"fcmp",
-    b"fptrunc",
-    b"fpext",
-    b"fptoui",
-    b"fptosi",
-    b"uitofp",
-    b"sitofp",
-    b"blockaddress",
-    b"dso_local_equivalent",
-    b"no_cfi",
-    b"ifunc",
-    b"alias",
-    b"asm",
-    b"samesign",
-    b"inrange",
-    b"personality",
-    b"byval",
-    b"inalloca",
-    b"preallocated",
-    b"module",
-    b"alloca",
-];
+use text_forms::{Token, TokenKind, is_one_of, left_out_words, unescaped, without_last};
 
 /// The widths of integers that there are.
 static WIDTHS: [&[u8]; 5] = [b"1", b"8", b"16", b"32", b"64"];
-
-#[tactic(auto, unfolding(text_forms::specs::LeftOut::left_out_words))]
-fn is_left_out_word(word: &[u8]) -> bool
-    ensures { result ≡ is_one_of left_out_words word.now }
-{
-    is_one_of(&WORDS, word)
-}
 
 #[tactic(auto, unfolding(text_forms::specs::LeftOut::widths))]
 fn is_width(digits: &[u8]) -> bool
@@ -121,7 +48,7 @@ fn is_left_out(kind: TokenKind, text: &[u8]) -> bool
     match kind {
         TokenKind::Decimal | TokenKind::Hexadecimal | TokenKind::NamedGroup => true,
         TokenKind::Metadata => text.starts_with(b"!DI"),
-        TokenKind::Word => is_other_width(text) || is_left_out_word(text),
+        TokenKind::Word => is_other_width(text) || is_one_of(left_out_words(), text),
         _ => false,
     }
 }

@@ -1,4 +1,4 @@
-use Rattle.std.proofs.Common.{◌≡◌, length, map}
+use Rattle.std.proofs.Common.{◌≡◌, ◌++◌, length, map}
 use Rattle.text_forms.specs.Gives.{left}
 use Rattle.text_forms.specs.Kept.{kept_run}
 use Rattle.text_forms.specs.Machine.{behind}
@@ -9,4 +9,4 @@ abbrev pub decreases-more : goal.decreases-more
 decreases-more l = length l.rest.rest.now
 
 abbrev pub invariant-more : goal.invariant-more
-invariant-more l = behind l.texts (read (kept_run (map (λ w. w.now) l.excluded)) (left l.rest)) ≡ behind l.fn.texts (read (kept_run (map (λ w. w.now) l.fn.excluded)) (left l.fn.tokens))
+invariant-more l = behind l.texts (read (kept_run (map (λ w. w.now) l.excluded ++ map (λ w. w.now) l.others)) (left l.rest)) ≡ behind l.fn.texts (read (kept_run (map (λ w. w.now) l.fn.excluded ++ map (λ w. w.now) l.fn.others)) (left l.fn.tokens))
