@@ -1,4 +1,3 @@
-pub mod Digits
 pub mod Same
 pub mod Vectors
 pub mod FirstPlaces

@@ -16,7 +16,7 @@ ghost use Rattle.ir_reader_types.specs.TypeTable.{names_of, LooksUpSome, LooksUp
 ghost use Rattle.ir_reader_types.specs.Heads.{IsAlone, BeginsAlone, begun_nodes, next_nodes};
 
 use crate::names::local;
-use crate::numbers::number_of_64_bits;
+use text_forms::number_of_64_bits;
 use crate::type_names::TypeNames;
 use crate::types::{begins_type, value_type};
 use ir_types::MemTy;

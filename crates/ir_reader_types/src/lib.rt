@@ -4,7 +4,6 @@
 mod heads;
 mod memory;
 mod names;
-mod numbers;
 mod places;
 mod stack;
 mod symbol_names;
@@ -15,7 +14,6 @@ mod types;
 pub use heads::begins_memory_type;
 pub use memory::{memory_type, skip_type};
 pub use names::{block_label, global, local, name_before, name_behind};
-pub use numbers::{number_of_32_bits, number_of_64_bits};
 pub use symbol_names::SymbolNames;
 pub use tables::{TableParts, Tables};
 pub use type_names::TypeNames;

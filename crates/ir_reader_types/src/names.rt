@@ -6,7 +6,7 @@ ghost use Rattle.text_forms.specs.Gives.{Gives, left};
 ghost use Rattle.ir_types.specs.Written.{numbered_name, number_of, name_of, name_behind, name_before};
 ghost use Rattle.ir_types.specs.Grammar.{local_name, global_name, label};
 
-use crate::numbers::number_of_32_bits;
+use text_forms::number_of_32_bits;
 use ir_types::Name;
 use lists::Text;
 use std::alloc::{AllocError, Global};

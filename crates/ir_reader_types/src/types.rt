@@ -9,7 +9,7 @@ ghost use Rattle.ir_types.specs.Types.{IsOneOf, IsType, widths};
 ghost use Rattle.ir_types.specs.Grammar.{behind, width, width_of, lane_counts, lanes_of, vector_type, value_type, return_type};
 ghost use Rattle.ir_reader_types.specs.Vectors.{vector_read};
 
-use crate::numbers::number_of_32_bits;
+use text_forms::number_of_32_bits;
 use ir_types::Ty;
 use text_forms::{Cursor, SyntaxFault, TokenKind};
 

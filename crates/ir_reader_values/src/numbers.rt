@@ -3,7 +3,7 @@
 ghost use Rattle.std.specs.Prelude.{◌≡◌, ◌≤◌, ◌-◌, ◌%◌, ◌^◌, nat_le};
 ghost use Rattle.ir_types.specs.Written.{number_of, number_at, negated, fits_width, at_most_64_bits};
 
-use ir_reader_types::number_of_64_bits;
+use text_forms::number_of_64_bits;
 
 /// The number that decimal digits stand for, modulo 2^64.
 fn number_of(digits: &[u8]) -> u64

@@ -1,10 +1,12 @@
 -- Tokens of LLVM's language that are left out of this one.
 use Rattle.std.specs.Prelude.{◌≡◌, ℕ, ◌-◌, ◌<◌, Bool, true, false, not, ◌&&◌, ◌||◌, ◌==◌, nat_eq, nat_le, List, [], ◌∷◌, drop, codes, slice_get, Some, None, if◌then◌else◌}
-use Rattle.std.specs.List.{list_any, list_all, starts_with}
+use Rattle.std.specs.List.{list_all}
 use Rattle.text_forms.specs.declared.TokenKind.{TokenKind}
 use Rattle.text_forms.specs.declared.TokenKind.TheVariants.{Quoted, Word, Metadata, Equal, Decimal, Hexadecimal, NamedGroup}
 use Rattle.text_forms.specs.Form.{Lexeme, kind_code, same_text, is_one_of}
 use Rattle.text_forms.specs.Lexical.{is_digit}
+pub use Rattle.text_forms.specs.DataLayouts.{begins_with}
+use Rattle.text_forms.specs.DataLayouts.{is_foreign_layout}
 use Rattle.text_forms.specs.Strings.{unescaped, without_last}
 
 -- ---- tokens that are left out wherever they stand
@@ -32,10 +34,6 @@ is_other_width [] = false
 is_other_width (c ∷ []) = false
 is_other_width (c ∷ d ∷ digits) = (c == 105) && (list_all is_digit (d ∷ digits) && not (is_one_of widths (d ∷ digits)))
 
--- the text begins with these bytes
-abbrev pub begins_with : List ℕ → List ℕ → Bool
-begins_with front text = starts_with nat_eq text front
-
 -- a number with a point, a hexadecimal one, a named group, `!DI` with any rest, a word of the list, or an integer of another width
 abbrev pub is_left_out : TokenKind → List ℕ → Bool
 is_left_out Decimal text = true
@@ -47,23 +45,9 @@ is_left_out kind text = false
 
 -- ---- layouts of data
 
--- a part of a layout that says that numbers lie with the highest byte first, or that pointers haven't 64 bits
-abbrev pub is_foreign_part : List ℕ → Bool
-is_foreign_part part = begins_with (codes "E") part || (begins_with (codes "p:") part && not (begins_with (codes "64") (drop 2 part)))
-
--- a byte in front of the first of some parts
-abbrev pub in_front : ℕ → List (List ℕ) → List (List ℕ)
-in_front c [] = (c ∷ []) ∷ []
-in_front c (part ∷ parts) = (c ∷ part) ∷ parts
-
--- the parts between dashes
-abbrev pub parts_of : List ℕ → List (List ℕ)
-parts_of [] = [] ∷ []
-parts_of (c ∷ cs) = if c == 45 then [] ∷ parts_of cs else in_front c (parts_of cs)
-
--- a string, with its quotes, that has such a part
-abbrev pub is_foreign_layout : List ℕ → Bool
-is_foreign_layout text = list_any is_foreign_part (parts_of (unescaped (without_last (drop 1 text))))
+-- a string, with its quotes, stands for one that says other things than are so here
+abbrev pub is_foreign_string : List ℕ → Bool
+is_foreign_string text = is_foreign_layout (unescaped (without_last (drop 1 text)))
 
 -- whether the token at a place is this one
 abbrev pub stands_at : List Lexeme → ℕ → TokenKind → List ℕ → Bool
@@ -79,7 +63,7 @@ is_layout_at tokens k =
 -- whether the token at a place is left out
 abbrev pub is_left_out_at : List Lexeme → ℕ → Bool
 is_left_out_at tokens k =
-    elim (slice_get tokens k) [ None ↦ false | Some t ↦ is_left_out t.kind t.text || (nat_eq (kind_code t.kind) (kind_code Quoted) && (is_layout_at tokens k && is_foreign_layout t.text)) ]
+    elim (slice_get tokens k) [ None ↦ false | Some t ↦ is_left_out t.kind t.text || (nat_eq (kind_code t.kind) (kind_code Quoted) && (is_layout_at tokens k && is_foreign_string t.text)) ]
 
 -- the token at this place is left out, and none before it
 pub record FirstLeftOut (tokens : List Lexeme) (k : ℕ) : Type 0 where

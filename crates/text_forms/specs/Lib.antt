@@ -1,7 +1,8 @@
 pub mod Lexical
 pub mod Strings
-pub mod LeftOut
 pub mod Numbers
+pub mod DataLayouts
+pub mod LeftOut
 pub mod Form
 pub mod Balanced
 pub mod Bind

@@ -2,10 +2,12 @@
 #![tactic(auto)]
 
 mod cursor;
+mod numbers;
 mod strings;
 mod words;
 
 pub use cursor::{Cursor, SyntaxFault};
+pub use numbers::{number_of_32_bits, number_of_64_bits};
 pub use strings::{unescaped, without_last};
 pub use words::{find, is_one_of};
 

@@ -2,7 +2,6 @@
 use Rattle.std.proofs.Common.{◌≡◌, ◌<◌, ◌≤◌, ℕ, zero, suc, false, List, [], ◌∷◌, length, get_or, eqb, Some, None, refl, ap, ◌∙◌, arith, inl, inr}
 use lib.Pointwise.{pointwise}
 use Rattle.std.specs.Prelude.{slice_get}
-use Rattle.std.specs.List.{slice_split, onto_first}
 use Rattle.std.specs.Option.{option_map}
 use Rattle.std.proofs.lemmas.Bool.{cases_lt}
 use Rattle.std.proofs.lemmas.List.{length-append}
@@ -10,27 +9,13 @@ use Rattle.std.proofs.lemmas.Option.{slice_get-map, slice_get_past, slice_get_re
 use Rattle.text_forms.specs.declared.Token.{Token}
 use Rattle.text_forms.specs.declared.TokenKind.{TokenKind}
 use Rattle.text_forms.specs.Form.{kind_code}
-use Rattle.text_forms.specs.LeftOut.{in_front, parts_of, stands_at, is_left_out_at, NoneLeftOut}
+use Rattle.text_forms.specs.LeftOut.{stands_at, is_left_out_at, NoneLeftOut}
 use Rattle.text_forms.specs.Lexical.{Places, here_placed, space_placed, comment_placed, token_placed}
 use Rattle.text_forms.specs.View.{lexeme_in, lexemes}
 use Rattle.text_lex.specs.Scan.{IsWithin}
 use Rattle.text_forms.proofs.Begins.{test}
 use Rattle.text_forms.proofs.Tables.{tested}
 use Rattle.text_forms.proofs.Tokens.{same_kind, kind_is}
-
--- ---- layouts
-
-front_is : (c : ℕ) (parts : List (List ℕ)) → in_front c parts ≡ onto_first c parts
-front_is c [] = refl
-front_is c (part ∷ parts) = refl
-
--- the parts between dashes are those that `split` gives
-pub parts_are : (text : List ℕ) → parts_of text ≡ slice_split (λ b. eqb b 45) text
-parts_are [] = refl
-parts_are (c ∷ cs) = elim (test (eqb c 45)) [
-  | inl e ↦ rw (e, parts_are cs) refl
-  | inr e ↦ rw (e, parts_are cs, front_is c (slice_split (λ b. eqb b 45) cs)) refl
-]
 
 -- ---- the token at a place
 

@@ -1,15 +1,15 @@
 //! Tokens that are left out of the language, wherever they stand or as a layout of data.
 
 ghost use Rattle.std.specs.Prelude.{◌≡◌, ◌==◌, ◌<◌, ◌≤◌, [], All, MatchOption, IfOk, IfSome, OnOk, IfErr, length};
-ghost use Rattle.std.specs.List.{list_all, list_any, slice_split};
 ghost use Rattle.text_forms.specs.Form.{is_one_of};
-ghost use Rattle.text_forms.specs.Lexical.{is_digit, Lexes, Places};
-ghost use Rattle.text_forms.specs.LeftOut.{left_out_words, widths, is_other_width, is_left_out, is_foreign_part, is_foreign_layout, stands_at, is_layout_at, is_left_out_at, FirstLeftOut, NoneLeftOut};
+ghost use Rattle.text_forms.specs.Lexical.{Lexes, Places};
+ghost use Rattle.text_forms.specs.LeftOut.{left_out_words, widths, is_other_width, is_left_out, is_foreign_string, stands_at, is_layout_at, is_left_out_at, FirstLeftOut, NoneLeftOut};
 ghost use Rattle.text_forms.specs.View.{lexeme_in, lexemes};
 ghost use Rattle.text_lex.specs.Fault.{IsFaultOf};
 ghost use Rattle.text_lex.specs.Scan.{IsWithin};
 
 use crate::TEXT_LIMIT;
+use crate::data_layout::{are_digits, is_foreign_layout};
 use crate::fault::TextFault;
 use lists::Text;
 use std::alloc::{AllocError, Global};
@@ -98,12 +98,6 @@ fn is_width(digits: &[u8]) -> bool
     is_one_of(&WIDTHS, digits)
 }
 
-fn are_digits(text: &[u8]) -> bool
-    ensures { result ≡ list_all is_digit text.now }
-{
-    text.iter().all(|byte| byte.is_ascii_digit())
-}
-
 /// Whether the word is `i` and digits that are none of the widths.
 fn is_other_width(word: &[u8]) -> bool
     ensures { result ≡ is_other_width word.now }
@@ -126,30 +120,15 @@ fn is_left_out(kind: TokenKind, text: &[u8]) -> bool
     }
 }
 
-/// Whether a part of a layout says that numbers lie with the highest byte first, or that pointers haven't 64 bits.
-fn is_foreign_part(part: &[u8]) -> bool
-    ensures { result ≡ is_foreign_part part.now }
-{
-    part.starts_with(b"E") || (part.starts_with(b"p:") && !part[2..].starts_with(b"64"))
-}
-
-/// Whether a layout has such a part between dashes.
-fn has_foreign_part(layout: &[u8]) -> bool
-    ensures { result ≡ list_any is_foreign_part (slice_split (λ byte. byte == 45) layout.now) }
-{
-    layout.split(|byte| *byte == b'-').any(is_foreign_part)
-}
-
-/// Whether a string, with its quotes, stands for such a layout.
-#[tactic(auto, using(crate::proofs::Omitted::parts_are))]
-fn is_foreign_layout(alloc: Global, text: &[u8]) -> Result<bool, AllocError>
-    ensures { IfOk result (λ foreign. foreign ≡ is_foreign_layout text.now) }
+/// Whether a string, with its quotes, stands for a layout that says other things than are so here.
+fn is_foreign_string(alloc: Global, text: &[u8]) -> Result<bool, AllocError>
+    ensures { IfOk result (λ foreign. foreign ≡ is_foreign_string text.now) }
 {
     let Some((_, rest)) = text.split_first() else {
         return Ok(false);
     };
     let layout = unescaped(alloc, without_last(rest))?;
-    Ok(has_foreign_part(&layout))
+    Ok(is_foreign_layout(&layout))
 }
 
 /// The bytes of a token.
@@ -199,7 +178,7 @@ fn is_left_out_at(
         return Ok(true);
     }
     if token.kind == TokenKind::Quoted && is_layout_at(text, tokens, place) {
-        return is_foreign_layout(alloc, word);
+        return is_foreign_string(alloc, word);
     }
     Ok(false)
 }

@@ -11,6 +11,7 @@ use std::alloc::Global;
 
 mod blanks;
 mod classes;
+mod data_layout;
 mod fault;
 mod front;
 mod left_out;

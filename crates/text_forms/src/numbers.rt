@@ -2,7 +2,7 @@
 
 ghost use Rattle.std.specs.Prelude.{◌≡◌, ◌%◌, ◌^◌, ◌<◌};
 ghost use Rattle.std.specs.Option.{SomeIff};
-ghost use Rattle.ir_types.specs.Written.{number_of};
+ghost use Rattle.text_forms.specs.Numbers.{number_of};
 
 /// The number of 32 bits that decimal digits stand for.
 pub fn number_of_32_bits(digits: &[u8]) -> Option<u32>

@@ -1,7 +1,7 @@
 use Rattle.std.proofs.Common.{◌≡◌, ap, ◌∙◌, sym, arith}
-use Rattle.ir_types.specs.Written.{number_of, number_from}
-use Rattle.ir_reader_types.proofs.Digits.{next_no_more, nothing_left}
-use Rattle.ir_reader_types.proofs.numbers.number_of_32_bits.Goals as goal
+use Rattle.text_forms.specs.Numbers.{number_of, number_from}
+use Rattle.text_forms.proofs.Digits.{next_no_more, nothing_left}
+use Rattle.text_forms.proofs.numbers.number_of_32_bits.Goals as goal
 
 pub returns-then-next-from : goal.returns-then-next-from
 returns-then-next-from c = λ small. let more = next_no_more c.loop-digit.number c.loop-digit.digit-index c.args.digits.now c.loop-digit-test.true in omega (arith, more)

@@ -2,7 +2,7 @@
 use Rattle.std.proofs.Common.{◌≡◌, ℕ, ◌+◌, ◌*◌, ◌-◌, ◌≤◌, ◌<◌, List, [], ◌∷◌, length, get_or, drop, ap, arith, add-one, length-drop}
 use Rattle.std.proofs.Math.Seq.{drop-cons}
 use Rattle.std.proofs.lemmas.List.{nil_from_length}
-use Rattle.ir_types.specs.Written.{number_from}
+use Rattle.text_forms.specs.Numbers.{number_from}
 
 -- further digits make a number no less
 pub no_less : (n : ℕ) (ds : List ℕ) → n ≤ number_from n ds

@@ -1,6 +1,6 @@
 use Rattle.std.proofs.Common.{◌≡◌, ◌<◌, ◌^◌, drop}
-use Rattle.ir_types.specs.Written.{number_of, number_from}
-use Rattle.ir_reader_types.proofs.numbers.number_of_64_bits.Given as goal
+use Rattle.text_forms.specs.Numbers.{number_of, number_from}
+use Rattle.text_forms.proofs.numbers.number_of_64_bits.Given as goal
 
 abbrev pub invariant-loop-digit : goal.invariant-loop-digit
 invariant-loop-digit l = record {

@@ -1,8 +1,8 @@
 use Rattle.std.proofs.Common.{rules, tests, eqb}
 use Rattle.std.proofs.lemmas.Iterator.Search.{any_from_yields_List}
 use Rattle.std.proofs.lemmas.Iterator.Splits.{YieldsList-from_slice_split}
-use Rattle.text_forms.specs.LeftOut.{is_foreign_part}
-use Rattle.text_lex.proofs.left_out.has_foreign_part.Goals as goal
+use Rattle.text_forms.specs.DataLayouts.{is_foreign_part}
+use Rattle.text_lex.proofs.data_layout.is_foreign_layout.Goals as goal
 
 pub returns : goal.returns
 returns c =
