@@ -5,6 +5,8 @@ ghost use Rattle.std.specs.Prelude.{◌≡◌};
 ghost use Rattle.hash_keys.specs.Keys.{key_of};
 
 use sha2::{Digest, Sha256};
+use std::fmt;
+use std::fmt::{Debug, Formatter};
 use std::hash::{BuildHasher, DefaultHasher, Hasher};
 
 /// A key: a SipHash that has taken it, with which each hasher begins.
@@ -39,5 +41,11 @@ impl BuildHasher for HashKey {
 
     fn build_hasher(&self) -> DefaultHasher {
         self.keyed
+    }
+}
+
+impl Debug for HashKey {
+    fn fmt<W: fmt::Write>(&self, f: &mut Formatter<W>) -> fmt::Result {
+        f.debug_struct("HashKey").finish_non_exhaustive()
     }
 }

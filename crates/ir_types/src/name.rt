@@ -1,6 +1,7 @@
 // The names of values, and the table in which each has its place.
 ghost use Rattle.std.specs.Prelude.{◌≡◌, ◌<◌, ◌^◌, ◌==◌, [], IfOk, OnOk, OnErr, length, slice_get};
 
+use hash_keys::HashKey;
 use indexmap::IndexSet;
 use lists::{Copies, Text};
 use std::alloc::{AllocError, Global};
@@ -31,7 +32,8 @@ pub struct ValueId(pub u32);
 /// A table of names in the order in which they were added, no two of them equal.
 #[derive(Drop, Debug)]
 pub struct Names {
-    set: IndexSet<Name>,
+    set: IndexSet<Name, HashKey>,
+    key: HashKey,
 }
 
 impl Model for Names {
@@ -53,13 +55,19 @@ impl Names {
     ghost use Rattle.ir_types.specs.declared.name.Name.{Name};
     ghost use Rattle.ir_types.specs.Names.{IsTable, Adds, name_at};
 
-    /// A table with no name.
-    pub fn new(alloc: Global) -> Names
+    /// A table with no name, whose names hash with this key.
+    pub fn new(alloc: Global, key: HashKey) -> Names
         ensures { result ≡ [] }
     {
         Names {
-            set: IndexSet::new(alloc),
+            set: IndexSet::with_hasher(alloc, key),
+            key,
         }
+    }
+
+    /// The key with which names hash.
+    pub fn key(&self) -> HashKey {
+        self.key
     }
 
     /// The number of names.
@@ -101,7 +109,7 @@ impl Names {
 
 impl Copies for Names {
     fn copy(&self) -> Result<Self, AllocError> {
-        let mut copy = Names::new(*self.set.allocator());
+        let mut copy = Names::new(*self.set.allocator(), self.key);
         for place in 0..self.len() {
             let name = self.get(ValueId(place as u32)).copy()?;
             copy.add(name)?;
