@@ -14,7 +14,7 @@ use Rattle.ir_rules.specs.Available.{LocalUse, uses_by, IsUnavailable}
 use Rattle.ir_check_paths.specs.Uses.{Finds, nothing}
 use Rattle.ir_check_paths.specs.Finding.{IsUseOf, IsUseFound, uses_of, placed_at, FindsAt, FindsIn}
 use Rattle.ir_check_paths.proofs.FindsLemmas.{finds_on, finds_first, finds_as}
-use Rattle.ir_check_paths.proofs.Positions.{some_same}
+use Rattle.ir_graph.proofs.Items.{some_same}
 
 -- what is found of the instructions from a place on
 pub FindsFrom : Function → Block → (start place : ℕ) → Option (ValueId × ℕ) → Type 0

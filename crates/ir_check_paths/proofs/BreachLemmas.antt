@@ -15,8 +15,8 @@ use Rattle.ir_rules.specs.Available.{LocalUse, local_uses, module_uses, IsUnavai
 use Rattle.ir_check_paths.specs.Uses.{Finds, nothing, found, behind}
 use Rattle.ir_check_paths.specs.Finding.{IsUseFound, FindsFirst}
 use Rattle.ir_check_paths.specs.Breaking.{breach_of, uses_in, IsBreachAt, FindsBreach}
-use Rattle.ir_check_paths.proofs.Containing.{contains_none, contains_cases}
-use Rattle.ir_check_paths.proofs.Positions.{some_same}
+use Rattle.ir_graph.proofs.Containing.{contains_none, contains_cases}
+use Rattle.ir_graph.proofs.Items.{some_same}
 use Rattle.ir_check_paths.proofs.FindsLemmas.{finds_on, finds_first}
 use Rattle.ir_check_paths.proofs.FunctionLemmas.{drop_got}
 

@@ -19,11 +19,13 @@ use Rattle.ir_types.specs.Tree.{OperandTree, local, number, null, poison, lanes,
 use Rattle.ir_types.specs.Denotes.{Tables, name_in, operand_in, inst_in, block_in, function_in}
 use Rattle.ir_rules.specs.Edges.{Placed}
 use Rattle.ir_rules.specs.Available.{LocalUse, used_at, used_from, IsUnavailable}
-use Rattle.ir_check_paths.specs.Known.{IsReady, ArePlaces}
+use Rattle.ir_graph.specs.Places.{ArePlaces}
+use Rattle.ir_check_paths.specs.Known.{IsReady}
 use Rattle.ir_check_paths.specs.Uses.{Finds, nothing}
 use Rattle.ir_check_paths.specs.Finding.{IsUseOf, FindsOfArgs, FindsOfEntries}
 use Rattle.ir_graph.proofs.Tables.{one_place}
-use Rattle.ir_check_paths.proofs.Positions.{got_mapped, map_got, label_in}
+use Rattle.ir_graph.proofs.Items.{got_mapped, map_got}
+use Rattle.ir_check_paths.proofs.Positions.{label_in}
 use Rattle.ir_check_paths.proofs.FindsLemmas.{finds_on, finds_first, kept_parts}
 
 pub same_name-Decides : (x y : Name) → Decides (same_name x y) (x ≡ y)

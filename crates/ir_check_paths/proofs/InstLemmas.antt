@@ -17,7 +17,7 @@ use Rattle.ir_rules.specs.Available.{LocalUse, used_at, uses_by, IsUnavailable}
 use Rattle.ir_check_paths.specs.Known.{IsReady}
 use Rattle.ir_check_paths.specs.Uses.{Finds}
 use Rattle.ir_check_paths.specs.Finding.{IsUseOf, IsLocalIn, FindsOfArgs, FindsOfEntries, placed_at, FindsAt}
-use Rattle.ir_check_paths.proofs.Positions.{all_got, got_mapped, some_same}
+use Rattle.ir_graph.proofs.Items.{all_got, got_mapped, some_same}
 use Rattle.ir_check_paths.proofs.FindsLemmas.{args_in_place}
 
 pub inst_placed : (f : Function) (r : IsReady f) (k j : ℕ) (b : Block) (i : Inst) → slice_get f.body k ≡ Some b → slice_get b.insts j ≡ Some i → IsInstPlaced r.tables f.names i

@@ -15,8 +15,8 @@ use Rattle.ir_check_paths.specs.declared.origins.Origin.{Origin}
 use Rattle.ir_check_paths.specs.declared.origins.Origin.TheVariants.{Parameter, Result, Unknown}
 use Rattle.ir_check_paths.specs.Setting.{result_set, results_set, blocks_set, params_set}
 use Rattle.ir_check_paths.specs.Known.{IsReady, IsResultAt, IsResultId, IsParamId, AreOrigins}
-use Rattle.ir_check_paths.proofs.Containing.{contains_none, contains_cases, contains_head, contains_tail, contains_slice_get}
-use Rattle.ir_check_paths.proofs.Positions.{all_got, got_mapped, map_got, some_same}
+use Rattle.ir_graph.proofs.Containing.{contains_none, contains_cases, contains_head, contains_tail, contains_slice_get}
+use Rattle.ir_graph.proofs.Items.{all_got, got_mapped, map_got, some_same}
 
 -- ---- sizes
 

@@ -28,8 +28,8 @@ use Rattle.ir_rules.specs.Callees.{unknown_callees}
 use Rattle.ir_rules.specs.WellFormed.{of_rule, type_breaches, edge_breaches, early_breaches}
 use Rattle.ir_graph.specs.Graph.{HasLabelsOnce}
 use Rattle.ir_check_paths.specs.Known.{IsResultAt, HasResultsOnce, IsReady}
-use Rattle.ir_check_paths.proofs.Containing.{contains_head, contains_tail, contains_none, contains_cases, contains_left, contains_right}
-use Rattle.ir_check_paths.proofs.Positions.{some_same}
+use Rattle.ir_graph.proofs.Containing.{contains_head, contains_tail, contains_none, contains_cases, contains_left, contains_right}
+use Rattle.ir_graph.proofs.Items.{some_same}
 
 -- ---- lists in which nothing stands twice
 

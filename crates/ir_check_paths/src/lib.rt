@@ -8,7 +8,6 @@ mod noting;
 mod order;
 mod origins;
 mod passed;
-mod places;
 mod sets;
 mod uses;
 

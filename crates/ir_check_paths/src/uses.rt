@@ -3,7 +3,8 @@ ghost use Rattle.std.specs.Prelude.{◌≡◌, ◌<◌, [], ◌∷◌, IfOk, IfS
 ghost use Rattle.std.specs.List.{All};
 ghost use Rattle.ir_types.specs.declared.inst.Inst.{Inst};
 ghost use Rattle.ir_types.specs.declared.module.Block.{Block};
-ghost use Rattle.ir_check_paths.specs.Known.{IsReady, ArePlaces, AreOrigins};
+ghost use Rattle.ir_graph.specs.Places.{ArePlaces};
+ghost use Rattle.ir_check_paths.specs.Known.{IsReady, AreOrigins};
 ghost use Rattle.ir_check_paths.specs.Uses.{ArePassedIn};
 ghost use Rattle.ir_check_paths.specs.Finding.{IsLocalIn, FindsOfArgs, FindsOfEntries, FindsAt, FindsIn, FindsFirst};
 

@@ -3,6 +3,8 @@
 
 mod branches;
 mod edges;
+mod places;
 
 pub use branches::{edges_from, goes_to};
 pub use edges::Edge;
+pub use places::block_places;

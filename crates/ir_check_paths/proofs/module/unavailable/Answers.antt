@@ -3,7 +3,7 @@ use Rattle.std.proofs.lemmas.Option.{slice_get_read}
 use Rattle.ir_types.specs.declared.module.Function.{Function}
 use Rattle.ir_check_paths.specs.Known.{IsReady}
 use Rattle.ir_check_paths.proofs.FindsLemmas.{some_of, none_of}
-use Rattle.ir_check_paths.proofs.Positions.{all_got}
+use Rattle.ir_graph.proofs.Items.{all_got}
 use Rattle.ir_check_paths.proofs.BreachLemmas.{module_start, module_more, module_stop, module_end, module_answer}
 use Rattle.ir_check_paths.proofs.Once.{all_ready}
 use Rattle.ir_check_paths.proofs.module.unavailable.Goals as goal

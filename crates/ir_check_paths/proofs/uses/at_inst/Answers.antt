@@ -1,5 +1,5 @@
 use Rattle.ir_check_paths.proofs.Deciding.{ok_weaker}
-use Rattle.ir_check_paths.proofs.Containing.{slice_get_in}
+use Rattle.ir_graph.proofs.Containing.{slice_get_in}
 use Rattle.ir_check_paths.proofs.InstLemmas.{args_placed, labels_placed, found_by_args}
 use Rattle.ir_check_paths.proofs.uses.at_inst.Goals as goal
 

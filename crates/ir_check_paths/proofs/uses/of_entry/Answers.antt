@@ -1,6 +1,6 @@
 use Rattle.std.proofs.Common.{◌<◌, ◌∙◌, length, None, sym, arith}
 use Rattle.std.proofs.lemmas.List.{get_or_default}
-use Rattle.ir_check_paths.proofs.Containing.{slice_get_in}
+use Rattle.ir_graph.proofs.Containing.{slice_get_in}
 use Rattle.ir_check_paths.proofs.Deciding.{ok_weaker}
 use Rattle.ir_check_paths.proofs.EntriesLemmas.{entry_at, entry_nowhere, block_found, no_block}
 use Rattle.ir_check_paths.proofs.uses.of_entry.Goals as goal

@@ -1,8 +1,8 @@
 use Rattle.std.proofs.Common.{◌≡◌, List, length, arith, refl, ap, subst, slice_get, Some}
 use Rattle.std.proofs.lemmas.Option.{slice_get_read}
 use Rattle.ir_types.specs.declared.module.Block.{Block}
-use Rattle.ir_check_paths.proofs.Positions.{places_more, all_places}
-use Rattle.ir_check_paths.proofs.places.block_places.Goals as goal
+use Rattle.ir_graph.proofs.BlockPlaces.{places_more, all_places}
+use Rattle.ir_graph.proofs.places.block_places.Goals as goal
 
 pub loop-number-preserved : goal.loop-number-preserved
 loop-number-preserved c =
