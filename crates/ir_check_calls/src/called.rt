@@ -115,6 +115,8 @@ impl<'m> InstRule for Calls<'m> {
 
     ghost names = { λ s. s.function.now.names };
 
+    ghost knows = { λ s i. Unit {0} };
+
     ghost subjects = { λ s i. miscalled_so s.places.now.keys s.module.now.functions i.kind i.ty };
 
     fn broken_by(&self, _alloc: Global, inst: &Inst) -> Result<Option<Subject>, AllocError> {

@@ -17,6 +17,7 @@ use ir_walk::first_broken;
 use std::alloc::{AllocError, Global};
 
 // The first wrong call in functions of a module.
+#[tactic(auto, using(ir_walk::proofs::Found::nothing_known))]
 fn first_miscalled(
     alloc: Global,
     m: &Module,

@@ -47,6 +47,8 @@ impl<'m> InstRule for IntoEntry<'m> {
 
     ghost names = { λ s. s.function.now.names };
 
+    ghost knows = { λ s i. Unit {0} };
+
     ghost subjects = { λ s i. map Local (filter (same_name (name_in s.function.now.names s.entry)) (targets_of i)) };
 
     fn broken_by(&self, _alloc: Global, inst: &Inst) -> Result<Option<Subject>, AllocError> {
@@ -55,6 +57,7 @@ impl<'m> InstRule for IntoEntry<'m> {
 }
 
 // The first branch to a function's entry.
+#[tactic(auto, using(ir_walk::proofs::Found::nothing_known))]
 fn entered(alloc: Global, m: &Module, function: &Function) -> Result<Option<Breach>, AllocError>
     ensures { IfOk result (λ found. found ≡ entered_in m.now function.now) }
 {

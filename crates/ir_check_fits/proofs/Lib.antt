@@ -3,6 +3,7 @@ pub mod Led
 pub mod Named
 pub mod Powers
 pub mod Accesses
+pub mod Here
 pub mod Insts
 pub mod Firsts
 pub mod Sizeless

@@ -17,7 +17,6 @@ mod locals;
 mod masked;
 mod numbers;
 mod operands;
-mod places;
 mod rule;
 mod steps;
 mod symbols;

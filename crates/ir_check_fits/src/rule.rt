@@ -5,7 +5,6 @@ ghost use Rattle.ir_check_fits.specs.Sites.{inst_at, IsNamed};
 
 use crate::around::Around;
 use crate::inst::inst_fits;
-use crate::places::is_inst_here;
 use ir_rules::Subject;
 use ir_types::Inst;
 use ir_walk::InstRule;
@@ -26,19 +25,18 @@ fn result_of(x: &Around<'_>, inst: &Inst) -> Result<Subject, AllocError>
 impl<'m> InstRule for Around<'m> {
     ghost use Rattle.ir_types.specs.Denotes.{tables_of};
     ghost use Rattle.ir_rules.specs.Mismatch.{misfits};
-    ghost use Rattle.ir_check_fits.specs.Sites.{around_at};
+    ghost use Rattle.ir_check_fits.specs.Sites.{around_at, IsInstHere};
+    ghost use Rattle.std.specs.Prelude.{length};
 
     ghost tables = { λ s. tables_of s.whole };
 
     ghost names = { λ s. s.part.names };
 
+    ghost knows = { λ s i. IsInstHere (length s.part.names) i };
+
     ghost subjects = { λ s. misfits (around_at s) };
 
-    // A place that the table lacks, which no module has, is no case of the rule.
     fn broken_by(&self, _alloc: Global, inst: &Inst) -> Result<Option<Subject>, AllocError> {
-        if !is_inst_here(self.function().names.len(), inst) {
-            return Err(AllocError);
-        }
         if inst_fits(self, inst) {
             return Ok(None);
         }

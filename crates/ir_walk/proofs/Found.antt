@@ -1,15 +1,15 @@
 -- What is found first in instructions behind one another.
-use Rattle.std.proofs.Common.{◌≡◌, ℕ, zero, suc, ◌+◌, List, [], ◌∷◌, ◌++◌, map, length, Option, Some, None, refl, sym, ap, ◌∙◌, arith}
+use Rattle.std.proofs.Common.{◌≡◌, ℕ, suc, ◌+◌, List, [], ◌∷◌, ◌++◌, map, length, Option, Some, None, refl, sym, ap, ◌∙◌, arith}
 use Rattle.std.specs.Option.{option_map}
-use Rattle.text_forms.specs.Nested.{concat}
+use Rattle.std.specs.List.{AllByRecursion}
 use Rattle.ir_types.specs.declared.name.Name.{Name}
+use Rattle.ir_types.specs.declared.inst.Inst.{Inst}
 use Rattle.ir_types.specs.declared.module.Block.{Block}
 use Rattle.ir_types.specs.Tree.{InstTree, BlockTree}
 use Rattle.ir_types.specs.Denotes.{Tables, inst_in, block_in}
 use Rattle.ir_rules.specs.declared.fault.Subject.{Subject}
-use Rattle.ir_rules.specs.declared.fault.Breach.{Breach}
-use Rattle.ir_rules.specs.Breaches.{first, Found, inside, all_at, numbered_from}
-use Rattle.ir_walk.specs.Walk.{found_from, insts_in}
+use Rattle.ir_rules.specs.Breaches.{first, Found, inside, all_at}
+use Rattle.ir_walk.specs.Walk.{found_from, insts_in, AreKnown}
 
 -- what is first, or else what another list has first
 abbrev pub or_first : {A : Type 0} → Option A → Option A → Option A
@@ -72,3 +72,13 @@ block_found S t ns n b bs x whole h e = block_is S n (block_in t ns b) (map (blo
 -- and where that has none, what is found behind it
 pub block_passed : (S : InstTree → List Subject) (t : Tables) (ns : List Name) (n k : ℕ) (b : Block) (bs : List Block) (whole : Option Found) → first (found_from S n (insts_in (map (block_in t ns) (b ∷ bs)))) ≡ whole → None ≡ first (found_from S n (map (inst_in t ns) b.insts)) → k ≡ n + length b.insts → first (found_from S k (insts_in (map (block_in t ns) bs))) ≡ whole
 block_passed S t ns n k b bs whole h e is = ap (λ j. first (found_from S j (insts_in (map (block_in t ns) bs)))) (is ∙ ap (λ j. n + j) (sym (length_each (inst_in t ns) b.insts))) ∙ block_is_not S n (block_in t ns b) (map (block_in t ns) bs) whole h e
+
+-- ---- what is known
+
+of_each : {A : Type 0} (P : A → Type 0) → ((a : A) → P a) → (xs : List A) → AllByRecursion P xs
+of_each P h [] = tt
+of_each P h (x ∷ xs) = (h x, of_each P h xs)
+
+-- nothing is known of each instruction
+pub nothing_known : (blocks : List Block) → AreKnown (λ (i : Inst). Unit {0}) blocks
+nothing_known blocks = of_each (λ (b : Block). AllByRecursion (λ (i : Inst). Unit {0}) b.insts) (λ b. of_each (λ (i : Inst). Unit {0}) (λ i. tt) b.insts) blocks

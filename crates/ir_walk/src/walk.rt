@@ -4,11 +4,12 @@ ghost use Rattle.std.specs.Prelude.{◌≡◌, ◌+◌, List, length, map, IfOk}
 ghost use Rattle.std.specs.Option.{option_map};
 ghost use Rattle.std.specs.List.{AllByRecursion};
 ghost use Rattle.ir_types.specs.declared.name.Name.{Name};
+ghost use Rattle.ir_types.specs.declared.inst.Inst.{Inst};
 ghost use Rattle.ir_types.specs.Tree.{InstTree};
 ghost use Rattle.ir_types.specs.Denotes.{Tables, inst_in, block_in, function_in};
 ghost use Rattle.ir_rules.specs.declared.fault.Subject.{Subject};
 ghost use Rattle.ir_rules.specs.Breaches.{first, inside, in_insts};
-ghost use Rattle.ir_walk.specs.Walk.{found_from, insts_in};
+ghost use Rattle.ir_walk.specs.Walk.{found_from, insts_in, AreKnown};
 
 use ir_rules::{Breach, Subject};
 use ir_types::{Block, Function, Inst};
@@ -21,11 +22,14 @@ pub trait InstRule {
     ghost tables: { Self → Tables };
     /// The names of the function.
     ghost names: { Self → List Name };
+    /// What is known of each instruction that is looked at.
+    ghost knows: { Self → Inst → Type 0 };
     /// Of what an instruction breaks the rule, in the text's order.
     ghost subjects: { Self → InstTree → List Subject };
 
     /// The first of what the instruction breaks the rule of.
     fn broken_by(&self, alloc: Global, inst: &Inst) -> Result<Option<Subject>, AllocError>
+        requires { knows self.now inst.now }
         ensures { IfOk result (λ s. s ≡ first
             (subjects self.now (inst_in (tables self.now) (names self.now) inst.now))) };
 }
@@ -37,6 +41,7 @@ fn in_slice<R: InstRule>(
     insts: &[Inst],
     start: u32,
 ) -> Result<Option<(Subject, u32)>, AllocError>
+    requires { AllByRecursion (R.knows rule.now) insts.now }
     ensures { IfOk result (λ s. s ≡ first
         (found_from (R.subjects rule.now) start
         (map (inst_in (R.tables rule.now) (R.names rule.now)) insts.now))) }
@@ -67,6 +72,7 @@ fn in_blocks<R: InstRule>(
     rule: &R,
     blocks: &[Block],
 ) -> Result<Option<(Subject, u32)>, AllocError>
+    requires { AreKnown (R.knows rule.now) blocks.now }
     ensures { IfOk result (λ s. s ≡ first
         (found_from (R.subjects rule.now) 0
         (insts_in (map (block_in (R.tables rule.now) (R.names rule.now)) blocks.now)))) }
@@ -93,7 +99,8 @@ pub fn first_broken<R: InstRule>(
     rule: &R,
     function: &Function,
 ) -> Result<Option<Breach>, AllocError>
-    requires { R.names rule.now ≡ function.now.names }
+    requires names { R.names rule.now ≡ function.now.names }
+    requires known { AreKnown (R.knows rule.now) function.now.body }
     ensures { IfOk result (λ b. b ≡ first
         (map (inside function.now.name)
         (in_insts (R.subjects rule.now) (function_in (R.tables rule.now) function.now)))) }
