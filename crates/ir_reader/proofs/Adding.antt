@@ -8,9 +8,10 @@ use Rattle.ir_types.specs.Offsets.{as_definition}
 use Rattle.ir_types.specs.Skimmed.{Skimmed}
 use Rattle.ir_types.specs.Tree.{KeptTexts, Item, head_line, comdat_line, variable_item, function_item, attribute_line, metadata_line}
 use Rattle.ir_reader_items.specs.declared.part.Definition.{Definition}
+use Rattle.ir_reader_items.specs.declared.part.Part.{Part}
 use Rattle.ir_reader_items.specs.declared.part.Variable.{Variable}
 use Rattle.ir_reader_items.specs.declared.source.FunctionSource.{FunctionSource}
-use Rattle.ir_reader_items.specs.Parts.{variable_of}
+use Rattle.ir_reader_items.specs.Parts.{variable_of, item_of}
 use Rattle.ir_reader_items.specs.Parts.{definition_of as item_of_definition}
 use Rattle.ir_reader.specs.declared.gather.Gathered.{Gathered}
 use Rattle.ir_reader.specs.declared.longs.ItemLong.{ItemLong}
@@ -45,6 +46,10 @@ holds_more g n items i h a = record {
   metadata = one_kind metadata_among items i g.metadata.items n.metadata.items h.metadata a.metadata;
   longs = a.longs ∙ ap (λ (l : List ItemLong). l ++ long_of i ∷ []) h.longs ∙ sym (map_push long_of items i);
 }
+
+-- what is known of a part's names, put behind the others
+pub one_more_long : {p q : Part} {long : ItemLong} {old new : List ItemLong} → p ≡ q → long ≡ long_of (item_of p) → new ≡ old ++ long ∷ [] → new ≡ old ++ long_of (item_of q) ∷ []
+one_more_long {p} {q} {long} {old} same known added = added ∙ ap (λ (l : ItemLong). old ++ l ∷ []) (known ∙ ap (λ (x : Part). long_of (item_of x)) same)
 
 -- ---- an item of each kind
 

@@ -1,5 +1,5 @@
 -- Items, gathered by their kinds: functions by their outlines.
-use Rattle.std.specs.Prelude.{◌≡◌, ℕ, List, [], ◌∷◌, map, Option, Some, None}
+use Rattle.std.specs.Prelude.{◌≡◌, ℕ, List, [], ◌∷◌, ◌++◌, map, Option, Some, None}
 use Rattle.std.specs.List.{filter_map}
 use Rattle.std.specs.Option.{option_map}
 use Rattle.ir_types.specs.declared.name.Name.{Name}
@@ -10,8 +10,9 @@ use Rattle.ir_types.specs.Tree.{KeptTexts, VariableTree, FunctionTree, Item, hea
 use Rattle.ir_limits.specs.Mentioned.{in_definition, in_function}
 use Rattle.ir_limits.specs.Limits.{or_else, first_long}
 use Rattle.ir_reader_items.specs.declared.part.Definition.{Definition}
+use Rattle.ir_reader_items.specs.declared.part.Part.{Part}
 use Rattle.ir_reader_items.specs.declared.source.FunctionSource.{FunctionSource}
-use Rattle.ir_reader_items.specs.Parts.{nodes_of, variable_of, outline_of}
+use Rattle.ir_reader_items.specs.Parts.{nodes_of, variable_of, outline_of, item_of}
 use Rattle.ir_reader.specs.declared.gather.Gathered.{Gathered}
 use Rattle.ir_reader.specs.declared.longs.ItemLong.{ItemLong}
 use Rattle.ir_reader.specs.declared.longs.ItemLong.TheVariants.{Known, OfFunction}
@@ -81,3 +82,7 @@ pub record Holds (g : Gathered) (items : List (Item Skimmed)) : Type 0 where
   pub metadata : g.metadata.items ≡ filter_map metadata_among items
   -- what is known of the names of each item
   pub longs : g.longs.items ≡ map long_of items
+
+-- whatever items the lists had, they have this one behind them
+abbrev pub HoldsOneMore : Gathered → Part → Gathered → Type 0
+HoldsOneMore old part new = (items : List (Item Skimmed)) → Holds old items → Holds new (items ++ item_of part ∷ [])

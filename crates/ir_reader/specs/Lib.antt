@@ -3,3 +3,5 @@ pub mod Typed
 pub mod Gathered
 pub mod Reading
 pub mod Refusal
+pub mod Bodies
+pub mod Built

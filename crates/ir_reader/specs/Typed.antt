@@ -1,5 +1,6 @@
 -- What is made of definitions, variables and functions before functions are read.
 use Rattle.std.specs.Prelude.{◌≡◌, ◌<◌, ℕ, List, [], ◌∷◌, ◌++◌, length, map, Some}
+use Rattle.std.specs.Global.{Vec}
 use Rattle.std.specs.Option.{option_map}
 use Rattle.std.specs.List.{AllByRecursion, filter_map, range_with_len}
 use Rattle.text_forms.specs.Nested.{concat}
@@ -7,12 +8,13 @@ use Rattle.text_forms.specs.View.{Extends}
 use Rattle.ir_types.specs.declared.name.Name.{Name}
 use Rattle.ir_types.specs.declared.module.Symbol.{Symbol}
 use Rattle.ir_types.specs.declared.memory_type.MemTy.{MemTy}
+use Rattle.ir_types.specs.declared.memory_type.TypeId.{TypeId}
 use Rattle.ir_types.specs.declared.memory_type.TypeName.{TypeName}
 use Rattle.ir_types.specs.declared.memory_type.NamedType.{NamedType}
 use Rattle.ir_types.specs.declared.memory_type.NamedType.TheVariants.{Defined, Opaque, Missing}
 use Rattle.ir_types.specs.Names.{unknown}
 use Rattle.ir_types.specs.Types.{AreTypes}
-use Rattle.ir_types.specs.TypeNodes.{names_used}
+use Rattle.ir_types.specs.TypeNodes.{type_nodes, names_used}
 use Rattle.ir_types.specs.Tree.{SymbolTree}
 use Rattle.ir_types.specs.Collected.{of_definition}
 use Rattle.ir_types.specs.Used.{types_of_definition, with_unknown}
@@ -21,10 +23,11 @@ use Rattle.ir_reader_types.specs.TypeTable.{names_of, missing_entry}
 use Rattle.ir_reader_types.specs.Tables.{TableLists, definition_over, definitions_of, Grows, IsDefinedBefore, AreEntriesApart}
 use Rattle.ir_reader_items.specs.declared.part.Definition.{Definition}
 use Rattle.ir_reader_items.specs.declared.part.Variable.{Variable}
+use Rattle.ir_reader_items.specs.declared.source.TypeSource.{TypeSource}
 use Rattle.ir_reader_items.specs.declared.source.FunctionSource.{FunctionSource}
 use Rattle.ir_reader_items.specs.Parts.{nodes_of}
 use Rattle.ir_reader.specs.Gathered.{definition_of}
-use Rattle.ir_reader.specs.Trees.{symbol_over, variable_symbol, function_named}
+use Rattle.ir_reader.specs.Trees.{stands_for, defined_as, symbol_over, variable_symbol, function_named, function_symbols}
 
 -- This says the tree, over these names and types and over all that follow.
 abbrev pub Stands : {B C : Type 0} → (List Name → List MemTy → B → C) → List TypeName → List MemTy → B → C → Type 0
@@ -40,6 +43,10 @@ pub record Made {A B C : Type 0} (over : List Name → List MemTy → B → C) (
   pub are : AreTypes (names_of names) 0 types
   pub names_grow : LooksUpNames base (concat (map uses done)) names
   pub stands : Stands (λ ns ts bs. map (over ns ts) bs) names types made (map tree done)
+
+-- the names of types that the type there uses
+abbrev pub source_uses : TypeSource → List Name
+source_uses s = names_used (nodes_of s)
 
 -- the names of types that a definition uses
 abbrev pub definition_uses : Definition → List Name
@@ -58,6 +65,34 @@ abbrev pub StandsBefore : ℕ → NamedType → Type 0
 StandsBefore i (Defined id) = id.0 < i
 StandsBefore i Opaque = Unit {0}
 StandsBefore i Missing = Unit {0}
+
+-- all of them do
+abbrev pub AllStandBefore : ℕ → Vec NamedType → Type 0
+AllStandBefore i tys = AllByRecursion (StandsBefore i) tys.items
+
+-- over these names and types, the place is that of the type that stands there
+abbrev pub IsTypeOf : TypeSource → List TypeName → List MemTy → TypeId → Type 0
+IsTypeOf s names types id = Stands type_nodes names types id (nodes_of s)
+
+-- and this is what the definition says
+abbrev pub IsDefinedAs : Definition → List TypeName → List MemTy → NamedType → Type 0
+IsDefinedAs d names types ty = Stands stands_for names types ty (defined_as d)
+
+-- these are what the definitions say, made in their order
+abbrev pub AreDefinedAs : List TypeName → List MemTy → List Definition → List TypeName → List MemTy → Vec NamedType → Type 0
+AreDefinedAs base start definitions names types tys = Made stands_for defined_as definition_uses base start definitions tys.items names types
+
+-- the symbol is the variable's
+abbrev pub IsSymbolOf : Variable → List TypeName → List MemTy → Symbol → Type 0
+IsSymbolOf v names types s = Stands symbol_over names types s (Some (variable_symbol v))
+
+-- the symbols are those of the variables, made in their order
+abbrev pub AreSymbolsOf : List TypeName → List MemTy → List Variable → List TypeName → List MemTy → Vec Symbol → Type 0
+AreSymbolsOf base start variables names types symbols = Made symbol_over (λ (v : Variable). Some (variable_symbol v)) variable_uses base start variables symbols.items names types
+
+-- the symbols of functions, in their order
+abbrev pub source_symbols : List FunctionSource → List Symbol
+source_symbols fs = function_symbols 0 (map (λ (f : FunctionSource). f.name) fs)
 
 -- the entries, where the first of them stand for these
 abbrev pub with_types : List TypeName → List NamedType → List TypeName

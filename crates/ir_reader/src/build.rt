@@ -1,14 +1,8 @@
 // A module of its gathered items.
 
-ghost use Rattle.std.specs.Prelude.{◌≡◌, ◌++◌, List, map, IfOk};
-ghost use Rattle.ir_types.specs.Tree.{Item};
-ghost use Rattle.ir_types.specs.Skimmed.{Skimmed};
-ghost use Rattle.ir_types.specs.Denotes.{function_in};
-ghost use Rattle.ir_limits.specs.Limits.{passed_by};
-ghost use Rattle.ir_reader.specs.Gathered.{Holds, long_among};
+ghost use Rattle.std.specs.Prelude.{◌≡◌, ◌++◌, IfOk};
 ghost use Rattle.ir_reader.specs.Typed.{AreTyped, ArePrepared};
-ghost use Rattle.ir_reader.specs.Reading.{filled_items, GivesModule};
-ghost use Rattle.ir_reader.specs.Trees.{tables_in_parts};
+ghost use Rattle.ir_reader.specs.Built.{IsFirstPassed, GivesModuleOf};
 
 use crate::functions::{functions, try_function};
 use crate::gather::Gathered;
@@ -110,7 +104,7 @@ fn first_passed(
     parts: &TableParts,
     functions: &[Function],
 ) -> Result<Option<(Count, u64)>, AllocError>
-    ensures { IfOk result (λ p. let fs = map (function_in (tables_in_parts parts.now)) functions.now in p ≡ passed_by fs (long_among longs.now fs)) }
+    ensures { IfOk result (IsFirstPassed longs.now parts.now functions.now) }
 {
     let tables = LongNames::new(
         alloc,
@@ -136,7 +130,7 @@ pub fn module(
     alloc: Global,
     gathered: Gathered<'_>,
 ) -> Result<(Module, Option<(Count, u64)>), SyntaxFault>
-    ensures { (items : List (Item Skimmed)) → Holds gathered.entry items → GivesModule (filled_items items) result }
+    ensures { GivesModuleOf gathered.entry result }
 {
     let Gathered {
         head,

@@ -1,17 +1,11 @@
 // Functions are read, when it is known what names of types stand for.
 
-ghost use Rattle.std.specs.Prelude.{◌≡◌, map, IfOk};
-ghost use Rattle.std.specs.List.{AllByRecursion};
+ghost use Rattle.std.specs.Prelude.{IfOk};
 ghost use Rattle.text_forms.specs.Gives.{Gives};
-ghost use Rattle.text_forms.specs.Nested.{concat};
-ghost use Rattle.ir_types.specs.declared.module.Function.{Function};
 ghost use Rattle.ir_types.specs.Names.{IsTable};
-ghost use Rattle.ir_types.specs.Denotes.{function_in};
-ghost use Rattle.ir_types.specs.Used.{insts_of};
-ghost use Rattle.ir_reader_types.specs.Tables.{TableLists, tables_in, definitions_of, Grows};
-ghost use Rattle.ir_reader_types.specs.Uses.{InstsUse};
-ghost use Rattle.ir_reader.specs.Gathered.{skimmed_of};
-ghost use Rattle.ir_reader.specs.Reading.{function_read, functions_read};
+ghost use Rattle.ir_reader_types.specs.Tables.{Grows};
+ghost use Rattle.ir_reader_functions.specs.Functions.{function_there, FunctionStays, FunctionUses};
+ghost use Rattle.ir_reader.specs.Bodies.{source_read, sources_read, functions_there, AreNamedByTables, FunctionsUse};
 
 use ir_reader_functions::{declared, defined};
 use ir_reader_items::FunctionSource;
@@ -27,10 +21,10 @@ fn function(
     tables: &mut Tables,
 ) -> Result<Function, SyntaxFault>
     ensures grows { Grows tables.old tables.new }
-    ensures reads { Gives (λ f. function_in (tables_in tables.new) f) result (function_read (definitions_of tables.old) (skimmed_of source.now)) }
-    ensures stays { IfOk result (λ f. (later : TableLists) → Grows tables.new later → function_in (tables_in later) f ≡ function_in (tables_in tables.new) f) }
+    ensures reads { Gives (function_there tables.new) result (source_read tables.old source.now) }
+    ensures stays { IfOk result (λ f. FunctionStays tables.new f) }
     ensures table { IfOk result (λ f. IsTable f.names) }
-    ensures uses { IfOk result (λ f. InstsUse tables.old (insts_of (function_in (tables_in tables.new) f)) tables.new) }
+    ensures uses { IfOk result (λ f. FunctionUses tables.old (function_there tables.new f) tables.new) }
 {
     if source.defined {
         let (function, _) = defined(alloc, source.tokens, tables)?;
@@ -47,9 +41,9 @@ pub fn functions(
     tables: &mut Tables,
 ) -> Result<Vec<Function>, SyntaxFault>
     ensures grows { Grows tables.old tables.new }
-    ensures reads { Gives (λ fs. map (function_in (tables_in tables.new)) fs.items) result (functions_read (definitions_of tables.old) (map skimmed_of sources.now)) }
-    ensures tables { IfOk result (λ fs. AllByRecursion (λ (f : Function). IsTable f.names) fs.items) }
-    ensures uses { IfOk result (λ fs. InstsUse tables.old (concat (map insts_of (map (function_in (tables_in tables.new)) fs.items))) tables.new) }
+    ensures reads { Gives (functions_there tables.new) result (sources_read tables.old sources.now) }
+    ensures tables { IfOk result (λ fs. AreNamedByTables fs.items) }
+    ensures uses { IfOk result (λ fs. FunctionsUse tables.old (functions_there tables.new fs) tables.new) }
 {
     let mut functions = Vec::with_capacity(alloc, sources.len())?;
     for source in sources {

@@ -1,11 +1,8 @@
 // The items of a module, gathered by their kinds.
 
-ghost use Rattle.std.specs.Prelude.{◌≡◌, ◌++◌, ◌∷◌, [], List, OnOk};
+ghost use Rattle.std.specs.Prelude.{[], OnOk};
 ghost use Rattle.text_forms.specs.Gives.{left};
-ghost use Rattle.ir_types.specs.Tree.{Item};
-ghost use Rattle.ir_types.specs.Skimmed.{Skimmed};
-ghost use Rattle.ir_reader_items.specs.Parts.{item_of};
-ghost use Rattle.ir_reader.specs.Gathered.{Holds};
+ghost use Rattle.ir_reader.specs.Gathered.{Holds, HoldsOneMore};
 ghost use Rattle.ir_reader.specs.Reading.{GivesItems};
 
 use crate::longs::{ItemLong, long_in};
@@ -54,7 +51,7 @@ impl<'t> Gathered<'t> {
 
     /// Adds an item behind the others.
     fn add(&mut self, part: Part<'t>) -> Result<(), AllocError>
-        ensures ok { OnOk result ((items : List (Item Skimmed)) → Holds self.old items → Holds self.new (items ++ item_of part.entry ∷ [])) }
+        ensures ok { OnOk result (HoldsOneMore self.old part.entry self.new) }
     {
         self.longs.push(long_in(&part))?;
         match part {

@@ -1,14 +1,10 @@
 // The names of types, and what they stand for.
 
 ghost use Rattle.std.specs.Prelude.{◌≡◌, ◌≤◌, ◌<◌, length, map, IfOk, OnOk};
-ghost use Rattle.std.specs.List.{AllByRecursion};
 ghost use Rattle.text_forms.specs.View.{Extends};
-ghost use Rattle.ir_types.specs.TypeNodes.{type_nodes, names_used};
 ghost use Rattle.ir_types.specs.Types.{AreTypes};
 ghost use Rattle.ir_reader_types.specs.TypeTable.{names_of, missing_entry};
-ghost use Rattle.ir_reader_items.specs.Parts.{nodes_of};
-ghost use Rattle.ir_reader.specs.Trees.{stands_for, defined_as};
-ghost use Rattle.ir_reader.specs.Typed.{LooksUpNames, Stands, Made, definition_uses, StandsBefore, with_types};
+ghost use Rattle.ir_reader.specs.Typed.{LooksUpNames, IsTypeOf, IsDefinedAs, AreDefinedAs, AllStandBefore, source_uses, definition_uses, StandsBefore, with_types};
 
 use ir_reader_items::{Definition, TypeSource};
 use ir_reader_types::{TypeNames, memory_type};
@@ -27,8 +23,8 @@ pub fn type_at(
     requires { AreTypes (names_of names.old) 0 types.old.items }
     ensures types_grow { Extends types.old.items types.new.items }
     ensures are { OnOk result (AreTypes (names_of names.new) 0 types.new.items) }
-    ensures names_grow { IfOk result (λ id. LooksUpNames names.old (names_used (nodes_of source.entry)) names.new) }
-    ensures stands { IfOk result (λ id. Stands type_nodes names.new types.new.items id (nodes_of source.entry)) }
+    ensures names_grow { IfOk result (λ id. LooksUpNames names.old (source_uses source.entry) names.new) }
+    ensures stands { IfOk result (IsTypeOf source.entry names.new types.new.items) }
     ensures within { IfOk result (λ id. id.0 < length types.new.items) }
 {
     match memory_type(alloc, source.tokens, types, names) {
@@ -60,7 +56,7 @@ fn named_type(
     ensures types_grow { Extends types.old.items types.new.items }
     ensures are { OnOk result (AreTypes (names_of names.new) 0 types.new.items) }
     ensures names_grow { IfOk result (λ ty. LooksUpNames names.old (definition_uses definition.now) names.new) }
-    ensures stands { IfOk result (λ ty. Stands stands_for names.new types.new.items ty (defined_as definition.now)) }
+    ensures stands { IfOk result (IsDefinedAs definition.now names.new types.new.items) }
     ensures within { IfOk result (StandsBefore (length types.new.items)) }
 {
     match definition.ty {
@@ -80,8 +76,8 @@ pub fn named_types(
     names: &mut TypeNames,
 ) -> Result<Vec<NamedType>, AllocError>
     requires { AreTypes (names_of names.old) 0 types.old.items }
-    ensures made { IfOk result (λ named. Made stands_for defined_as definition_uses names.old types.old.items definitions.now named.items names.new types.new.items) }
-    ensures within { IfOk result (λ named. AllByRecursion (StandsBefore (length types.new.items)) named.items) }
+    ensures made { IfOk result (AreDefinedAs names.old types.old.items definitions.now names.new types.new.items) }
+    ensures within { IfOk result (AllStandBefore (length types.new.items)) }
 {
     let mut named = Vec::with_capacity(alloc, definitions.len())?;
     for definition in definitions {

@@ -1,14 +1,12 @@
 // The symbols of variables and of functions, and those that are only used.
 
-ghost use Rattle.std.specs.Prelude.{◌≡◌, ◌≤◌, ◌++◌, length, map, drop, Some, IfOk, OnOk};
+ghost use Rattle.std.specs.Prelude.{◌≡◌, ◌≤◌, ◌++◌, length, map, drop, IfOk, OnOk};
 ghost use Rattle.text_forms.specs.View.{Extends};
 ghost use Rattle.ir_types.specs.declared.module.Symbol.{Symbol};
 ghost use Rattle.ir_types.specs.Types.{AreTypes};
 ghost use Rattle.ir_reader_types.specs.TypeTable.{names_of};
-ghost use Rattle.ir_reader_items.specs.declared.part.Variable.{Variable};
-ghost use Rattle.ir_reader_items.specs.declared.source.FunctionSource.{FunctionSource};
-ghost use Rattle.ir_reader.specs.Trees.{symbol_over, variable_symbol, function_symbol, function_symbols, missing_symbol};
-ghost use Rattle.ir_reader.specs.Typed.{LooksUpNames, Stands, Made, variable_uses};
+ghost use Rattle.ir_reader.specs.Trees.{function_symbol, missing_symbol};
+ghost use Rattle.ir_reader.specs.Typed.{LooksUpNames, IsSymbolOf, AreSymbolsOf, source_symbols, variable_uses};
 
 use crate::named::type_at;
 use ir_reader_items::{FunctionSource, Variable};
@@ -28,7 +26,7 @@ fn variable_symbol(
     ensures types_grow { Extends types.old.items types.new.items }
     ensures are { OnOk result (AreTypes (names_of names.new) 0 types.new.items) }
     ensures names_grow { IfOk result (λ s. LooksUpNames names.old (variable_uses variable.entry) names.new) }
-    ensures stands { IfOk result (λ s. Stands symbol_over names.new types.new.items s (Some (variable_symbol variable.entry))) }
+    ensures stands { IfOk result (IsSymbolOf variable.entry names.new types.new.items) }
 {
     let Variable {
         name,
@@ -54,7 +52,7 @@ pub fn variable_symbols(
     names: &mut TypeNames,
 ) -> Result<Vec<Symbol>, AllocError>
     requires { AreTypes (names_of names.old) 0 types.old.items }
-    ensures { IfOk result (λ symbols. Made symbol_over (λ (v : Variable). Some (variable_symbol v)) variable_uses names.old types.old.items variables.entry.items symbols.items names.new types.new.items) }
+    ensures { IfOk result (AreSymbolsOf names.old types.old.items variables.entry.items names.new types.new.items) }
 {
     let mut symbols = Vec::with_capacity(alloc, variables.len())?;
     for variable in variables {
@@ -82,7 +80,7 @@ pub fn add_functions(
     functions: &[FunctionSource<'_>],
     symbols: &mut Vec<Symbol>,
 ) -> Result<(), AllocError>
-    ensures { OnOk result (symbols.new.items ≡ symbols.old.items ++ function_symbols 0 (map (λ (f : FunctionSource). f.name) functions.now)) }
+    ensures { OnOk result (symbols.new.items ≡ symbols.old.items ++ source_symbols functions.now) }
 {
     for (place, function) in functions.iter().enumerate() {
         let Ok(place) = u32::try_from(place) else {

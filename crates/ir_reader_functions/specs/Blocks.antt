@@ -1,5 +1,7 @@
 -- A block is read part after part.
 use Rattle.std.specs.Prelude.{ℕ, List, [], ◌∷◌, ◌++◌, map, Option, Some}
+use Rattle.std.specs.Global.{Vec}
+use Rattle.ir_reader_types.specs.Uses.{InstsUse}
 use Rattle.text_forms.specs.Form.{Lexeme, optional, many}
 use Rattle.text_forms.specs.Reading.{◌>>=◌, read}
 use Rattle.text_forms.specs.Walk.{walk, completed}
@@ -17,6 +19,14 @@ use Rattle.ir_types.specs.Numbered.{named, numbered_inst}
 -- instructions, with the names in them
 abbrev pub insts_in : Scope → List Inst → List InstTree
 insts_in s is = map (inst_seen s) is
+
+-- those of a list
+abbrev pub all_insts : Scope → Vec Inst → List InstTree
+all_insts s is = insts_in s is.items
+
+-- the tables of the new scope have what these instructions use
+abbrev pub BlockUses : Scope → List InstTree → Scope → Type 0
+BlockUses old insts new = InstsUse old.tables insts new.tables
 
 -- a block, with the names in it
 abbrev pub block_seen : Scope → Block → BlockTree

@@ -1,16 +1,9 @@
 // Blocks.
 
 ghost use Rattle.std.specs.Prelude.{◌≡◌, [], IfOk};
-ghost use Rattle.text_forms.specs.declared.TokenKind.TheVariants.{Label};
-ghost use Rattle.text_forms.specs.Form.{many, optional, pair};
-ghost use Rattle.text_forms.specs.Reading.{read};
-ghost use Rattle.text_forms.specs.Walk.{walk, completed};
-ghost use Rattle.text_forms.specs.Gives.{Gives, left};
-ghost use Rattle.ir_types.specs.Grammar.{label, operation, terminator, line as line_form, block};
-ghost use Rattle.ir_types.specs.Numbered.{named, numbered_inst, numbered_block};
-ghost use Rattle.ir_reader_types.specs.Uses.{InstsUse};
 ghost use Rattle.ir_reader_values.specs.Seen.{name_seen, definitions, Widens, Stays};
-ghost use Rattle.ir_reader_functions.specs.Blocks.{insts_in, block_seen, block_read};
+ghost use Rattle.ir_reader_functions.specs.Blocks.{insts_in, all_insts, block_seen, block_read, BlockUses};
+ghost use Rattle.ir_reader_functions.specs.Counted.{ReadsOn, operations_read, block_name_read, whole_block_read};
 
 use crate::line::{begins_line, line};
 use crate::numbering::{Numbering, scoped_id};
@@ -38,9 +31,9 @@ fn operations<'t>(
     numbering: &mut Numbering,
 ) -> Result<(Vec<Inst>, Cursor<'t>), SyntaxFault>
     ensures grows { Widens scope.old scope.new }
-    ensures reads { Gives (λ x. ((insts_in scope.new x.0.items, numbering.new.next), left x.1)) result (completed (walk numbered_inst numbering.old.next) (read (many (line_form (operation (definitions scope.old)))) (left tokens.entry))) }
-    ensures stays { Stays (λ s x. insts_in s x.items) scope.new result }
-    ensures uses { IfOk result (λ x. InstsUse scope.old.tables (insts_in scope.new x.0.items) scope.new.tables) }
+    ensures reads { ReadsOn (all_insts scope.new) (operations_read scope.old) numbering.old numbering.new tokens.entry result }
+    ensures stays { Stays all_insts scope.new result }
+    ensures uses { IfOk result (λ x. BlockUses scope.old (all_insts scope.new x.0) scope.new) }
 {
     let (mut insts, mut rest) = no_insts(alloc, tokens);
     'more: while begins_line(Place::Inside, rest) {
@@ -60,7 +53,7 @@ fn block_name<'t>(
     numbering: &mut Numbering,
 ) -> Result<(ValueId, Cursor<'t>), SyntaxFault>
     ensures grows { Widens scope.old scope.new }
-    ensures reads { Gives (λ x. ((name_seen scope.new x.0, numbering.new.next), left x.1)) result (completed (named numbering.old.next) (read (optional label) (left tokens.entry))) }
+    ensures reads { ReadsOn (name_seen scope.new) block_name_read numbering.old numbering.new tokens.entry result }
     ensures stays { Stays name_seen scope.new result }
     ensures tables { scope.new.tables ≡ scope.old.tables }
 {
@@ -81,9 +74,9 @@ fn parts<'t>(
     numbering: &mut Numbering,
 ) -> Result<(Block, Cursor<'t>), SyntaxFault>
     ensures grows { Widens scope.old scope.new }
-    ensures reads { Gives (λ x. ((block_seen scope.new x.0, numbering.new.next), left x.1)) result (block_read (definitions scope.old) numbering.old.next (left tokens.entry)) }
+    ensures reads { ReadsOn (block_seen scope.new) (block_read (definitions scope.old)) numbering.old numbering.new tokens.entry result }
     ensures stays { Stays block_seen scope.new result }
-    ensures uses { IfOk result (λ x. InstsUse scope.old.tables (insts_in scope.new x.0.insts) scope.new.tables) }
+    ensures uses { IfOk result (λ x. BlockUses scope.old (insts_in scope.new x.0.insts) scope.new) }
 {
     let (name, rest) = block_name(alloc, tokens, scope, numbering)?;
     let (mut insts, rest) = operations(alloc, rest, scope, numbering)?;
@@ -107,9 +100,9 @@ pub fn block<'t>(
     numbering: &mut Numbering,
 ) -> Result<(Block, Cursor<'t>), SyntaxFault>
     ensures grows { Widens scope.old scope.new }
-    ensures reads { Gives (λ x. ((block_seen scope.new x.0, numbering.new.next), left x.1)) result (completed (numbered_block numbering.old.next) (read (block (definitions scope.old)) (left tokens.entry))) }
+    ensures reads { ReadsOn (block_seen scope.new) (whole_block_read scope.old) numbering.old numbering.new tokens.entry result }
     ensures stays { Stays block_seen scope.new result }
-    ensures uses { IfOk result (λ x. InstsUse scope.old.tables (insts_in scope.new x.0.insts) scope.new.tables) }
+    ensures uses { IfOk result (λ x. BlockUses scope.old (insts_in scope.new x.0.insts) scope.new) }
 {
     parts(alloc, tokens, scope, numbering)
 }

@@ -1,23 +1,18 @@
 // Functions, without the words before them.
 
-ghost use Rattle.std.specs.Prelude.{◌≡◌, [], ℕ, List, map, IfOk};
+ghost use Rattle.std.specs.Prelude.{◌≡◌, IfOk};
 ghost use Rattle.text_forms.specs.View.{Extends};
-ghost use Rattle.text_forms.specs.declared.TokenKind.TheVariants.{LeftParen, RightParen, LeftBrace, RightBrace};
-ghost use Rattle.text_forms.specs.Reading.{read, opens};
-ghost use Rattle.text_forms.specs.Walk.{walk, completed};
-ghost use Rattle.text_forms.specs.Gives.{Gives, left};
+ghost use Rattle.text_forms.specs.Reading.{opens};
+ghost use Rattle.text_forms.specs.Gives.{left};
 ghost use Rattle.ir_types.specs.Names.{IsTable};
 ghost use Rattle.ir_types.specs.Offsets.{Definitions};
 ghost use Rattle.ir_types.specs.Denotes.{Tables as TablesIn, function_in};
-ghost use Rattle.ir_types.specs.Used.{insts_of};
-ghost use Rattle.ir_types.specs.Grammar.{parameter, dotted_parameters, list, some, block, declared_function, defined_function};
-ghost use Rattle.ir_types.specs.Numbered.{numbered_param, numbered_block, numbered_function};
-ghost use Rattle.ir_reader_types.specs.Tables.{TableLists, tables_in, definitions_of, Grows};
-ghost use Rattle.ir_reader_types.specs.Uses.{InstsUse};
+ghost use Rattle.ir_types.specs.Grammar.{block};
+ghost use Rattle.ir_reader_types.specs.Tables.{definitions_of, Grows};
 ghost use Rattle.ir_reader_values.specs.Seen.{definitions, Widens, Stays};
-ghost use Rattle.ir_reader_values.specs.Between.{between_read};
 ghost use Rattle.ir_reader_functions.specs.View.{StaysNamed};
-ghost use Rattle.ir_reader_functions.specs.Functions.{params_in, blocks_in, insts_among, function_seen, dotted_in, numbered_dotted, declared_read, defined_read};
+ghost use Rattle.ir_reader_functions.specs.Functions.{all_params, all_blocks, function_seen, function_there, dotted_in, declared_read, defined_read, declared_whole, defined_whole, BlocksUse, FunctionUses, FunctionStays};
+ghost use Rattle.ir_reader_functions.specs.Counted.{ReadsOn, GivesSeen, blocks_read, enclosed_params_read, enclosed_blocks_read, enclosed_dotted_read};
 
 use crate::block::block;
 use crate::line::begins_line;
@@ -49,9 +44,9 @@ fn blocks<'t>(
     numbering: &mut Numbering,
 ) -> Result<(Vec<Block>, Cursor<'t>), SyntaxFault>
     ensures grows { Widens scope.old scope.new }
-    ensures reads { Gives (λ x. ((blocks_in scope.new x.0.items, numbering.new.next), left x.1)) result (completed (walk numbered_block numbering.old.next) (read (some (block (definitions scope.old))) (left tokens.entry))) }
-    ensures stays { Stays (λ s x. blocks_in s x.items) scope.new result }
-    ensures uses { IfOk result (λ x. InstsUse scope.old.tables (insts_among (blocks_in scope.new x.0.items)) scope.new.tables) }
+    ensures reads { ReadsOn (all_blocks scope.new) (blocks_read scope.old) numbering.old numbering.new tokens.entry result }
+    ensures stays { Stays all_blocks scope.new result }
+    ensures uses { IfOk result (λ x. BlocksUse scope.old (all_blocks scope.new x.0) scope.new) }
 {
     let (first, mut rest) = block(alloc, tokens, scope, numbering)?;
     let mut body = Vec::new(alloc);
@@ -72,8 +67,8 @@ fn enclosed_params<'t>(
     numbering: &mut Numbering,
 ) -> Result<(Vec<Param>, Cursor<'t>), SyntaxFault>
     ensures grows { Extends names.old names.new }
-    ensures reads { Gives (λ x. ((params_in names.new x.0.items, numbering.new.next), left x.1)) result (between_read LeftParen RightParen (walk numbered_param numbering.old.next) (read (list parameter)) (left tokens.entry)) }
-    ensures stays { StaysNamed (λ ns x. params_in ns x.items) names.new result }
+    ensures reads { ReadsOn (all_params names.new) enclosed_params_read numbering.old numbering.new tokens.entry result }
+    ensures stays { StaysNamed all_params names.new result }
 {
     let rest = tokens.mark(TokenKind::LeftParen)?;
     let (params, rest) = params(alloc, rest, names, numbering)?;
@@ -89,9 +84,9 @@ fn enclosed_blocks<'t>(
     numbering: &mut Numbering,
 ) -> Result<(Vec<Block>, Cursor<'t>), SyntaxFault>
     ensures grows { Widens scope.old scope.new }
-    ensures reads { Gives (λ x. ((blocks_in scope.new x.0.items, numbering.new.next), left x.1)) result (between_read LeftBrace RightBrace (walk numbered_block numbering.old.next) (read (some (block (definitions scope.old)))) (left tokens.entry)) }
-    ensures stays { Stays (λ s x. blocks_in s x.items) scope.new result }
-    ensures uses { IfOk result (λ x. InstsUse scope.old.tables (insts_among (blocks_in scope.new x.0.items)) scope.new.tables) }
+    ensures reads { ReadsOn (all_blocks scope.new) (enclosed_blocks_read scope.old) numbering.old numbering.new tokens.entry result }
+    ensures stays { Stays all_blocks scope.new result }
+    ensures uses { IfOk result (λ x. BlocksUse scope.old (all_blocks scope.new x.0) scope.new) }
 {
     let rest = tokens.mark(TokenKind::LeftBrace)?;
     let (blocks, rest) = blocks(alloc, rest, scope, numbering)?;
@@ -107,7 +102,7 @@ fn enclosed_dotted<'t>(
     numbering: &mut Numbering,
 ) -> Result<((Vec<Param>, bool), Cursor<'t>), SyntaxFault>
     ensures grows { Extends names.old names.new }
-    ensures reads { Gives (λ x. ((dotted_in names.new x.0, numbering.new.next), left x.1)) result (between_read LeftParen RightParen (numbered_dotted numbering.old.next) (read dotted_parameters) (left tokens.entry)) }
+    ensures reads { ReadsOn (dotted_in names.new) enclosed_dotted_read numbering.old numbering.new tokens.entry result }
     ensures stays { StaysNamed dotted_in names.new result }
 {
     let rest = tokens.mark(TokenKind::LeftParen)?;
@@ -124,8 +119,8 @@ fn scoped_params<'t>(
     numbering: &mut Numbering,
 ) -> Result<(Vec<Param>, Cursor<'t>), SyntaxFault>
     ensures grows { Widens scope.old scope.new }
-    ensures reads { Gives (λ x. ((params_in scope.new.names x.0.items, numbering.new.next), left x.1)) result (between_read LeftParen RightParen (walk numbered_param numbering.old.next) (read (list parameter)) (left tokens.entry)) }
-    ensures stays { Stays (λ s x. params_in s.names x.items) scope.new result }
+    ensures reads { ReadsOn (all_params scope.new.names) enclosed_params_read numbering.old numbering.new tokens.entry result }
+    ensures stays { Stays (λ s x. all_params s.names x) scope.new result }
     ensures tables { scope.new.tables ≡ scope.old.tables }
 {
     enclosed_params(alloc, tokens, &mut scope.names, numbering)
@@ -136,7 +131,7 @@ fn declared_parts<'t>(
     alloc: Global,
     tokens: Cursor<'t>,
 ) -> Result<(Function, Cursor<'t>), SyntaxFault>
-    ensures reads { (t : TablesIn) → Gives (λ x. (function_in t x.0, left x.1)) result (declared_read (left tokens.entry)) }
+    ensures reads { (t : TablesIn) → GivesSeen (function_in t) result (declared_read (left tokens.entry)) }
     ensures table { IfOk result (λ x. IsTable x.0.names) }
 {
     let (before, rest) = kept_before(alloc, tokens)?;
@@ -169,9 +164,9 @@ fn defined_parts<'t>(
     scope: &mut Scope,
 ) -> Result<(Function, Cursor<'t>), SyntaxFault>
     ensures grows { Widens scope.old scope.new }
-    ensures reads { Gives (λ x. (function_seen scope.new x.0, left x.1)) result (defined_read (definitions scope.old) (left tokens.entry)) }
+    ensures reads { GivesSeen (function_seen scope.new) result (defined_read (definitions scope.old) (left tokens.entry)) }
     ensures stays { Stays function_seen scope.new result }
-    ensures uses { IfOk result (λ x. InstsUse scope.old.tables (insts_of (function_seen scope.new x.0)) scope.new.tables) }
+    ensures uses { IfOk result (λ x. FunctionUses scope.old.tables (function_seen scope.new x.0) scope.new.tables) }
 {
     let (before, rest) = kept(alloc, tokens)?;
     let (ret, rest) = return_type(rest)?;
@@ -204,7 +199,7 @@ pub fn declared<'t>(
     alloc: Global,
     tokens: Cursor<'t>,
 ) -> Result<(Function, Cursor<'t>), SyntaxFault>
-    ensures reads { (t : TablesIn) → Gives (λ x. (function_in t x.0, left x.1)) result (completed numbered_function (read declared_function (left tokens.entry))) }
+    ensures reads { (t : TablesIn) → GivesSeen (function_in t) result (declared_whole (left tokens.entry)) }
     ensures table { IfOk result (λ x. IsTable x.0.names) }
 {
     declared_parts(alloc, tokens)
@@ -234,10 +229,10 @@ fn defined_over<'t>(
     tables: Tables,
 ) -> (Tables, Result<(Function, Cursor<'t>), SyntaxFault>)
     ensures grows { Grows tables result.0 }
-    ensures reads { Gives (λ x. (function_in (tables_in result.0) x.0, left x.1)) result.1 (defined_read (definitions_of tables) (left tokens.entry)) }
-    ensures stays { IfOk result.1 (λ x. (later : TableLists) → Grows result.0 later → function_in (tables_in later) x.0 ≡ function_in (tables_in result.0) x.0) }
+    ensures reads { GivesSeen (function_there result.0) result.1 (defined_read (definitions_of tables) (left tokens.entry)) }
+    ensures stays { IfOk result.1 (λ x. FunctionStays result.0 x.0) }
     ensures table { IfOk result.1 (λ x. IsTable x.0.names) }
-    ensures uses { IfOk result.1 (λ x. InstsUse tables (insts_of (function_in (tables_in result.0) x.0)) result.0) }
+    ensures uses { IfOk result.1 (λ x. FunctionUses tables (function_there result.0 x.0) result.0) }
 {
     let names = Names::new(alloc);
     let mut scope = Scope { names, tables };
@@ -261,10 +256,10 @@ pub fn defined<'t>(
     tables: &mut Tables,
 ) -> Result<(Function, Cursor<'t>), SyntaxFault>
     ensures grows { Grows tables.old tables.new }
-    ensures reads { Gives (λ x. (function_in (tables_in tables.new) x.0, left x.1)) result (completed numbered_function (read (defined_function (definitions_of tables.old)) (left tokens.entry))) }
-    ensures stays { IfOk result (λ x. (later : TableLists) → Grows tables.new later → function_in (tables_in later) x.0 ≡ function_in (tables_in tables.new) x.0) }
+    ensures reads { GivesSeen (function_there tables.new) result (defined_whole tables.old (left tokens.entry)) }
+    ensures stays { IfOk result (λ x. FunctionStays tables.new x.0) }
     ensures table { IfOk result (λ x. IsTable x.0.names) }
-    ensures uses { IfOk result (λ x. InstsUse tables.old (insts_of (function_in (tables_in tables.new) x.0)) tables.new) }
+    ensures uses { IfOk result (λ x. FunctionUses tables.old (function_there tables.new x.0) tables.new) }
 {
     let none = no_tables(alloc)?;
     let given = mem::replace(tables, none);

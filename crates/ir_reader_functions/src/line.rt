@@ -2,16 +2,15 @@
 
 ghost use Rattle.std.specs.Prelude.{◌≡◌, ◌∷◌, ℕ, List, Some, None, false, MatchOption, IfOk};
 ghost use Rattle.text_forms.specs.declared.TokenKind.TheVariants.{Local, Equal};
-ghost use Rattle.text_forms.specs.Reading.{read, opens};
-ghost use Rattle.text_forms.specs.Walk.{completed};
+ghost use Rattle.text_forms.specs.Reading.{opens};
 ghost use Rattle.text_forms.specs.Gives.{Gives, left};
 ghost use Rattle.ir_types.specs.Offsets.{Definitions};
 ghost use Rattle.ir_types.specs.Written.{name_behind as written_name_behind};
 ghost use Rattle.ir_types.specs.Grammar.{line as line_form};
-ghost use Rattle.ir_types.specs.Numbered.{numbered_inst};
-ghost use Rattle.ir_reader_values.specs.Seen.{inst_seen, definitions, Widens, Stays, InstUses};
+ghost use Rattle.ir_reader_values.specs.Seen.{inst_seen, Widens, Stays, InstUses};
 ghost use Rattle.ir_reader_ops.specs.Words.{form_at};
-ghost use Rattle.ir_reader_functions.specs.Lines.{tok, result_next, named_so, plainly};
+ghost use Rattle.ir_reader_functions.specs.Lines.{tok, result_next};
+ghost use Rattle.ir_reader_functions.specs.Counted.{ReadsOn, named_read, plain_read, line_read};
 
 use crate::numbering::{Numbering, result_id, scoped_id};
 use ir_reader_ops::{Place, Scope, begins_instruction, inst_at};
@@ -78,7 +77,7 @@ fn named<'t>(
     numbering: &mut Numbering,
 ) -> Result<(Inst, Cursor<'t>), SyntaxFault>
     ensures grows { Widens scope.old scope.new }
-    ensures reads { (v : List ℕ) → Gives (λ x. ((inst_seen scope.new x.0, numbering.new.next), left x.1)) result (completed (numbered_inst numbering.old.next) (named_so name.now v (read (form_at (definitions scope.old) place) (left tokens.entry)))) }
+    ensures reads { (v : List ℕ) → ReadsOn (inst_seen scope.new) (named_read scope.old place name.now v) numbering.old numbering.new tokens.entry result }
     ensures stays { Stays inst_seen scope.new result }
     ensures uses { IfOk result (λ x. InstUses scope.old (inst_seen scope.new x.0) scope.new) }
 {
@@ -97,7 +96,7 @@ fn plain<'t>(
     numbering: &mut Numbering,
 ) -> Result<(Inst, Cursor<'t>), SyntaxFault>
     ensures grows { Widens scope.old scope.new }
-    ensures reads { Gives (λ x. ((inst_seen scope.new x.0, numbering.new.next), left x.1)) result (completed (numbered_inst numbering.old.next) (plainly (read (form_at (definitions scope.old) place) (left tokens.entry)))) }
+    ensures reads { ReadsOn (inst_seen scope.new) (plain_read scope.old place) numbering.old numbering.new tokens.entry result }
     ensures stays { Stays inst_seen scope.new result }
     ensures uses { IfOk result (λ x. InstUses scope.old (inst_seen scope.new x.0) scope.new) }
 {
@@ -115,7 +114,7 @@ pub fn line<'t>(
     numbering: &mut Numbering,
 ) -> Result<(Inst, Cursor<'t>), SyntaxFault>
     ensures grows { Widens scope.old scope.new }
-    ensures reads { Gives (λ x. ((inst_seen scope.new x.0, numbering.new.next), left x.1)) result (completed (numbered_inst numbering.old.next) (read (line_form (form_at (definitions scope.old) place)) (left tokens.entry))) }
+    ensures reads { ReadsOn (inst_seen scope.new) (line_read scope.old place) numbering.old numbering.new tokens.entry result }
     ensures stays { Stays inst_seen scope.new result }
     ensures uses { IfOk result (λ x. InstUses scope.old (inst_seen scope.new x.0) scope.new) }
 {

@@ -1,18 +1,15 @@
 // Parameters.
 
-ghost use Rattle.std.specs.Prelude.{◌≡◌, [], ℕ, List, map, IfOk};
+ghost use Rattle.std.specs.Prelude.{◌≡◌};
 ghost use Rattle.text_forms.specs.View.{Extends};
 ghost use Rattle.text_forms.specs.declared.TokenKind.TheVariants.{Comma};
-ghost use Rattle.text_forms.specs.Form.{many, optional};
-ghost use Rattle.text_forms.specs.Reading.{read, opens};
-ghost use Rattle.text_forms.specs.Walk.{walk, completed};
-ghost use Rattle.text_forms.specs.Gives.{Gives, left};
-ghost use Rattle.ir_types.specs.declared.name.Name.{Name};
+ghost use Rattle.text_forms.specs.Reading.{opens};
+ghost use Rattle.text_forms.specs.Gives.{left};
 ghost use Rattle.ir_types.specs.Denotes.{name_in, param_in};
-ghost use Rattle.ir_types.specs.Grammar.{local_name, parameter, dotted_parameters, commas, marked, list};
-ghost use Rattle.ir_types.specs.Numbered.{named, numbered_param};
+ghost use Rattle.ir_types.specs.Grammar.{parameter, marked};
 ghost use Rattle.ir_reader_functions.specs.View.{StaysNamed};
-ghost use Rattle.ir_reader_functions.specs.Functions.{params_in, dotted_in, numbered_dotted, some_dotted_read};
+ghost use Rattle.ir_reader_functions.specs.Functions.{all_params, dotted_in, some_dotted_read};
+ghost use Rattle.ir_reader_functions.specs.Counted.{ReadsOn, param_name_read, param_read, next_param_read, some_params_read, params_read, dotted_params_read};
 
 use crate::numbering::{Numbering, named_id};
 use ir_reader_ops::{comma_dots, kept};
@@ -30,7 +27,7 @@ fn param_name<'t>(
     numbering: &mut Numbering,
 ) -> Result<(ValueId, Cursor<'t>), SyntaxFault>
     ensures grows { Extends names.old names.new }
-    ensures reads { Gives (λ x. ((name_in names.new x.0, numbering.new.next), left x.1)) result (completed (named numbering.old.next) (read (optional local_name) (left tokens.entry))) }
+    ensures reads { ReadsOn (name_in names.new) param_name_read numbering.old numbering.new tokens.entry result }
     ensures stays { StaysNamed name_in names.new result }
 {
     if tokens.is_next(TokenKind::Local) {
@@ -51,7 +48,7 @@ fn param<'t>(
     numbering: &mut Numbering,
 ) -> Result<(Param, Cursor<'t>), SyntaxFault>
     ensures grows { Extends names.old names.new }
-    ensures reads { Gives (λ x. ((param_in names.new x.0, numbering.new.next), left x.1)) result (completed (numbered_param numbering.old.next) (read parameter (left tokens.entry))) }
+    ensures reads { ReadsOn (param_in names.new) param_read numbering.old numbering.new tokens.entry result }
     ensures stays { StaysNamed param_in names.new result }
 {
     let (ty, rest) = value_type(tokens)?;
@@ -68,7 +65,7 @@ fn comma_param<'t>(
     numbering: &mut Numbering,
 ) -> Result<(Param, Cursor<'t>), SyntaxFault>
     ensures grows { Extends names.old names.new }
-    ensures reads { Gives (λ x. ((param_in names.new x.0, numbering.new.next), left x.1)) result (completed (numbered_param numbering.old.next) (read (marked Comma parameter) (left tokens.entry))) }
+    ensures reads { ReadsOn (param_in names.new) next_param_read numbering.old numbering.new tokens.entry result }
     ensures stays { StaysNamed param_in names.new result }
 {
     let rest = tokens.mark(TokenKind::Comma)?;
@@ -103,8 +100,8 @@ fn some_params<'t>(
     numbering: &mut Numbering,
 ) -> Result<(Vec<Param>, Cursor<'t>), SyntaxFault>
     ensures grows { Extends names.old names.new }
-    ensures reads { Gives (λ x. ((params_in names.new x.0.items, numbering.new.next), left x.1)) result (completed (walk numbered_param numbering.old.next) (read (commas parameter) (left tokens.entry))) }
-    ensures stays { StaysNamed (λ ns x. params_in ns x.items) names.new result }
+    ensures reads { ReadsOn (all_params names.new) some_params_read numbering.old numbering.new tokens.entry result }
+    ensures stays { StaysNamed all_params names.new result }
 {
     let (first, mut rest) = param(alloc, tokens, names, numbering)?;
     let mut params = Vec::new(alloc);
@@ -125,8 +122,8 @@ pub fn params<'t>(
     numbering: &mut Numbering,
 ) -> Result<(Vec<Param>, Cursor<'t>), SyntaxFault>
     ensures grows { Extends names.old names.new }
-    ensures reads { Gives (λ x. ((params_in names.new x.0.items, numbering.new.next), left x.1)) result (completed (walk numbered_param numbering.old.next) (read (list parameter) (left tokens.entry))) }
-    ensures stays { StaysNamed (λ ns x. params_in ns x.items) names.new result }
+    ensures reads { ReadsOn (all_params names.new) params_read numbering.old numbering.new tokens.entry result }
+    ensures stays { StaysNamed all_params names.new result }
 {
     if begins_param(tokens) {
         return some_params(alloc, tokens, names, numbering);
@@ -142,7 +139,7 @@ fn some_dotted<'t>(
     numbering: &mut Numbering,
 ) -> Result<((Vec<Param>, bool), Cursor<'t>), SyntaxFault>
     ensures grows { Extends names.old names.new }
-    ensures reads { Gives (λ x. ((dotted_in names.new x.0, numbering.new.next), left x.1)) result (some_dotted_read numbering.old.next (left tokens.entry)) }
+    ensures reads { ReadsOn (dotted_in names.new) some_dotted_read numbering.old numbering.new tokens.entry result }
     ensures stays { StaysNamed dotted_in names.new result }
 {
     let (params, rest) = some_params(alloc, tokens, names, numbering)?;
@@ -158,7 +155,7 @@ pub fn dotted_params<'t>(
     numbering: &mut Numbering,
 ) -> Result<((Vec<Param>, bool), Cursor<'t>), SyntaxFault>
     ensures grows { Extends names.old names.new }
-    ensures reads { Gives (λ x. ((dotted_in names.new x.0, numbering.new.next), left x.1)) result (completed (numbered_dotted numbering.old.next) (read dotted_parameters (left tokens.entry))) }
+    ensures reads { ReadsOn (dotted_in names.new) dotted_params_read numbering.old numbering.new tokens.entry result }
     ensures stays { StaysNamed dotted_in names.new result }
 {
     if tokens.is_next(TokenKind::Dots) {
